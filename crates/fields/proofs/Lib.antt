@@ -1,0 +1,4 @@
+-- Laws of the definitions of specs/, for this crate's proofs and its callers'.
+pub mod Laws
+pub mod Stores
+pub mod Texts

@@ -1,0 +1,81 @@
+use borrow.Author.Tests.{eq-eqb, ne-eqb}
+use mathlib.Core.Logic.{⊎-elim}
+use Rattle.fields.proofs.Texts.{any-start, any-found, any-on, any-end}
+use borrow.Author.Needs.{needs}
+use Prim.Native.Nat.{ℕ, _+_, _-_, _*_, _≤_}
+use mathlib.Core.Bool.{Bool, true, false}
+use mathlib.Core.Path.{_≡_, refl, sym, ap, _∙_}
+use native.Mathlib.Omega.{arith}
+use Rattle.fields.specs.Numbers.{num, nums}
+use Rattle.fields.specs.Reader.{pick}
+use Rattle.fields.specs.Text.{anyZero}
+use Rattle.fields.proofs.text.any_zero.Statement.{statement}
+use Rattle.fields.proofs.text.any_zero.Tie as tie
+use Rattle.fields.proofs.text.any_zero.Reads as reads
+use Rattle.fields.proofs.text.any_zero.Lts as lts
+use Rattle.fields.proofs.text.swapped.Reads as swapped-reads
+
+abbrev Inv-loop : tie.InvT-loop
+Inv-loop s at n found₀ i₀ found i = (i ≤ n) × (anyZero (nums 2 n s at) ≡ pick found true (anyZero (nums 2 (n - i) s (at + 2 * i))))
+
+abbrev μ-loop : tie.MeasureT-loop
+μ-loop s at n found₀ i₀ found i = n - i
+
+-- src/text.rt:45:5
+loop-holds : tie.Need-loop-holds Inv-loop μ-loop
+loop-holds c = (omega arith, any-start _ _ _)
+
+-- src/text.rt:46:28
+mul-swapped : tie.Need-mul-swapped Inv-loop μ-loop
+mul-swapped c = search needs
+
+-- src/text.rt:46:23
+add-swapped : tie.Need-add-swapped Inv-loop μ-loop
+add-swapped c = search needs
+
+-- src/text.rt:46:12
+swapped-requires : tie.Need-swapped-requires Inv-loop μ-loop
+swapped-requires c κs = search needs
+
+-- src/text.rt:49:9
+add-i : tie.Need-add-i Inv-loop μ-loop
+add-i c = search needs
+
+-- src/text.rt:45:5
+loop-less : tie.Need-loop-less Inv-loop μ-loop
+loop-less c = search needs
+
+-- src/text.rt:45:5
+loop-again : tie.Need-loop-again Inv-loop μ-loop
+loop-again c =
+    let l = c .before .before .before .loop in
+    let a = c .before .before .before .before .before .args in
+    let e = sym (c .before .swapped .ensures) in (
+      omega arith,
+      ⊎-elim
+          (λ w. rw (w .1) (any-found (a .s .now) (a .at) (a .n) _ (l .found) (l .i) (l .inv .1) (c .before .before .loop-test .taken) (e ∙ eq-eqb _ _ (w .0 .taken))))
+          (λ w. rw (w .1) (any-on (a .s .now) (a .at) (a .n) _ (l .found) (l .i) (l .inv .1) (c .before .before .loop-test .taken) (e ∙ ne-eqb _ _ (w .0 .left))))
+          (c .if1 .came),
+    )
+
+-- src/text.rt:39:1
+returns : tie.Need-returns Inv-loop μ-loop
+returns c =
+    let l = c .before .loop in
+    let a = c .before .before .before .args in
+    sym (any-end (a .s .now) (a .at) (a .n) _ (l .found) (l .i) (l .inv .1) (c .loop-test .left))
+
+pub any-zero-spec : {M : Type 1} → statement M
+any-zero-spec =
+    tie.close
+    (tie.spec
+    Inv-loop
+    μ-loop
+    loop-holds
+    mul-swapped
+    add-swapped
+    swapped-requires
+    add-i
+    loop-less
+    loop-again
+    returns)

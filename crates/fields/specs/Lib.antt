@@ -1,0 +1,6 @@
+pub mod Numbers
+pub mod Reader
+pub mod Text
+pub mod Store
+pub mod Algebra
+pub mod Answer

@@ -1,0 +1,75 @@
+// Numbers, runs of bytes and names stored in lent bytes: all of one, or nothing where there is no room.
+ghost use mathlib.Core.Path.{_≡_};
+ghost use Prim.Native.Nat.{_+_, _≤_};
+ghost use lib.ListN.{length};
+ghost use Rattle.fields.specs.Numbers.{be};
+ghost use Rattle.fields.specs.Text.{countedUnits};
+ghost use Rattle.fields.specs.Store.{stored};
+
+pub fn put_u16(out: &mut [u8], at: usize, v: u16)
+    ensures { λ _. ⌜ now (out .exit) ≡ stored (now (out .entry)) at (be 2 v) ⌝ }
+{
+    let n = out.len();
+    if n < 2 {
+        return;
+    }
+    if n - 2 < at {
+        return;
+    }
+    out[at] = (v / 256 % 256) as u8;
+    out[at + 1] = (v % 256) as u8;
+}
+
+pub fn put_u32(out: &mut [u8], at: usize, v: u32)
+    ensures { λ _. ⌜ now (out .exit) ≡ stored (now (out .entry)) at (be 4 v) ⌝ }
+{
+    let n = out.len();
+    if n < 4 {
+        return;
+    }
+    if n - 4 < at {
+        return;
+    }
+    out[at] = (v / 256 / 256 / 256 % 256) as u8;
+    out[at + 1] = (v / 256 / 256 % 256) as u8;
+    out[at + 2] = (v / 256 % 256) as u8;
+    out[at + 3] = (v % 256) as u8;
+}
+
+pub fn put_run(out: &mut [u8], at: usize, run: &[u8])
+    ensures { λ _. ⌜ now (out .exit) ≡ stored (now (out .entry)) at (now (run .entry)) ⌝ }
+{
+    let k = run.len();
+    let n = out.len();
+    if n < k {
+        return;
+    }
+    if n - k < at {
+        return;
+    }
+    let mut i: usize = 0;
+    while i < k {
+        out[at + i] = run[i];
+        i += 1;
+    }
+}
+
+// A name: its count, the bytes of its units, and the closing zero.
+pub fn put_name(out: &mut [u8], at: usize, count: u32, units: &[u8])
+    ensures { λ _. ⌜ now (out .exit) ≡ stored (now (out .entry)) at (countedUnits count (now (units .entry))) ⌝ }
+{
+    let k = units.len();
+    let n = out.len();
+    if n < 6 {
+        return;
+    }
+    if n - 6 < k {
+        return;
+    }
+    if n - 6 - k < at {
+        return;
+    }
+    put_u32(out, at, count);
+    put_run(out, at + 4, units);
+    put_u16(out, at + 4 + k, 0);
+}
