@@ -1,4 +1,9 @@
 -- Laws of the definitions of specs/, for this crate's proofs and its callers'.
 pub mod Laws
+pub mod Places
+pub mod Inverse
+pub mod Lawful
+pub mod Exact
+pub mod Tells
 pub mod Stores
 pub mod Texts

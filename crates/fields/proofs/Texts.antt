@@ -13,6 +13,7 @@ use Rattle.fields.specs.Numbers.{num, nums}
 use Rattle.fields.specs.Reader.{Res, ok, refuse, pick, then, rule, unless, field, body, judged, done, mapRes}
 use Rattle.fields.specs.Text.{isEmpty, anyZero, closed, front, Name, name, text, place}
 use Rattle.fields.proofs.Laws.{body-in, body-short}
+use Rattle.fields.proofs.Places.{length-nums}
 
 -- a unit is zero in either order of its bytes
 pub swapped-zero : (x y : ℕ) → eqb (x + 256 * y) 0 ≡ eqb (x * 256 + y) 0
@@ -112,11 +113,6 @@ unfolding front
 length-front [] = refl
 length-front (u ∷ []) = refl
 length-front (u ∷ v ∷ us) = let h = length-front (v ∷ us) in omega arith
-
-pub length-nums : (w n : ℕ) (s : List ℕ) (at : ℕ) → length (nums w n s at) ≡ n
-unfolding nums
-length-nums w zero s at = refl
-length-nums w (suc n) s at = ap suc (length-nums w n s (at + w))
 
 module _ (w : ℕ) (s : List ℕ) (at : ℕ) where
   pub name-short : refuse 2 at 0 0 ≡ field w s at → place (name w s at) ≡ refuse 2 at 0 0

@@ -1,0 +1,3 @@
+-- Laws of the definitions of specs/, and the theorems of RoundTrip.
+pub mod Raw
+pub mod Judging

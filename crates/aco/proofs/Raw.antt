@@ -1,0 +1,98 @@
+-- The colours of an accepted list 1 are those that stand at their places. Assumes nothing.
+use Prim.Native.Nat.{ℕ, zero, suc, _+_, _*_, _-_, _≤_, _<_}
+use mathlib.Core.Path.{_≡_, refl, sym, ap, ap₂, _∙_}
+use mathlib.Core.List.{List, [], _∷_}
+use mathlib.Core.Bool.{Bool, true, false}
+use lib.ListN.{length, getD}
+use native.Mathlib.Omega.{arith}
+use native.Mathlib.Nat.{add-zero}
+use Rattle.fields.specs.Numbers.{num, nums}
+use Rattle.fields.specs.Reader.{Res, ok, Reader, judged, unless, each, fine}
+use Rattle.fields.proofs.Places.{getD-nums}
+use Rattle.fields.proofs.Inverse.{then-inv, judged-inv, fields-inv, fields-fine, fields-inside, each-none, each-inv, each-moves, unless-fine, ok-value, ok-place}
+use Rattle.colour.specs.declared.Colour.{Colour}
+use Rattle.colour.specs.Spaces.{known, allowed}
+use Rattle.aco.specs.Reading.{space, sample, samples, colour, fieldOf, black}
+use Rattle.aco.specs.Raw.{rawColour, rawColours}
+
+-- ---- one colour
+
+-- an accepted colour: its ten bytes are inside the file, its space is known and its samples are allowed
+pub record Good (s : List ℕ) (at : ℕ) : Type 0 where
+  pub inside : at + 10 ≤ length s
+  pub is-known : known (num 2 s at) ≡ true
+  pub are-allowed : (k : ℕ) → k < 4 → allowed (num 2 s at) k (num 2 s (at + 2 + 2 * k)) ≡ true
+
+pub colour-inv : (s : List ℕ) (at : ℕ) {c : Colour} {q : ℕ} → colour s at ≡ ok c q → (rawColour s at ≡ c) × (at + 10 ≡ q) × Good s at
+unfolding colour samples
+colour-inv s at {c} {q} e =
+    let t = then-inv (judged 2 space s at) _ e in
+    let x = judged-inv 2 s at space (t .2) in
+    let u = then-inv (each 4 0 (λ k. judged 2 (sample (t .0) k)) s (t .1)) _ (t .3) in
+    let y = fields-inv 2 (sample (t .0)) s 4 0 (t .1) (u .2) in
+    let le : u .1 ≤ length s = fields-inside 2 (sample (t .0)) s 4 0 (t .1) (omega arith) (u .2) in
+    let a : num 2 s at ≡ t .0 = x .1 in
+    let b : nums 2 4 s (at + 2) ≡ u .0 = ap (λ (p : ℕ). nums 2 4 s p) (x .2) ∙ y .0 in (
+      ap₂ (λ (v : ℕ) (l : List ℕ). record { space = v; samples = l }) a b ∙ ok-value (u .3),
+      omega (arith, ok-place (u .3)),
+      record {
+        inside = omega arith;
+        is-known = ap known a ∙ unless-fine (known (t .0)) 4 (x .3);
+        are-allowed = λ k h.
+            let f = fields-fine 2 (sample (t .0)) s 4 0 (t .1) (u .2) k h in
+            let p : at + 2 + 2 * k ≡ t .1 + 2 * k = omega arith in
+            let z : k ≡ 0 + k = omega arith in
+            ap (λ (v : ℕ). allowed v k (num 2 s (at + 2 + 2 * k))) a ∙ ap₂ (λ (i n : ℕ). allowed (t .0) i (num 2 s n)) z p ∙ unless-fine (allowed (t .0) (0 + k) (num 2 s (t .1 + 2 * k))) 5 f;
+      },
+    )
+
+-- a colour takes ten bytes
+pub colour-moves : (s : List ℕ) (at : ℕ) {c : Colour} {q : ℕ} → colour s at ≡ ok c q → (q ≡ at + 10) × (q ≤ length s)
+colour-moves s at e = let i = colour-inv s at e in (omega arith, omega (arith, i .2 .inside))
+
+-- ---- a list of them
+
+-- the colours that were read are those that stand there
+pub colours-raw : (s : List ℕ) (n i at : ℕ) {cs : List Colour} {q : ℕ} → each n i (λ k. colour) s at ≡ ok cs q → (cs ≡ rawColours n s at) × (q ≡ at + 10 * n)
+unfolding rawColours
+colours-raw s zero i at e = let z = each-none (λ k. colour) s i at e in (sym (z .0), omega (arith, z .1))
+colours-raw s (suc n) i at e =
+    let t = each-inv (λ k. colour) s n i at e in
+    let x = colour-inv s at (t .3) in
+    let r = colours-raw s n (i + 1) (t .1) (t .4) in
+    (sym (t .5) ∙ ap₂ (λ (c : Colour) (l : List Colour). c ∷ l) (sym (x .0)) (r .0 ∙ ap (λ (p : ℕ). rawColours n s p) (sym (x .1))), omega arith)
+
+pub colours-inside : (s : List ℕ) (n i at : ℕ) → at ≤ length s → {cs : List Colour} {q : ℕ} → each n i (λ k. colour) s at ≡ ok cs q → q ≤ length s
+colours-inside s n i at h e = each-moves (λ k. colour) s 10 (λ k p l c q x. colour-moves s p x) n i at h e .1
+
+-- colour k of an accepted list
+pub colours-good : (s : List ℕ) (n i at : ℕ) {cs : List Colour} {q : ℕ} → each n i (λ k. colour) s at ≡ ok cs q → (k : ℕ) → k < n → Good s (at + 10 * k)
+colours-good s zero i at e k h = absurd (omega arith)
+colours-good s (suc n) i at e zero h = rw (add-zero at) (colour-inv s at (each-inv (λ k. colour) s n i at e .3) .2)
+colours-good s (suc n) i at e (suc k) h =
+    let t = each-inv (λ k. colour) s n i at e in
+    let p : at + 10 * suc k ≡ t .1 + 10 * k = omega (arith, colour-moves s at (t .3)) in
+    rw p (colours-good s n (i + 1) (t .1) (t .4) k (omega arith))
+
+pub length-raw : (n : ℕ) (s : List ℕ) (at : ℕ) → length (rawColours n s at) ≡ n
+unfolding rawColours
+length-raw zero s at = refl
+length-raw (suc n) s at = ap suc (length-raw n s (at + 10))
+
+-- colour i of the list stands ten bytes behind the one before
+pub getD-raw : (n : ℕ) (s : List ℕ) (at i : ℕ) → i < n → getD (rawColours n s at) i black ≡ rawColour s (at + 10 * i)
+unfolding rawColours
+getD-raw zero s at i h = absurd (omega arith)
+getD-raw (suc n) s at zero h = ap (λ (p : ℕ). rawColour s p) (sym (add-zero at))
+getD-raw (suc n) s at (suc i) h =
+    let e : at + 10 + 10 * i ≡ at + 10 * suc i = omega arith in
+    getD-raw n s (at + 10) i (omega arith) ∙ ap (λ (p : ℕ). rawColour s p) e
+
+-- field f of the colour at a place
+pub field-raw : (s : List ℕ) (at f : ℕ) → f < 5 → fieldOf (rawColour s at) f ≡ num 2 s (at + 2 * f)
+unfolding nums
+field-raw s at f h = getD-nums 2 s 5 at f h
+
+-- field f of colour i
+pub fields-raw : (n : ℕ) (s : List ℕ) (at i f : ℕ) → i < n → f < 5 → fieldOf (getD (rawColours n s at) i black) f ≡ num 2 s (at + 10 * i + 2 * f)
+fields-raw n s at i f h g = ap (λ (c : Colour). fieldOf c f) (getD-raw n s at i h) ∙ field-raw s (at + 10 * i) f g

@@ -1,0 +1,238 @@
+// ACO swatches: judging a file by the layout.
+ghost use mathlib.Core.Path.{_≡_};
+ghost use Prim.Native.Nat.{_+_, _*_, _≤_};
+ghost use lib.ListN.{length, getD};
+ghost use Rattle.fields.specs.Reader.{done, each};
+ghost use Rattle.fields.specs.Answer.{toldStep};
+ghost use Rattle.aco.specs.Reading.{samples, colour, entry, black, second, aco};
+ghost use Rattle.aco.specs.Raw.{rawColours, headed, afterHeading};
+ghost use Rattle.aco.specs.Answer.{told, toldHeading, toldWalk, verdict};
+use fields::NameAt;
+use fields::Number16;
+use fields::Step;
+
+// The longest file that is read.
+pub const LIMIT: usize = 16777216;
+// The most colours that a list has.
+pub const MOST: u16 = 4096;
+
+// What a file is found to be. Differ is refusal 7, with the first differing record and in it the
+// first differing field.
+pub enum Answer {
+    Accepted {
+        colours: usize,
+        lists: usize,
+    },
+    Refused {
+        number: u32,
+        place: usize,
+    },
+    Differ {
+        place: usize,
+        record: usize,
+        field: usize,
+    },
+}
+
+// A list's count and the next place, or a refusal.
+enum Heading {
+    Is(u16, usize),
+    Refused(u32, usize),
+}
+
+// How far list 2 goes: the next place, a refusal, or where it differs from list 1.
+enum Walk {
+    Next(usize),
+    Refused(u32, usize),
+    Differ(usize, usize, usize),
+}
+
+// The four samples from `at` of a colour of a space.
+fn samples_at(file: &[u8], at: usize, space: u16) -> Step
+    ensures { λ r. ⌜ toldStep r ≡ done (samples space (now (file .entry)) at) ⌝ }
+{
+    let mut k: u16 = 0;
+    let mut p = at;
+    while k < 4 {
+        let Number16::Is(v, next) = fields::u16_at(file, p) else {
+            return Step::Refused(2, p);
+        };
+        if !colour::is_allowed(space, k, v) {
+            return Step::Refused(5, p);
+        }
+        p = next;
+        k += 1;
+    }
+    Step::Next(p)
+}
+
+// The colour at `at`.
+fn colour_at(file: &[u8], at: usize) -> Step
+    ensures { λ r. ⌜ toldStep r ≡ done (colour (now (file .entry)) at) ⌝ }
+{
+    let Number16::Is(space, next) = fields::u16_at(file, at) else {
+        return Step::Refused(2, at);
+    };
+    if !colour::is_known(space) {
+        return Step::Refused(4, at);
+    }
+    samples_at(file, next, space)
+}
+
+// The n colours of list 1 from `at`.
+fn colours_at(file: &[u8], at: usize, n: u16) -> Step
+    ensures { λ r. ⌜ toldStep r ≡ done (each n 0 (λ i. colour) (now (file .entry)) at) ⌝ }
+{
+    let mut i: u16 = 0;
+    let mut p = at;
+    while i < n {
+        match colour_at(file, p) {
+            Step::Next(next) => {
+                p = next;
+            }
+            Step::Refused(x, q) => {
+                return Step::Refused(x, q);
+            }
+        }
+        i += 1;
+    }
+    Step::Next(p)
+}
+
+// The n records of list 2 from `at`, compared with list 1, which stands at 4.
+fn entries_at(file: &[u8], at: usize, n: u16) -> Walk
+    requires { ⌜ 4 + 10 * n ≤ length (now file) ⌝ }
+    ensures { λ r. ⌜ toldWalk r ≡ done (each n 0 (λ i. entry i (getD (rawColours n (now (file .entry)) 4) i black)) (now (file .entry)) at) ⌝ }
+{
+    let count = n as usize;
+    let mut i: usize = 0;
+    let mut f: usize = 0;
+    let mut p = at;
+    'records: while i < count {
+        f = 0;
+        while f < 5 {
+            let Number16::Is(v, next) = fields::u16_at(file, p) else {
+                return Walk::Refused(2, p);
+            };
+            if v != fields::u16_or_zero(file, 4 + 10 * i + 2 * f) {
+                break 'records;
+            }
+            p = next;
+            f += 1;
+        }
+        match fields::name32_at(file, p) {
+            NameAt::Is(_, _, next) => {
+                p = next;
+            }
+            NameAt::Refused(x, q) => {
+                return Walk::Refused(x, q);
+            }
+        }
+        i += 1;
+    }
+    if i < count {
+        return Walk::Differ(p, i, f);
+    }
+    Walk::Next(p)
+}
+
+// A list's version, which must be this one, and its count, which is not judged here.
+fn heading_at(file: &[u8], at: usize, version: u16) -> Heading
+    ensures { λ r. ⌜ toldHeading r ≡ headed version (now (file .entry)) at ⌝ }
+{
+    match fields::u16_is(file, at, version, 3) {
+        Step::Refused(x, q) => Heading::Refused(x, q),
+        Step::Next(b) => match fields::u16_at(file, b) {
+            Number16::Is(n, next) => Heading::Is(n, next),
+            Number16::Short => Heading::Refused(2, b),
+        },
+    }
+}
+
+// List 2 from `at`, where list 1 has n colours, and the file's end.
+fn second_at(file: &[u8], at: usize, n: u16) -> Walk
+    requires { ⌜ (4 + 10 * n ≤ at) × (at ≤ length (now file)) ⌝ }
+    ensures { λ r. ⌜ toldWalk r ≡ done (second (rawColours n (now (file .entry)) 4) (now (file .entry)) at) ⌝ }
+{
+    match heading_at(file, at, 2) {
+        Heading::Refused(x, q) => Walk::Refused(x, q),
+        Heading::Is(m, next) => {
+            if m != n {
+                return Walk::Differ(at + 2, 0, 5);
+            }
+            match entries_at(file, next, n) {
+                Walk::Next(end) => {
+                    if end == file.len() {
+                        return Walk::Next(end);
+                    }
+                    Walk::Refused(6, end)
+                }
+                Walk::Refused(x, q) => Walk::Refused(x, q),
+                Walk::Differ(q, i, f) => Walk::Differ(q, i, f),
+            }
+        }
+    }
+}
+
+// The lists after the first heading: n colours from 4, and what follows them.
+fn lists_at(file: &[u8], n: u16) -> Answer
+    requires { ⌜ 4 ≤ length (now file) ⌝ }
+    ensures { λ r. ⌜ told r ≡ verdict (afterHeading n (now (file .entry)) 4) ⌝ }
+{
+    match colours_at(file, 4, n) {
+        Step::Refused(x, q) => Answer::Refused {
+            number: x,
+            place: q,
+        },
+        Step::Next(end) => {
+            if end == file.len() {
+                return Answer::Accepted {
+                    colours: n as usize,
+                    lists: 1,
+                };
+            }
+            match second_at(file, end, n) {
+                Walk::Next(_) => Answer::Accepted {
+                    colours: n as usize,
+                    lists: 2,
+                },
+                Walk::Refused(x, q) => Answer::Refused {
+                    number: x,
+                    place: q,
+                },
+                Walk::Differ(q, i, f) => Answer::Differ {
+                    place: q,
+                    record: i,
+                    field: f,
+                },
+            }
+        }
+    }
+}
+
+// The whole file.
+pub fn judge(file: &[u8]) -> Answer
+    ensures { λ r. ⌜ told r ≡ verdict (aco (now (file .entry))) ⌝ }
+{
+    if LIMIT < file.len() {
+        return Answer::Refused {
+            number: 1,
+            place: 0,
+        };
+    }
+    match heading_at(file, 0, 1) {
+        Heading::Refused(x, q) => Answer::Refused {
+            number: x,
+            place: q,
+        },
+        Heading::Is(n, _) => {
+            if MOST < n {
+                return Answer::Refused {
+                    number: 5,
+                    place: 2,
+                };
+            }
+            lists_at(file, n)
+        }
+    }
+}
