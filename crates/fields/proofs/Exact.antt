@@ -40,6 +40,19 @@ pub all-left : {A : Type 0} (P : A → Type 0) (i : ℕ) (x y : List A) → All 
 all-left P i [] y h = tt
 all-left P i (a ∷ x) y h = (h .0, all-left P (i + 1) x y (h .1))
 
+-- value k of the list, and the list from its values
+pub all-at : {A : Type 0} (P : ℕ → A → Type 0) (d : A) (i : ℕ) (l : List A) → All P i l → (k : ℕ) → k < length l → P (i + k) (getD l k d)
+all-at P d i [] h k g = absurd (omega arith)
+all-at P d i (a ∷ l) h zero g = subst (λ (n : ℕ). P n a) (sym (add-zero i)) (h .0)
+all-at P d i (a ∷ l) h (suc k) g = let e : i + 1 + k ≡ i + suc k = omega arith in subst (λ (n : ℕ). P n (getD l k d)) e (all-at P d (i + 1) l (h .1) k (omega arith))
+
+pub all-by : {A : Type 0} (P : ℕ → A → Type 0) (d : A) (i : ℕ) (l : List A) → ((k : ℕ) → k < length l → P (i + k) (getD l k d)) → All P i l
+all-by P d i [] h = tt
+all-by P d i (a ∷ l) h = (
+  subst (λ (n : ℕ). P n a) (add-zero i) (h 0 (omega arith)),
+  all-by P d (i + 1) l (λ k g. let e : i + suc k ≡ i + 1 + k = omega arith in subst (λ (n : ℕ). P n (getD l k d)) e (h (suc k) (omega arith))),
+)
+
 pub length-map : {A B : Type 0} (f : A → B) (l : List A) → length (map f l) ≡ length l
 length-map f [] = refl
 length-map f (a ∷ l) = ap suc (length-map f l)
@@ -94,6 +107,17 @@ same-exact {A} {B} {s} {p} {view} {Ok} {ser} x Ok′ ser′ to from same = recor
       let f = to (view a) (r .0) in
       let g = same (view a) f in
       (f, subst (λ (l : List ℕ). At s at l) g (r .1), ap (λ (l : List ℕ). at + length l) (sym g) ∙ r .2);
+}
+
+-- a reader that allows one value alone
+pub one-exact : {A B : Type 0} {s : List ℕ} {p : Reader A} {view : A → B} {Ok : B → Type 0} {ser : B → List ℕ} → Exact s p view Ok ser
+    → (b : B) → Ok b → ((x : B) → Ok x → x ≡ b) → Exact s p (λ a. tt {0}) (λ u. Unit {0}) (λ u. ser b)
+one-exact {A} {B} {s} {p} {view} {Ok} {ser} x b fit only = record {
+  reads = λ at u f h. let r = x .reads at b fit h in (r .0, r .1, refl);
+  writes = λ at le a q e.
+      let r = x .writes at le a q e in
+      let z : view a ≡ b = only (view a) (r .0) in
+      (tt, subst (λ (y : B). At s at (ser y)) z (r .1), subst (λ (y : B). at + length (ser y) ≡ q) z (r .2));
 }
 
 -- ---- sequence

@@ -102,6 +102,12 @@ name-inv w s at {nm} {q} e =
     let b = body-inv 2 s (t .1) (t .0) (u .2) in
     (t .0, name-parts w s at (t .0) nm q (t .1) (u .1) (u .0) f b (rule-inv (unless (closed (u .0)) 8) at _ (u .3)))
 
+-- all but the last of a row of numbers
+pub front-nums : (w n : ℕ) (s : List ℕ) (at : ℕ) → front (nums w (suc n) s at) ≡ nums w n s at
+unfolding nums front
+front-nums w zero s at = refl
+front-nums w (suc n) s at = ap (λ (l : List ℕ). num w s at ∷ l) (front-nums w n s (at + w))
+
 -- ---- the file's end
 
 pub ended-inv : {A : Type 0} (a : A) (s : List ℕ) (at : ℕ) {b : A} {q : ℕ} → ended a s at ≡ ok b q → (at ≡ length s) × (a ≡ b) × (at ≡ q)

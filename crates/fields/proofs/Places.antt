@@ -1,7 +1,7 @@
 -- Bytes that stand at a place of a file, and the numbers that they spell. Assumes nothing.
 use Prim.Native.Nat.{ℕ, zero, suc, _+_, _*_, _-_, _/_, _%_, _^_, _≤_, _<_}
 use mathlib.Core.Path.{_≡_, refl, sym, ap, ap₂, _∙_, subst}
-use mathlib.Core.List.{List, [], _∷_, _++_, append-assoc, append-nil}
+use mathlib.Core.List.{List, [], _∷_, _++_, map, append-assoc, append-nil}
 use lib.ListN.{length, getD, take, drop, length-append, length-take, length-drop}
 use lib.Seq.{drop-cons, drop-length, take-length, take-append-seam}
 use lib.Arith.{digits-div, digits-mod, digits-lt}
@@ -27,6 +27,11 @@ pub joined-append : {A : Type 0} (ser : A → List ℕ) (xs ys : List A) → joi
 unfolding joined
 joined-append ser [] ys = refl
 joined-append ser (x ∷ xs) ys = ap (λ (r : List ℕ). ser x ++ r) (joined-append ser xs ys) ∙ sym (append-assoc (ser x) (joined ser xs) (joined ser ys))
+
+pub joined-map : {A B : Type 0} (ser : B → List ℕ) (f : A → B) (xs : List A) → joined ser (map f xs) ≡ joined (λ a. ser (f a)) xs
+unfolding joined
+joined-map ser f [] = refl
+joined-map ser f (x ∷ xs) = ap (λ (r : List ℕ). ser (f x) ++ r) (joined-map ser f xs)
 
 -- some values of one length each
 pub length-joined : {A : Type 0} (ser : A → List ℕ) (w : ℕ) → ((a : A) → length (ser a) ≡ w) → (xs : List A) → length (joined ser xs) ≡ length xs * w
@@ -149,6 +154,30 @@ be-1 v h = let e : v % 256 ≡ v = omega arith in ap (λ (x : ℕ). x ∷ []) e
 pub be-2 : (v : ℕ) → v < 65536 → be 2 v ≡ v / 256 ∷ v % 256 ∷ []
 unfolding be
 be-2 v h = let e : v / 256 % 256 ≡ v / 256 = omega arith in ap (λ (x : ℕ). x ∷ v % 256 ∷ []) e
+
+-- ---- what is written is bytes
+
+pub bytes-nil : Bytes []
+bytes-nil k = omega arith
+
+pub bytes-append : (a b : List ℕ) → Bytes a → Bytes b → Bytes (a ++ b)
+bytes-append [] b h g k = g k
+bytes-append (x ∷ a) b h g zero = h 0
+bytes-append (x ∷ a) b h g (suc k) = bytes-append a b (λ i. h (suc i)) g k
+
+pub bytes-be : (w v : ℕ) → Bytes (be w v)
+unfolding be
+bytes-be zero v = bytes-nil
+bytes-be (suc w) v = bytes-append (be w (v / 256)) (v % 256 ∷ []) (bytes-be w (v / 256)) one
+  where
+    one : (k : ℕ) → getD (v % 256 ∷ []) k 0 < 256
+    one zero = omega arith
+    one (suc k) = omega arith
+
+pub bytes-joined : {A : Type 0} (ser : A → List ℕ) → ((a : A) → Bytes (ser a)) → (xs : List A) → Bytes (joined ser xs)
+unfolding joined
+bytes-joined ser each [] = bytes-nil
+bytes-joined ser each (x ∷ xs) = bytes-append (ser x) (joined ser xs) (each x) (bytes-joined ser each xs)
 
 -- ---- numbers in a row
 

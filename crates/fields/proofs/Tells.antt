@@ -12,10 +12,10 @@ use Rattle.fields.specs.Numbers.{num, be, joined, At, All}
 use Rattle.fields.specs.Reader.{Res, Reader, ok, refuse, then, pick, rule, Judged, fine, fault, unless, judged, give, _>>=_, each, numberOf}
 use Rattle.fields.specs.Text.{Name, name, closed, anyZero, isEmpty, nameBytes}
 use Rattle.fields.specs.Faults.{firstOf, faults, faultsFrom, found}
-use Rattle.fields.specs.Algebra.{Tells}
+use Rattle.fields.specs.Algebra.{Exact, Tells}
 use Rattle.fields.proofs.Laws.{field-in}
 use Rattle.fields.proofs.Places.{length-be, at-in, at-left, at-right, num-be}
-use Rattle.fields.proofs.Inverse.{clash, ok-value, ok-place, judged-inv, then-inv, each-none, each-inv}
+use Rattle.fields.proofs.Inverse.{clash, ok-value, ok-place, judged-inv, then-inv, rule-inv, each-none, each-inv}
 use Rattle.fields.proofs.Exact.{name-passes}
 
 -- ---- the first of two faults
@@ -29,6 +29,11 @@ first-some a b h = rw (ne-eqb a 0 (λ z. omega arith))
 pub first-zero : (a : ℕ) → firstOf a 0 ≡ a
 first-zero zero = refl
 first-zero (suc a) = first-some (suc a) 0 (omega arith)
+
+pub faults-map : {A B : Type 0} (f : B → ℕ) (g : A → B) (l : List A) → faults f (map g l) ≡ faults (λ a. f (g a)) l
+unfolding faults
+faults-map f g [] = refl
+faults-map f g (a ∷ l) = ap (λ (x : ℕ). firstOf (f (g a)) x) (faults-map f g l)
 
 -- a list's first fault, with and without numbers
 pub faults-from : {A : Type 0} (f : A → ℕ) (i : ℕ) (l : List A) → faultsFrom (λ k. f) i l ≡ faults f l
@@ -101,6 +106,22 @@ module _ {A B : Type 0} {s : List ℕ} {p : Reader A} {Fits : B → Type 0} {ser
 -- where the bytes of a value stand, what is read is the value, and the reader ends behind them
 pub record Gives {A B : Type 0} (s : List ℕ) (p : Reader A) (view : A → B) (Fits : B → Type 0) (ser : B → List ℕ) : Type 0 where
   pub gives : (at : ℕ) (b : B) → Fits b → At s at (ser b) → (a : A) (q : ℕ) → p s at ≡ ok a q → (view a ≡ b) × (at + length (ser b) ≡ q)
+
+-- a reader that is exact has no fault to tell
+module _ {A B : Type 0} {s : List ℕ} {p : Reader A} {view : A → B} {Ok : B → Type 0} {ser : B → List ℕ} (x : Exact s p view Ok ser) where
+  pub exact-tells : Tells s p Ok ser (λ b. 0)
+  exact-tells = record {
+    number = λ at b fit h. ap numberOf (x .reads at b fit h .1);
+    ends = λ at b fit h z. let r = x .reads at b fit h in (r .0, r .1);
+  }
+
+  pub exact-gives : Gives s p view Ok ser
+  exact-gives = record {
+    gives = λ at b fit h a q e.
+        let r = x .reads at b fit h in
+        let same = sym (r .1) ∙ e in
+        (ap view (sym (ok-value same)) ∙ r .2, ok-place same);
+  }
 
 -- ---- fields
 
@@ -205,3 +226,11 @@ name-tells s w = tells (λ at us fit h.
     let end : ℕ = at + length (nameBytes w us) in
     rw (name-passes s w at us (fit .0) (fit .1) h)
     (outcome-fault _ _ _ end (name-found (anyZero us) c (closed-any us)) (outcome-rule (unless c 8) at (record { first = at + w; units = us }) end (unless-sure c 8 (omega arith)))))
+
+pub name-gives : (s : List ℕ) (w : ℕ) → Gives s (name w) (λ nm. nm .units) (λ us. (length us + 1 < 256 ^ w) × All (λ k u. u < 256 ^ 2) 0 us) (nameBytes w)
+name-gives s w = record {
+  gives = λ at us fit h a q e.
+      let c : Bool = closed (us ++ (0 ∷ [])) in
+      let r = rule-inv (unless c 8) at (ok (record { first = at + w; units = us }) (at + length (nameBytes w us))) (sym (name-passes s w at us (fit .0) (fit .1) h) ∙ e) in
+      (ap (λ (x : Name). x .units) (sym (ok-value (r .1))), ok-place (r .1));
+}

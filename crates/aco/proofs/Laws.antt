@@ -1,0 +1,213 @@
+-- The reader's parts accept exactly the grammar's bytes. Assumes nothing.
+use Prim.Native.Nat.{ℕ, zero, suc, _+_, _*_, _-_, _^_, _≤_, _<_}
+use mathlib.Core.Path.{_≡_, refl, sym, ap, ap₂, _∙_, subst}
+use mathlib.Core.List.{List, [], _∷_, _++_, map, append-nil, append-assoc}
+use mathlib.Core.Bool.{Bool, true, false}
+use lib.Dec.{leb, ltb, eqb}
+use lib.ListN.{length, getD, length-append}
+use lib.Seq.{ext-getD}
+use borrow.Author.Tests.{eqb-true, eqb-false, eq-eqb, ltb-true, ltb-false, lt-ltb, le-ltb}
+use native.Mathlib.Omega.{arith}
+use native.Mathlib.Nat.{add-zero, zero-add}
+use Rattle.fields.specs.Numbers.{num, nums, be, joined, At, Bytes, All}
+use Rattle.fields.specs.Reader.{Res, ok, Reader, pick, Judged, fine, fault, unless, judged, give, _>>=_, each}
+use Rattle.fields.specs.Text.{Name, name, nameBytes, Named}
+use Rattle.fields.specs.Algebra.{Exact}
+use Rattle.fields.proofs.Places.{length-be, length-bes}
+use Rattle.fields.proofs.Inverse.{unless-fine, pick-fine}
+use Rattle.fields.proofs.Exact.{all-map, all-from, all-at, all-by, map-id, judged-exact, same-exact, one-exact, give-exact, bind-exact, each-exact, name-exact}
+use Rattle.colour.specs.declared.Colour.{Colour}
+use Rattle.colour.specs.Spaces.{uses, known, allowed}
+use Rattle.aco.specs.Grammar.{Swatch, Space, rgb, hsb, cmyk, lab, gray, Allowed, colourBytes, entryBytes}
+use Rattle.aco.specs.Reading.{space, sample, samples, colour, heading, fieldOf, twin, Entry, entry, swatch}
+
+-- ---- the reader's table of spaces and the grammar's
+
+pub space-uses : {x u : ℕ} → Space x u → uses x ≡ u
+unfolding uses
+space-uses rgb = refl
+space-uses hsb = refl
+space-uses cmyk = refl
+space-uses lab = refl
+space-uses gray = refl
+
+pub space-known : {x u : ℕ} → Space x u → known x ≡ true
+unfolding uses known
+space-known rgb = refl
+space-known hsb = refl
+space-known cmyk = refl
+space-known lab = refl
+space-known gray = refl
+
+space-by : (x v n : ℕ) (b : Bool) → eqb x v ≡ b → (rest : ℕ) → Space v n → (b ≡ false → 0 < rest → Space x rest) → 0 < pick b n rest → Space x (pick b n rest)
+space-by x v n true e rest here more h = subst (λ (y : ℕ). Space y n) (sym (eqb-true x v e)) here
+space-by x v n false e rest here more h = more refl h
+
+pub known-space : (x : ℕ) → known x ≡ true → Space x (uses x)
+unfolding uses known
+known-space x h =
+    space-by x 0 3 (eqb x 0) refl _ rgb (λ e. space-by x 1 3 (eqb x 1) refl _ hsb (λ e. space-by x 2 4 (eqb x 2) refl _ cmyk (λ e.
+    space-by x 7 3 (eqb x 7) refl _ lab (λ e. space-by x 8 1 (eqb x 8) refl _ gray (λ e l. absurd (omega arith)))))) (ltb-true 0 _ h)
+
+-- a sample is allowed: one that the space does not use is 0
+pub allowed-unused : (x k v : ℕ) → allowed x k v ≡ true → uses x ≤ k → v ≡ 0
+unfolding allowed
+allowed-unused x k v e h = eqb-true v 0 (simp (le-ltb k (uses x) h) at e)
+
+pub unused-allowed : (x k v : ℕ) → (uses x ≤ k → v ≡ 0) → allowed x k v ≡ true
+unfolding allowed
+unused-allowed x k v h = go (ltb k (uses x)) refl
+  where
+    go : (b : Bool) → ltb k (uses x) ≡ b → pick b true (eqb v 0) ≡ true
+    go true e = refl
+    go false e = eq-eqb v 0 (h (ltb-false k (uses x) e))
+
+-- ---- one colour
+
+-- a swatch without its name
+abbrev pub hue : Swatch → Colour
+hue w = record { space = w .space; samples = w .samples }
+
+abbrev pub mix : ℕ → List ℕ → Colour
+mix x vs = record { space = x; samples = vs }
+
+-- its ten bytes
+abbrev pub paint : Colour → List ℕ
+paint c = be 2 (c .space) ++ joined (be 2) (c .samples)
+
+-- what the grammar asks of a swatch, apart from its name
+pub record Painted (c : Colour) : Type 0 where
+  pub used : ℕ
+  pub of : Space (c .space) used
+  pub four : length (c .samples) ≡ 4
+  pub fit : All (λ k v. (v ≤ 65535) × (used ≤ k → v ≡ 0)) 0 (c .samples)
+
+-- a colour whose numbers fit their fields
+pub record Sized (c : Colour) : Type 0 where
+  pub small : c .space < 256 ^ 2
+  pub four : length (c .samples) ≡ 4
+  pub each-small : All (λ k v. v < 256 ^ 2) 0 (c .samples)
+
+space-small : {x u : ℕ} → Space x u → x < 256 ^ 2
+space-small rgb = omega arith
+space-small hsb = omega arith
+space-small cmyk = omega arith
+space-small lab = omega arith
+space-small gray = omega arith
+
+pub painted-sized : (c : Colour) → Painted c → Sized c
+painted-sized c p = record {
+  small = space-small (p .of);
+  four = p .four;
+  each-small = all-map (λ k v. (v ≤ 65535) × (p .used ≤ k → v ≡ 0)) (λ k v. v < 256 ^ 2) (λ k v h. omega (arith, h .0)) 0 (c .samples) (p .fit);
+}
+
+pub allowed-painted : (w : Swatch) → Allowed w → Painted (hue w)
+allowed-painted w a = record { used = a .used; of = a .space; four = a .four; fit = a .samples }
+
+pub painted-allowed : (w : Swatch) → Painted (hue w) → Named 4 (w .name) → Allowed w
+painted-allowed w p n = record { used = p .used; space = p .of; four = p .four; samples = p .fit; name = n }
+
+-- the same by the reader's tests
+abbrev Tested : Colour → Type 0
+Tested c = ((c .space < 256 ^ 2) × (space (c .space) ≡ fine)) × ((length (c .samples) ≡ 4) × All (λ k v. (v < 256 ^ 2) × (sample (c .space) k v ≡ fine)) 0 (c .samples))
+
+painted-tested : (c : Colour) → Painted c → Tested c
+painted-tested c p = (
+  (space-small (p .of), ap (λ (b : Bool). unless b 4) (space-known (p .of))),
+  (
+    p .four,
+    all-map (λ k v. (v ≤ 65535) × (p .used ≤ k → v ≡ 0)) (λ k v. (v < 256 ^ 2) × (sample (c .space) k v ≡ fine))
+        (λ k v h. let f = h .1 in (omega (arith, h .0), ap (λ (b : Bool). unless b 5) (unused-allowed (c .space) k v (λ l. f (subst (λ (u : ℕ). u ≤ k) (space-uses (p .of)) l))))) 0 (c .samples) (p .fit),
+  ),
+)
+
+tested-painted : (c : Colour) → Tested c → Painted c
+tested-painted c t = record {
+  used = uses (c .space);
+  of = known-space (c .space) (unless-fine (known (c .space)) 4 (t .0 .1));
+  four = t .1 .0;
+  fit = all-map (λ k v. (v < 256 ^ 2) × (sample (c .space) k v ≡ fine)) (λ k v. (v ≤ 65535) × (uses (c .space) ≤ k → v ≡ 0))
+      (λ k v h. (omega (arith, h .0), λ l. allowed-unused (c .space) k v (unless-fine (allowed (c .space) k v) 5 (h .1)) l)) 0 (c .samples) (t .1 .1);
+}
+
+-- a swatch and a record by their parts
+abbrev pub label : Colour → List ℕ → Swatch
+label c us = record { space = c .space; samples = c .samples; name = us }
+
+abbrev pub titled : Colour → Name → Entry
+titled c nm = record { colour = c; name = nm }
+
+module _ (s : List ℕ) (bytes : Bytes s) where
+  -- the samples of a colour of the space x, and the colour that is given
+  rest-exact : (x : ℕ) → Exact s (samples x >>= (λ vs. give (mix x vs))) (λ (c : Colour). c)
+      (λ c. ((length (c .samples) ≡ 4) × All (λ k v. (v < 256 ^ 2) × (sample (c .space) k v ≡ fine)) 0 (c .samples)) × (c .space ≡ x)) (λ c. joined (be 2) (c .samples))
+  unfolding samples
+  rest-exact x =
+      same-exact
+      (bind-exact {k = λ vs. give (mix x vs)} {viewD = λ (c : Colour). c} {OkD = λ c. c .space ≡ x} {rest = λ c. []} (λ c. c .samples)
+      (each-exact {p = λ k. judged 2 (sample x k)} {Ok = λ k v. (v < 256 ^ 2) × (sample x k v ≡ fine)} (λ k. judged-exact s bytes 2 (sample x k)) 4 0)
+      (λ vs. same-exact (give-exact s (mix x vs) (λ (c : Colour). c)) (λ c. (c .space ≡ x) × (c .samples ≡ map (λ (v : ℕ). v) vs)) (λ c. [])
+      (λ c e. (sym (ap (λ (y : Colour). y .space) e), sym (ap (λ (y : Colour). y .samples) e) ∙ sym (map-id vs)))
+      (λ c e. ap₂ mix (sym (e .0)) (sym (e .1 ∙ map-id vs)))
+      (λ c e. refl)))
+      (λ c. ((length (c .samples) ≡ 4) × All (λ k v. (v < 256 ^ 2) × (sample (c .space) k v ≡ fine)) 0 (c .samples)) × (c .space ≡ x))
+      (λ c. joined (be 2) (c .samples))
+      (λ c h. ((h .0 .0, subst (λ (y : ℕ). All (λ k v. (v < 256 ^ 2) × (sample y k v ≡ fine)) 0 (c .samples)) (sym (h .1)) (h .0 .1)), h .1))
+      (λ c h. ((h .0 .0, subst (λ (y : ℕ). All (λ k v. (v < 256 ^ 2) × (sample y k v ≡ fine)) 0 (c .samples)) (h .1) (h .0 .1)), h .1))
+      (λ c h. append-nil (joined (be 2) (c .samples)))
+
+  -- a colour
+  pub colour-exact : Exact s colour (λ c. c) Painted paint
+  unfolding colour
+  colour-exact =
+      same-exact (bind-exact (λ c. c .space) (judged-exact s bytes 2 space) rest-exact) Painted paint (λ c h. tested-painted c h) (λ c h. painted-tested c h) (λ c h. refl)
+
+  -- a list's version and its count
+  pub heading-exact : (v : ℕ) → v < 256 ^ 2 → (count : ℕ → Judged) → Exact s (heading v count) (λ n. n) (λ n. (n < 256 ^ 2) × (count n ≡ fine)) (λ n. be 2 v ++ be 2 n)
+  unfolding heading
+  heading-exact v small count =
+      same-exact
+      (bind-exact {k = λ x. judged 2 count} {OkD = λ n. (n < 256 ^ 2) × (count n ≡ fine)} {rest = be 2} (λ n. tt {0})
+      (one-exact (judged-exact s bytes 2 (λ x. unless (eqb x v) 3)) v (small, ap (λ (b : Bool). unless b 3) (eq-eqb v v refl)) (λ x h. eqb-true x v (unless-fine (eqb x v) 3 (h .1))))
+      (λ x. same-exact (judged-exact s bytes 2 count) (λ n. ((n < 256 ^ 2) × (count n ≡ fine)) × (tt {0} ≡ tt)) (be 2) (λ n h. (h, refl)) (λ n h. h .0) (λ n h. refl)))
+      (λ n. (n < 256 ^ 2) × (count n ≡ fine)) (λ n. be 2 v ++ be 2 n) (λ n h. h .1) (λ n h. (tt, h)) (λ n h. refl)
+
+  -- the five fields of a record, where list 1's colour is c: they are c's
+  pub twins-exact : (i : ℕ) (c : Colour) → Sized c → Exact s (each 5 0 (twin i c)) (λ vs. tt {0}) (λ u. Unit {0}) (λ u. paint c)
+  unfolding joined
+  twins-exact i c p =
+      one-exact (each-exact {p = twin i c} {Ok = Twin} (λ f. judged-exact s bytes 2 (λ v. pick (eqb v (fieldOf c f)) fine (fault 7 i f))) 5 0) l
+      (len, all-by Twin 0 0 l (λ k h. (all-at (λ k v. v < 256 ^ 2) 0 0 l small k h, ap (λ (b : Bool). pick b fine (fault 7 i (0 + k))) (eq-eqb (getD l k 0) (getD l (0 + k) 0) (ap (λ (n : ℕ). getD l n 0) (sym (zero-add k)))))))
+      (λ bs h. ext-getD 0 bs l (h .0 ∙ sym len) (λ k g.
+      eqb-true (getD bs k 0) (getD l (0 + k) 0) (pick-fine (eqb (getD bs k 0) (getD l (0 + k) 0)) 7 i (0 + k) (all-at Twin 0 0 bs (h .1) k g .1)) ∙ ap (λ (n : ℕ). getD l n 0) (zero-add k)))
+    where
+      l : List ℕ
+      l = c .space ∷ c .samples
+
+      Twin : ℕ → ℕ → Type 0
+      Twin f v = (v < 256 ^ 2) × (pick (eqb v (fieldOf c f)) fine (fault 7 i f) ≡ fine)
+
+      len : length l ≡ 5
+      len = ap suc (p .four)
+
+      small : All (λ k v. v < 256 ^ 2) 0 l
+      small = (p .small, all-from (λ v. v < 256 ^ 2) 0 1 (c .samples) (p .each-small))
+
+  named-exact : (c : Colour) → Exact s (name 4 >>= (λ nm. give (titled c nm))) swatch (λ w. Named 4 (w .name) × (hue w ≡ c)) (λ w. nameBytes 4 (w .name) ++ [])
+  named-exact c =
+      bind-exact {k = λ nm. give (titled c nm)} {viewD = swatch} {OkD = λ w. hue w ≡ c} {rest = λ w. []} (λ w. w .name) (name-exact s 4 bytes)
+      (λ nm. same-exact (give-exact s (titled c nm) swatch) (λ w. (hue w ≡ c) × (w .name ≡ nm .units)) (λ w. [])
+      (λ w e. (sym (ap hue e), sym (ap (λ (y : Swatch). y .name) e)))
+      (λ w e. ap₂ (λ (y : Colour) (us : List ℕ). label y us) (sym (e .0)) (sym (e .1)))
+      (λ w e. refl))
+
+  -- record i, where list 1's colour is c
+  pub entry-exact : (i : ℕ) (c : Colour) → Sized c → Exact s (entry i c) swatch (λ w. (hue w ≡ c) × Named 4 (w .name)) entryBytes
+  unfolding entry entryBytes colourBytes
+  entry-exact i c p =
+      same-exact
+      (bind-exact {k = λ vs. name 4 >>= (λ nm. give (titled c nm))} {OkD = λ w. Named 4 (w .name) × (hue w ≡ c)} (λ w. tt {0}) (twins-exact i c p)
+      (λ vs. same-exact (named-exact c) (λ w. (Named 4 (w .name) × (hue w ≡ c)) × (tt {0} ≡ tt)) (λ w. nameBytes 4 (w .name) ++ []) (λ w h. (h, refl)) (λ w h. h .0) (λ w h. refl)))
+      (λ w. (hue w ≡ c) × Named 4 (w .name)) entryBytes (λ w h. (h .1 .1, h .1 .0)) (λ w h. (tt, (h .1, h .0)))
+      (λ w h. ap₂ (λ (y : Colour) (l : List ℕ). paint y ++ l) (sym (h .0)) (append-nil (nameBytes 4 (w .name))))

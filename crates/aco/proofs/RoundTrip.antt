@@ -1,0 +1,102 @@
+-- What is promised of ACO files: reading and the grammar agree, and what an accepted file holds and where. Assumes nothing.
+use Prim.Native.Nat.{ℕ, zero, suc, _+_, _*_, _-_, _≤_, _<_}
+use mathlib.Core.Path.{_≡_, refl, sym, ap, ap₂, _∙_, subst}
+use mathlib.Core.List.{List, [], _∷_, map}
+use lib.ListN.{length, getD, List·getD-map}
+use native.Mathlib.Omega.{arith}
+use native.Mathlib.Nat.{zero-add}
+use Rattle.fields.specs.Numbers.{num, nums, Bytes}
+use Rattle.fields.specs.Reader.{Res, ok, each}
+use Rattle.fields.proofs.Places.{length-nums}
+use Rattle.fields.proofs.Inverse.{each-length, ok-value}
+use Rattle.fields.proofs.Exact.{length-map}
+use Rattle.colour.specs.declared.Colour.{Colour}
+use Rattle.aco.specs.Grammar.{Swatch, File, plain, named}
+use Rattle.aco.specs.Reading.{fieldOf, Entry, entry, Contents, black, unnamed, aco, swatch}
+use Rattle.aco.specs.Raw.{rawColour, rawColours}
+use Rattle.aco.specs.Places.{nextEntry, entryPlace}
+use Rattle.aco.proofs.Raw.{length-raw, getD-raw, field-raw}
+use Rattle.aco.proofs.Laws.{hue}
+use Rattle.aco.proofs.Inverse.{First, Then, one, two, Entered, entries-inv, aco-inv}
+use Rattle.aco.proofs.Whole.{plain-reads, named-reads, bare-swatches, then-writes}
+
+-- ---- the grammar and the reader
+
+-- every file of the grammar is accepted to its end, and read as the swatches that it was made of
+pub allowed-reads : {l : ℕ} {ws : List Swatch} {b : List ℕ} → File l ws b → (c : Contents) × (aco b ≡ ok c (length b)) × (c .lists ≡ l) × (map swatch (c .records) ≡ ws)
+allowed-reads (plain {ws} pal none short) = (record { lists = 1; records = map unnamed (map hue ws) }, plain-reads ws pal none short, refl, bare-swatches 0 ws none)
+allowed-reads (named {ws} pal short) = let x = named-reads ws pal short in (record { lists = 2; records = x .0 }, x .1, refl, x .2)
+
+-- every accepted file is a file of the grammar, made of the swatches that were read, and is read to its end
+pub accepted-allowed : {s : List ℕ} → Bytes s → {c : Contents} {q : ℕ} → aco s ≡ ok c q → File (c .lists) (map swatch (c .records)) s × (q ≡ length s)
+accepted-allowed {s} bytes {c} {q} e = let i = aco-inv s e in then-writes s bytes (i .0) (i .1) (i .2) c q (i .3)
+
+-- no file is made of two palettes, or of one in two ways
+pub allowed-unique : {l m : ℕ} {ws vs : List Swatch} {b : List ℕ} → File l ws b → File m vs b → (l ≡ m) × (ws ≡ vs)
+allowed-unique f g =
+    let x = allowed-reads f in
+    let y = allowed-reads g in
+    let same : x .0 ≡ y .0 = ok-value (sym (x .1) ∙ y .1) in
+    (sym (x .2) ∙ ap (λ (c : Contents). c .lists) same ∙ y .2, sym (x .3) ∙ ap (λ (c : Contents). map swatch (c .records)) same ∙ y .3)
+
+-- ---- what an accepted file holds
+
+-- as many records as list 1 counts
+pub records-count : (s : List ℕ) {c : Contents} {q : ℕ} → aco s ≡ ok c q → length (c .records) ≡ num 2 s 2
+records-count s {c} {q} e = let i = aco-inv s e in go (i .0) (i .1) (i .2) (i .3)
+  where
+    go : (cs : List Colour) (r : ℕ) → First s cs r → Then s cs r c q → length (c .records) ≡ num 2 s 2
+    go cs r f (one end x z) = sym (ap (λ (y : Contents). length (y .records)) x) ∙ length-map unnamed cs ∙ sym (f .count)
+    go cs r f (two es y hd list end x z) = sym (ap (λ (y : Contents). length (y .records)) x) ∙ each-length (λ i. entry i (getD cs i black)) s (length cs) 0 (r + 4) list ∙ sym (f .count)
+
+-- one list: the colours that stand there, without names
+pub one-list : (s : List ℕ) {c : Contents} {q : ℕ} → aco s ≡ ok c q → c .lists ≡ 1 → (c .records ≡ map unnamed (rawColours (num 2 s 2) s 4)) × (length s ≡ 4 + 10 * num 2 s 2)
+one-list s {c} {q} e l = let i = aco-inv s e in go (i .0) (i .1) (i .2) (i .3)
+  where
+    go : (cs : List Colour) (r : ℕ) → First s cs r → Then s cs r c q → (c .records ≡ map unnamed (rawColours (num 2 s 2) s 4)) × (length s ≡ 4 + 10 * num 2 s 2)
+    go cs r f (one end x z) =
+        (sym (ap (λ (y : Contents). y .records) x) ∙ ap (map unnamed) (f .are ∙ ap (λ (n : ℕ). rawColours n s 4) (sym (f .count))), omega (arith, f .end, f .count))
+    go cs r f (two es y hd list end x z) = let w : 2 ≡ c .lists = ap (λ (y : Contents). y .lists) x in absurd (omega arith)
+
+-- record i of one list
+pub one-record : (s : List ℕ) {c : Contents} {q : ℕ} → aco s ≡ ok c q → c .lists ≡ 1 → (i : ℕ) → i < num 2 s 2 → getD (c .records) i (unnamed black) ≡ unnamed (rawColour s (4 + 10 * i))
+one-record s {c} e l i h =
+    ap (λ (r : List Entry). getD r i (unnamed black)) (one-list s e l .0) ∙ List·getD-map unnamed (rawColours (num 2 s 2) s 4) i black ∙ ap unnamed (getD-raw (num 2 s 2) s 4 i h)
+
+-- record i of two lists: its colour stands in list 1 and again in list 2, and its name behind that
+pub record Placed (s : List ℕ) (i : ℕ) (e : Entry) : Type 0 where
+  pub is : e .colour ≡ rawColour s (4 + 10 * i)
+  pub twice : (f : ℕ) → f < 5 → num 2 s (4 + 10 * i + 2 * f) ≡ num 2 s (entryPlace s (num 2 s 2) i + 2 * f)
+  pub first : e .name .first ≡ entryPlace s (num 2 s 2) i + 14
+  pub some : 0 < num 4 s (entryPlace s (num 2 s 2) i + 10)
+  pub units : e .name .units ≡ nums 2 (num 4 s (entryPlace s (num 2 s 2) i + 10) - 1) s (entryPlace s (num 2 s 2) i + 14)
+  pub count : length (e .name .units) ≡ num 4 s (entryPlace s (num 2 s 2) i + 10) - 1
+  pub inside : entryPlace s (num 2 s 2) i + 14 + 2 * num 4 s (entryPlace s (num 2 s 2) i + 10) ≤ length s
+
+pub records-place : (s : List ℕ) {c : Contents} {q : ℕ} → aco s ≡ ok c q → c .lists ≡ 2 → (i : ℕ) → i < num 2 s 2 → Placed s i (getD (c .records) i (unnamed black))
+unfolding entryPlace
+records-place s {c} {q} e l i h = let x = aco-inv s e in go (x .0) (x .1) (x .2) (x .3)
+  where
+    go : (cs : List Colour) (r : ℕ) → First s cs r → Then s cs r c q → Placed s i (getD (c .records) i (unnamed black))
+    go cs r f (one end x z) = let w : 1 ≡ c .lists = ap (λ (y : Contents). y .lists) x in absurd (omega arith)
+    go cs r f (two es y hd list end x z) =
+        let n : ℕ = num 2 s 2 in
+        let start : r + 4 ≡ entryPlace s n 0 = omega (arith, f .end, f .count) in
+        let t = entries-inv s cs n (unnamed black) (length cs) 0 {es = es} {q = y} (subst (λ (p : ℕ). each (length cs) 0 (λ k. entry k (getD cs k black)) s p ≡ ok es y) start list) i (omega (arith, f .count)) in
+        let k : 0 + i ≡ i = zero-add i in
+        let en : Entered s (getD cs i black) (entryPlace s n i) (getD es i (unnamed black)) (t .0) = subst (λ (j : ℕ). Entered s (getD cs j black) (entryPlace s n j) (getD es i (unnamed black)) (t .0)) k (t .1) in
+        let cl : getD cs i black ≡ rawColour s (4 + 10 * i) = ap (λ (l : List Colour). getD l i black) (f .are) ∙ getD-raw (length cs) s 4 i (omega (arith, f .count)) in
+        subst (λ (v : Contents). Placed s i (getD (v .records) i (unnamed black))) x (record {
+          is = sym (en .hue) ∙ cl;
+          twice = λ g b. sym (field-raw s (4 + 10 * i) g b) ∙ sym (ap (λ (v : Colour). fieldOf v g) cl) ∙ sym (en .same g b);
+          first = en .first;
+          some = en .some;
+          units = en .units;
+          count = ap length (en .units) ∙ length-nums 2 (num 4 s (entryPlace s n i + 10) - 1) s (entryPlace s n i + 14);
+          inside = omega (arith, en .next, en .inside);
+        })
+
+-- the two lists hold the same colours, record by record and field by field
+pub lists-agree : (s : List ℕ) {c : Contents} {q : ℕ} → aco s ≡ ok c q → c .lists ≡ 2
+    → (i f : ℕ) → i < num 2 s 2 → f < 5 → num 2 s (4 + 10 * i + 2 * f) ≡ num 2 s (entryPlace s (num 2 s 2) i + 2 * f)
+lists-agree s e l i f h g = records-place s e l i h .twice f g
