@@ -1,24 +1,23 @@
 -- What is known of an accepted file, list by list and record by record. Assumes nothing.
 use Prim.Native.Nat.{ℕ, zero, suc, _+_, _*_, _-_, _≤_, _<_}
 use mathlib.Core.Path.{_≡_, refl, sym, ap, ap₂, _∙_, subst, subst₂}
-use mathlib.Core.List.{List, [], _∷_, map}
+use mathlib.Core.List.{List, map}
 use mathlib.Core.Bool.{Bool, true, false}
 use lib.Dec.{leb, eqb}
 use lib.ListN.{length, getD}
-use borrow.Author.Tests.{leb-true, eqb-true, eqb-false}
+use borrow.Author.Tests.{leb-true, eqb-true}
 use native.Mathlib.Numerals.{add-one}
 use native.Mathlib.Omega.{arith}
-use native.Mathlib.Nat.{add-zero, zero-add}
+use native.Mathlib.Nat.{add-zero}
 use Rattle.fields.specs.Numbers.{num, nums}
-use Rattle.fields.specs.Reader.{Res, ok, refuse, Reader, pick, Judged, fine, fault, unless, judged, each, ended}
+use Rattle.fields.specs.Reader.{ok, pick, Judged, fine, fault, unless, judged, each}
 use Rattle.fields.specs.Text.{Name, name, front}
-use Rattle.fields.proofs.Places.{length-nums}
-use Rattle.fields.proofs.Inverse.{then-inv, pick-inv, judged-inv, name-inv, front-nums, ended-inv, each-none, each-inv, each-length, fields-inv, fields-fine, fields-inside, unless-fine, pick-fine, ok-value, ok-place}
+use Rattle.fields.proofs.Inverse.{then-inv, pick-inv, judged-inv, name-inv, front-nums, ended-inv, each-none, each-inv, each-length, fields-inv, fields-fine, unless-fine, pick-fine, ok-value, ok-place}
 use Rattle.colour.specs.declared.Colour.{Colour}
 use Rattle.aco.specs.Reading.{most, colour, heading, fieldOf, twin, Entry, entry, Contents, black, second, unnamed, after, lists, aco}
-use Rattle.aco.specs.Raw.{rawColour, rawColours}
+use Rattle.aco.specs.Raw.{rawColours}
 use Rattle.aco.specs.Places.{nextEntry, entryPlace}
-use Rattle.aco.proofs.Raw.{colours-raw, colours-inside, length-raw, getD-raw, field-raw}
+use Rattle.aco.proofs.Raw.{colours-raw, colours-inside}
 
 -- ---- headings
 
@@ -88,6 +87,17 @@ module _ (s : List ℕ) (cs : List Colour) (n : ℕ) (d : Entry) where
       let r = entries-inv m (i + 1) {es = t .2} {q = q} (subst (λ (z : ℕ). each m (i + 1) (λ k. entry k (getD cs k black)) s z ≡ ok (t .2) q) p (t .4)) k (omega arith) in
       let y : i + 1 + k ≡ i + suc k = omega arith in
       (r .0, subst₂ (λ (z : ℕ) (l : List Entry). Entered s (getD cs z black) (entryPlace s n z) (getD l (suc k) d) (r .0)) y (t .5) (r .1))
+
+  -- list 2 ends behind its last record
+  pub entries-end : (m i : ℕ) {es : List Entry} {q : ℕ} → each m i (λ k. entry k (getD cs k black)) s (entryPlace s n i) ≡ ok es q → entryPlace s n (i + m) ≡ q
+  unfolding entryPlace
+  entries-end zero i e = ap (entryPlace s n) (add-zero i) ∙ each-none (λ k. entry k (getD cs k black)) s i (entryPlace s n i) e .1
+  entries-end (suc m) i {es} {q} e =
+      let t = each-inv (λ k. entry k (getD cs k black)) s m i (entryPlace s n i) e in
+      let x = entry-inv i (getD cs i black) s (entryPlace s n i) (t .3) in
+      let p : t .1 ≡ entryPlace s n (i + 1) = sym (x .next) ∙ ap (entryPlace s n) (sym (add-one i)) in
+      let y : i + suc m ≡ i + 1 + m = omega arith in
+      ap (entryPlace s n) y ∙ entries-end m (i + 1) {es = t .2} {q = q} (subst (λ (z : ℕ). each m (i + 1) (λ k. entry k (getD cs k black)) s z ≡ ok (t .2) q) p (t .4))
 
 -- ---- the file
 

@@ -1,20 +1,20 @@
 -- The reader's parts accept exactly the grammar's bytes. Assumes nothing.
-use Prim.Native.Nat.{ℕ, zero, suc, _+_, _*_, _-_, _^_, _≤_, _<_}
+use Prim.Native.Nat.{ℕ, zero, suc, _+_, _-_, _^_, _≤_, _<_}
 use mathlib.Core.Path.{_≡_, refl, sym, ap, ap₂, _∙_, subst}
-use mathlib.Core.List.{List, [], _∷_, _++_, map, append-nil, append-assoc}
+use mathlib.Core.List.{List, [], _∷_, _++_, map, append-nil}
 use mathlib.Core.Bool.{Bool, true, false}
-use lib.Dec.{leb, ltb, eqb}
-use lib.ListN.{length, getD, length-append}
+use lib.Dec.{ltb, eqb}
+use lib.ListN.{length, getD}
 use lib.Seq.{ext-getD}
-use borrow.Author.Tests.{eqb-true, eqb-false, eq-eqb, ltb-true, ltb-false, lt-ltb, le-ltb}
+use borrow.Author.Tests.{eqb-true, eq-eqb, ltb-true, ltb-false, le-ltb}
 use native.Mathlib.Omega.{arith}
-use native.Mathlib.Nat.{add-zero, zero-add}
-use Rattle.fields.specs.Numbers.{num, nums, be, joined, At, Bytes, All}
-use Rattle.fields.specs.Reader.{Res, ok, Reader, pick, Judged, fine, fault, unless, judged, give, _>>=_, each}
+use native.Mathlib.Nat.{zero-add}
+use Rattle.fields.specs.Numbers.{be, joined, Bytes, All}
+use Rattle.fields.specs.Reader.{pick, Judged, fine, fault, unless, judged, give, _>>=_, each}
 use Rattle.fields.specs.Text.{Name, name, nameBytes, Named}
-use Rattle.fields.specs.Algebra.{Exact}
-use Rattle.fields.proofs.Places.{length-be, length-bes}
+use Rattle.fields.specs.Algebra.{Lawful, Exact}
 use Rattle.fields.proofs.Inverse.{unless-fine, pick-fine}
+use Rattle.fields.proofs.Lawful.{judged-lawful, give-lawful, bind-lawful, each-lawful, name-lawful}
 use Rattle.fields.proofs.Exact.{all-map, all-from, all-at, all-by, map-id, judged-exact, same-exact, one-exact, give-exact, bind-exact, each-exact, name-exact}
 use Rattle.colour.specs.declared.Colour.{Colour}
 use Rattle.colour.specs.Spaces.{uses, known, allowed}
@@ -211,3 +211,17 @@ module _ (s : List ℕ) (bytes : Bytes s) where
       (λ vs. same-exact (named-exact c) (λ w. (Named 4 (w .name) × (hue w ≡ c)) × (tt {0} ≡ tt)) (λ w. nameBytes 4 (w .name) ++ []) (λ w h. (h, refl)) (λ w h. h .0) (λ w h. refl)))
       (λ w. (hue w ≡ c) × Named 4 (w .name)) entryBytes (λ w h. (h .1 .1, h .1 .0)) (λ w h. (tt, (h .1, h .0)))
       (λ w h. ap₂ (λ (y : Colour) (l : List ℕ). paint y ++ l) (sym (h .0)) (append-nil (nameBytes 4 (w .name))))
+
+-- ---- each moves forward, stays inside and depends only on the bytes that it passed
+
+pub colour-lawful : Lawful colour
+unfolding colour samples
+colour-lawful = bind-lawful (judged 2 space) _ (judged-lawful 2 space) (λ x. bind-lawful (each 4 0 (λ k. judged 2 (sample x k))) _ (each-lawful (λ k. judged 2 (sample x k)) (λ k. judged-lawful 2 (sample x k)) 4 0) (λ vs. give-lawful (mix x vs)))
+
+pub heading-lawful : (v : ℕ) (count : ℕ → Judged) → Lawful (heading v count)
+unfolding heading
+heading-lawful v count = bind-lawful (judged 2 (λ x. unless (eqb x v) 3)) _ (judged-lawful 2 (λ x. unless (eqb x v) 3)) (λ x. judged-lawful 2 count)
+
+pub entry-lawful : (i : ℕ) (c : Colour) → Lawful (entry i c)
+unfolding entry
+entry-lawful i c = bind-lawful (each 5 0 (twin i c)) _ (each-lawful (twin i c) (λ f. judged-lawful 2 (λ v. pick (eqb v (fieldOf c f)) fine (fault 7 i f))) 5 0) (λ vs. bind-lawful (name 4) _ (name-lawful 4) (λ nm. give-lawful (titled c nm)))

@@ -1,7 +1,9 @@
--- Laws of the definitions of specs/, and the theorems of RoundTrip.
+-- Laws of the definitions of specs/. The theorems that a user cares about stand in RoundTrip.
 pub mod Raw
 pub mod Inverse
 pub mod Laws
 pub mod Whole
+pub mod Written
+pub mod Faultless
 pub mod RoundTrip
 pub mod Judging

@@ -1,13 +1,13 @@
 -- The colours of an accepted list 1 are those that stand at their places. Assumes nothing.
 use Prim.Native.Nat.{ℕ, zero, suc, _+_, _*_, _-_, _≤_, _<_}
 use mathlib.Core.Path.{_≡_, refl, sym, ap, ap₂, _∙_}
-use mathlib.Core.List.{List, [], _∷_}
-use mathlib.Core.Bool.{Bool, true, false}
+use mathlib.Core.List.{List, _∷_}
+use mathlib.Core.Bool.{true}
 use lib.ListN.{length, getD}
 use native.Mathlib.Omega.{arith}
 use native.Mathlib.Nat.{add-zero}
 use Rattle.fields.specs.Numbers.{num, nums}
-use Rattle.fields.specs.Reader.{Res, ok, Reader, judged, unless, each, fine}
+use Rattle.fields.specs.Reader.{ok, fine, judged, each}
 use Rattle.fields.proofs.Places.{getD-nums}
 use Rattle.fields.proofs.Inverse.{then-inv, judged-inv, fields-inv, fields-fine, fields-inside, each-none, each-inv, each-moves, unless-fine, ok-value, ok-place}
 use Rattle.colour.specs.declared.Colour.{Colour}
@@ -23,28 +23,28 @@ pub record Good (s : List ℕ) (at : ℕ) : Type 0 where
   pub is-known : known (num 2 s at) ≡ true
   pub are-allowed : (k : ℕ) → k < 4 → allowed (num 2 s at) k (num 2 s (at + 2 + 2 * k)) ≡ true
 
+colour-parts : (s : List ℕ) (at : ℕ) (c : Colour) (q x r : ℕ) (vs : List ℕ) (z : ℕ) → (2 ≤ length s - at) × (num 2 s at ≡ x) × (at + 2 ≡ r) × (space x ≡ fine) → (nums 2 4 s r ≡ vs) × (r + 4 * 2 ≡ z) → z ≤ length s
+    → ((k : ℕ) → k < 4 → sample x (0 + k) (num 2 s (r + 2 * k)) ≡ fine) → ok (record { space = x; samples = vs }) z ≡ ok c q → (rawColour s at ≡ c) × (at + 10 ≡ q) × Good s at
+colour-parts s at c q x r vs z f g le each-fine e = (
+  ap₂ (λ (v : ℕ) (l : List ℕ). record { space = v; samples = l }) (f .1) (ap (λ (p : ℕ). nums 2 4 s p) (f .2) ∙ g .0) ∙ ok-value e,
+  omega (arith, ok-place e),
+  record {
+    inside = omega arith;
+    is-known = ap known (f .1) ∙ unless-fine (known x) 4 (f .3);
+    are-allowed = λ k h.
+        let i : k ≡ 0 + k = omega arith in
+        let p : at + 2 + 2 * k ≡ r + 2 * k = omega arith in
+        ap (λ (v : ℕ). allowed v k (num 2 s (at + 2 + 2 * k))) (f .1) ∙ ap₂ (λ (j n : ℕ). allowed x j (num 2 s n)) i p ∙ unless-fine (allowed x (0 + k) (num 2 s (r + 2 * k))) 5 (each-fine k h);
+  },
+)
+
 pub colour-inv : (s : List ℕ) (at : ℕ) {c : Colour} {q : ℕ} → colour s at ≡ ok c q → (rawColour s at ≡ c) × (at + 10 ≡ q) × Good s at
 unfolding colour samples
 colour-inv s at {c} {q} e =
     let t = then-inv (judged 2 space s at) _ e in
     let x = judged-inv 2 s at space (t .2) in
     let u = then-inv (each 4 0 (λ k. judged 2 (sample (t .0) k)) s (t .1)) _ (t .3) in
-    let y = fields-inv 2 (sample (t .0)) s 4 0 (t .1) (u .2) in
-    let le : u .1 ≤ length s = fields-inside 2 (sample (t .0)) s 4 0 (t .1) (omega arith) (u .2) in
-    let a : num 2 s at ≡ t .0 = x .1 in
-    let b : nums 2 4 s (at + 2) ≡ u .0 = ap (λ (p : ℕ). nums 2 4 s p) (x .2) ∙ y .0 in (
-      ap₂ (λ (v : ℕ) (l : List ℕ). record { space = v; samples = l }) a b ∙ ok-value (u .3),
-      omega (arith, ok-place (u .3)),
-      record {
-        inside = omega arith;
-        is-known = ap known a ∙ unless-fine (known (t .0)) 4 (x .3);
-        are-allowed = λ k h.
-            let f = fields-fine 2 (sample (t .0)) s 4 0 (t .1) (u .2) k h in
-            let p : at + 2 + 2 * k ≡ t .1 + 2 * k = omega arith in
-            let z : k ≡ 0 + k = omega arith in
-            ap (λ (v : ℕ). allowed v k (num 2 s (at + 2 + 2 * k))) a ∙ ap₂ (λ (i n : ℕ). allowed (t .0) i (num 2 s n)) z p ∙ unless-fine (allowed (t .0) (0 + k) (num 2 s (t .1 + 2 * k))) 5 f;
-      },
-    )
+    colour-parts s at c q (t .0) (t .1) (u .0) (u .1) x (fields-inv 2 (sample (t .0)) s 4 0 (t .1) (u .2)) (fields-inside 2 (sample (t .0)) s 4 0 (t .1) (omega arith) (u .2)) (fields-fine 2 (sample (t .0)) s 4 0 (t .1) (u .2)) (u .3)
 
 -- a colour takes ten bytes
 pub colour-moves : (s : List ℕ) (at : ℕ) {c : Colour} {q : ℕ} → colour s at ≡ ok c q → (q ≡ at + 10) × (q ≤ length s)

@@ -1,30 +1,36 @@
 -- What is promised of ACO files: reading and the grammar agree, and what an accepted file holds and where. Assumes nothing.
-use Prim.Native.Nat.{ℕ, zero, suc, _+_, _*_, _-_, _≤_, _<_}
-use mathlib.Core.Path.{_≡_, refl, sym, ap, ap₂, _∙_, subst}
-use mathlib.Core.List.{List, [], _∷_, map}
+use Prim.Native.Nat.{ℕ, zero, _+_, _*_, _-_, _^_, _≤_, _<_}
+use mathlib.Core.Path.{_≡_, refl, sym, ap, _∙_, subst}
+use mathlib.Core.List.{List, map}
+use mathlib.Core.Bool.{Bool, true, false}
+use lib.Dec.{leb, eqb}
 use lib.ListN.{length, getD, List·getD-map}
 use native.Mathlib.Omega.{arith}
 use native.Mathlib.Nat.{zero-add}
-use Rattle.fields.specs.Numbers.{num, nums, Bytes}
-use Rattle.fields.specs.Reader.{Res, ok, each}
-use Rattle.fields.proofs.Places.{length-nums}
+use Rattle.fields.specs.Numbers.{num, nums, Bytes, All}
+use Rattle.fields.specs.Reader.{ok, refuse, pick, fine, fault, each, numberOf, limit}
+use Rattle.fields.proofs.Places.{length-nums, at-whole}
 use Rattle.fields.proofs.Inverse.{each-length, ok-value}
 use Rattle.fields.proofs.Exact.{length-map}
+use Rattle.fields.proofs.Tells.{outcome-number}
 use Rattle.colour.specs.declared.Colour.{Colour}
-use Rattle.aco.specs.Grammar.{Swatch, File, plain, named}
-use Rattle.aco.specs.Reading.{fieldOf, Entry, entry, Contents, black, unnamed, aco, swatch}
+use Rattle.aco.specs.Grammar.{Swatch, File, plain, named, twoLists}
+use Rattle.aco.specs.Reading.{fieldOf, Entry, entry, Contents, black, unnamed, lists, aco, swatch}
 use Rattle.aco.specs.Raw.{rawColour, rawColours}
-use Rattle.aco.specs.Places.{nextEntry, entryPlace}
-use Rattle.aco.proofs.Raw.{length-raw, getD-raw, field-raw}
+use Rattle.aco.specs.Places.{entryPlace}
+use Rattle.aco.specs.Faults.{paletteFault, Fits}
+use Rattle.aco.proofs.Raw.{getD-raw, field-raw}
 use Rattle.aco.proofs.Laws.{hue}
-use Rattle.aco.proofs.Inverse.{First, Then, one, two, Entered, entries-inv, aco-inv}
-use Rattle.aco.proofs.Whole.{plain-reads, named-reads, bare-swatches, then-writes}
+use Rattle.aco.proofs.Inverse.{First, Then, one, two, Entered, heading-inv, entries-inv, entries-end, aco-inv}
+use Rattle.aco.proofs.Whole.{plain-reads, named-reads, bare-swatches, then-writes, bytes-two}
+use Rattle.aco.proofs.Written.{lists-outcome}
+use Rattle.aco.proofs.Faultless.{faultless-allowed, allowed-faultless}
 
 -- ---- the grammar and the reader
 
 -- every file of the grammar is accepted to its end, and read as the swatches that it was made of
 pub allowed-reads : {l : ℕ} {ws : List Swatch} {b : List ℕ} → File l ws b → (c : Contents) × (aco b ≡ ok c (length b)) × (c .lists ≡ l) × (map swatch (c .records) ≡ ws)
-allowed-reads (plain {ws} pal none short) = (record { lists = 1; records = map unnamed (map hue ws) }, plain-reads ws pal none short, refl, bare-swatches 0 ws none)
+allowed-reads (plain {ws} pal none short) = (record { lists = 1; records = map unnamed (map hue ws) }, plain-reads ws pal short, refl, bare-swatches 0 ws none)
 allowed-reads (named {ws} pal short) = let x = named-reads ws pal short in (record { lists = 2; records = x .0 }, x .1, refl, x .2)
 
 -- every accepted file is a file of the grammar, made of the swatches that were read, and is read to its end
@@ -63,6 +69,28 @@ pub one-record : (s : List ℕ) {c : Contents} {q : ℕ} → aco s ≡ ok c q �
 one-record s {c} e l i h =
     ap (λ (r : List Entry). getD r i (unnamed black)) (one-list s e l .0) ∙ List·getD-map unnamed (rawColours (num 2 s 2) s 4) i black ∙ ap unnamed (getD-raw (num 2 s 2) s 4 i h)
 
+-- one list or two
+pub lists-are : (s : List ℕ) {c : Contents} {q : ℕ} → aco s ≡ ok c q → (1 ≤ c .lists) × (c .lists ≤ 2)
+lists-are s {c} {q} e = let i = aco-inv s e in go (i .0) (i .1) (i .3)
+  where
+    go : (cs : List Colour) (r : ℕ) → Then s cs r c q → (1 ≤ c .lists) × (c .lists ≤ 2)
+    go cs r (one end x z) = let w : 1 ≡ c .lists = ap (λ (y : Contents). y .lists) x in (omega arith, omega arith)
+    go cs r (two es y hd list end x z) = let w : 2 ≡ c .lists = ap (λ (y : Contents). y .lists) x in (omega arith, omega arith)
+
+-- two lists: list 2's records start behind its heading, and the last ends the file
+pub two-lists : (s : List ℕ) {c : Contents} {q : ℕ} → aco s ≡ ok c q → c .lists ≡ 2 → (8 + 10 * num 2 s 2 ≤ length s) × (entryPlace s (num 2 s 2) (num 2 s 2) ≡ length s)
+unfolding entryPlace
+two-lists s {c} {q} e l = let x = aco-inv s e in go (x .0) (x .1) (x .2) (x .3)
+  where
+    go : (cs : List Colour) (r : ℕ) → First s cs r → Then s cs r c q → (8 + 10 * num 2 s 2 ≤ length s) × (entryPlace s (num 2 s 2) (num 2 s 2) ≡ length s)
+    go cs r f (one end x z) = let w : 1 ≡ c .lists = ap (λ (y : Contents). y .lists) x in absurd (omega arith)
+    go cs r f (two es y hd list end x z) =
+        let n : ℕ = num 2 s 2 in
+        let start : r + 4 ≡ entryPlace s n 0 = omega (arith, f .end, f .count) in
+        let h = heading-inv 2 (λ n. pick (eqb n (length cs)) fine (fault 7 0 5)) s r hd in
+        let k : n ≡ 0 + length cs = omega (arith, f .count) in
+        (omega (arith, f .end, f .count, h .3), ap (entryPlace s n) k ∙ entries-end s cs n (unnamed black) (length cs) 0 {es = es} {q = y} (subst (λ (p : ℕ). each (length cs) 0 (λ k. entry k (getD cs k black)) s p ≡ ok es y) start list) ∙ end)
+
 -- record i of two lists: its colour stands in list 1 and again in list 2, and its name behind that
 pub record Placed (s : List ℕ) (i : ℕ) (e : Entry) : Type 0 where
   pub is : e .colour ≡ rawColour s (4 + 10 * i)
@@ -100,3 +128,22 @@ records-place s {c} {q} e l i h = let x = aco-inv s e in go (x .0) (x .1) (x .2)
 pub lists-agree : (s : List ℕ) {c : Contents} {q : ℕ} → aco s ≡ ok c q → c .lists ≡ 2
     → (i f : ℕ) → i < num 2 s 2 → f < 5 → num 2 s (4 + 10 * i + 2 * f) ≡ num 2 s (entryPlace s (num 2 s 2) i + 2 * f)
 lists-agree s e l i f h g = records-place s e l i h .twice f g
+
+-- ---- what a writer may write
+
+-- of swatches that fit their fields, the reader refuses what was written by the number of their first fault, and accepts it where they have none
+pub written-number : (ws : List Swatch) → length ws < 256 ^ 2 → All (λ k w. Fits w) 0 ws → numberOf (aco (twoLists ws)) ≡ pick (leb (length (twoLists ws)) limit) (paletteFault ws) 1
+unfolding aco
+written-number ws few fits = go (leb (length (twoLists ws)) limit)
+  where
+    go : (b : Bool) → numberOf (pick b (lists (twoLists ws) 0) (refuse 1 0 0 0)) ≡ pick b (paletteFault ws) 1
+    go true = outcome-number (lists (twoLists ws) 0) (paletteFault ws) (length (twoLists ws)) (lists-outcome (twoLists ws) (bytes-two ws) ws few fits (at-whole (twoLists ws)) refl)
+    go false = refl
+
+-- swatches that fit their fields and have no fault are written as a file of the grammar, so that they read back
+pub written-allowed : (ws : List Swatch) → All (λ k w. Fits w) 0 ws → paletteFault ws ≡ 0 → length (twoLists ws) ≤ limit → File 2 ws (twoLists ws)
+written-allowed ws fits none short = named (faultless-allowed ws fits none) short
+
+-- no palette of the grammar has a fault: what is refused is not allowed
+pub allowed-written : {ws : List Swatch} {b : List ℕ} → File 2 ws b → (paletteFault ws ≡ 0) × (b ≡ twoLists ws)
+allowed-written (named {ws} pal short) = (allowed-faultless ws pal, refl)

@@ -1,19 +1,19 @@
 -- A whole file: the grammar's bytes are read, and what was read is the grammar's bytes. Assumes nothing.
 use Prim.Native.Nat.{ℕ, zero, suc, _+_, _*_, _-_, _^_, _≤_, _<_}
-use mathlib.Core.Path.{_≡_, refl, sym, ap, ap₂, _∙_, subst, subst₂}
+use mathlib.Core.Path.{_≡_, refl, sym, ap, ap₂, _∙_, subst}
 use mathlib.Core.List.{List, [], _∷_, _++_, map, append-assoc}
-use mathlib.Core.Bool.{Bool, true, false}
+use mathlib.Core.Bool.{Bool}
 use lib.Dec.{leb, eqb}
 use lib.ListN.{length, getD, length-append, List·getD-map}
 use lib.Seq.{ext-getD}
 use borrow.Author.Tests.{le-leb, eq-eqb, ne-eqb}
 use native.Mathlib.Omega.{arith}
-use native.Mathlib.Nat.{add-zero, zero-add}
+use native.Mathlib.Nat.{zero-add}
 use Rattle.fields.specs.Numbers.{be, joined, At, Bytes, All}
-use Rattle.fields.specs.Reader.{Res, ok, Reader, then, pick, Judged, fine, fault, unless, each, ended}
+use Rattle.fields.specs.Reader.{ok, pick, Judged, fine, fault, unless, each, ended}
 use Rattle.fields.specs.Text.{Named, nameBytes}
-use Rattle.fields.proofs.Places.{length-be, joined-map, at-in, at-left, at-right, at-after, at-next, at-all, at-whole, bytes-append, bytes-be, bytes-joined}
-use Rattle.fields.proofs.Exact.{all-map, all-at, all-by, length-map, map-id, each-exact}
+use Rattle.fields.proofs.Places.{length-be, length-bes, joined-map, at-in, at-left, at-after, at-next, at-all, at-whole, bytes-append, bytes-be, bytes-joined}
+use Rattle.fields.proofs.Exact.{all-map, all-at, all-by, length-map, map-id, length-nameBytes, each-exact}
 use Rattle.colour.specs.declared.Colour.{Colour}
 use Rattle.aco.specs.Grammar.{Swatch, rgb, Allowed, Palette, File, plain, named, colourBytes, entryBytes, listOne, listTwo, twoLists}
 use Rattle.aco.specs.Reading.{most, colour, heading, Entry, entry, Contents, black, second, unnamed, after, lists, aco, swatch}
@@ -44,6 +44,35 @@ painted-at i (c ∷ cs) h (suc k) = painted-at (i + 1) cs (h .1) k
 
 pub hue-at : (ws : List Swatch) (k : ℕ) → getD (map hue ws) k black ≡ hue (getD ws k (label black []))
 hue-at ws k = List·getD-map hue ws k (label black [])
+
+-- ---- lengths
+
+pub length-colour : (w : Swatch) → length (w .samples) ≡ 4 → length (colourBytes w) ≡ 10
+unfolding colourBytes
+length-colour w four = omega (arith, length-append (be 2 (w .space)) (joined (be 2) (w .samples)), length-be 2 (w .space), length-bes 2 (w .samples))
+
+pub length-entry : (w : Swatch) → length (w .samples) ≡ 4 → length (entryBytes w) ≡ 16 + 2 * length (w .name)
+unfolding entryBytes
+length-entry w four = omega (arith, length-append (colourBytes w) (nameBytes 4 (w .name)), length-colour w four, length-nameBytes 4 (w .name))
+
+length-colours : (i : ℕ) (ws : List Swatch) → All (λ k w. length (w .samples) ≡ 4) i ws → length (joined colourBytes ws) ≡ 10 * length ws
+unfolding joined
+length-colours i [] h = refl
+length-colours i (w ∷ ws) h = omega (arith, length-append (colourBytes w) (joined colourBytes ws), length-colour w (h .0), length-colours (i + 1) ws (h .1))
+
+pub length-one : (ws : List Swatch) → All (λ k w. length (w .samples) ≡ 4) 0 ws → length (listOne ws) ≡ 4 + 10 * length ws
+unfolding listOne
+length-one ws h =
+    let n : List ℕ = be 2 (length ws) in
+    let l : List ℕ = joined colourBytes ws in
+    omega (arith, length-append (be 2 1) (n ++ l), length-append n l, length-be 2 1, length-be 2 (length ws), length-colours 0 ws h)
+
+pub length-two : (ws : List Swatch) → length (listTwo ws) ≡ 4 + length (joined entryBytes ws)
+unfolding listTwo
+length-two ws =
+    let n : List ℕ = be 2 (length ws) in
+    let l : List ℕ = joined entryBytes ws in
+    omega (arith, length-append (be 2 2) (n ++ l), length-append n l, length-be 2 2, length-be 2 (length ws))
 
 -- ---- what is written is bytes
 
@@ -115,18 +144,11 @@ module _ (s : List ℕ) (bytes : Bytes s) (ws : List Swatch) (pal : Palette ws) 
       omega (arith, length-append (be 2 2) (be 2 n ++ l), length-append (be 2 n) l, length-be 2 2, length-be 2 n) in
       (y .0, rw (x .0) (rw (y .1) (rw z (simp (eq-eqb (length s) (length s) refl)))), y .2)
 
-pub plain-reads : (ws : List Swatch) → Palette ws → All (λ k w. w .name ≡ []) 0 ws → length (listOne ws) ≤ 16777216 → aco (listOne ws) ≡ ok (record { lists = 1; records = map unnamed (map hue ws) }) (length (listOne ws))
+pub plain-reads : (ws : List Swatch) → Palette ws → length (listOne ws) ≤ 16777216 → aco (listOne ws) ≡ ok (record { lists = 1; records = map unnamed (map hue ws) }) (length (listOne ws))
 unfolding aco after
-plain-reads ws pal none short =
+plain-reads ws pal short =
     let s : List ℕ = listOne ws in
     simp (le-leb (length s) 16777216 short) (rw (first-reads s (bytes-one ws) ws pal (at-whole s)) (simp (eq-eqb (length s) (length s) refl)))
-
-pub two-long : (ws : List Swatch) → 4 ≤ length (listTwo ws)
-unfolding listTwo
-two-long ws =
-    let m : List ℕ = be 2 (length ws) in
-    let l : List ℕ = joined entryBytes ws in
-    omega (arith, length-append (be 2 2) (m ++ l), length-append m l, length-be 2 2, length-be 2 (length ws))
 
 pub named-reads : (ws : List Swatch) → Palette ws → length (twoLists ws) ≤ 16777216 → (es : List Entry) × (aco (twoLists ws) ≡ ok (record { lists = 2; records = es }) (length (twoLists ws))) × (map swatch es ≡ ws)
 unfolding aco after twoLists
@@ -137,7 +159,7 @@ named-reads ws pal short =
     let len : length s ≡ q + length (listTwo ws) = length-append (listOne ws) (listTwo ws) in
     let x = first-reads s (bytes-two ws) ws pal (at-left s 0 (listOne ws) (listTwo ws) h) in
     let y = second-reads s (bytes-two ws) ws pal q (at-after s 0 (listOne ws) (listTwo ws) q (zero-add q) h) (sym len) in
-    let ne : q ≡ length s → ⊥ = λ z. omega (arith, len, two-long ws) in
+    let ne : q ≡ length s → ⊥ = λ z. omega (arith, len, length-two ws) in
     (y .0, simp (le-leb (length s) 16777216 short) (rw x (simp (ne-eqb q (length s) ne) (y .1))), y .2)
 
 -- the swatches of colours without names

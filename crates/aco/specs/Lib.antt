@@ -1,5 +1,6 @@
 pub mod Grammar
 pub mod Reading
+pub mod Faults
 pub mod Raw
 pub mod Places
 pub mod Answer

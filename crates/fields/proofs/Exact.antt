@@ -3,18 +3,18 @@ use Prim.Native.Nat.{ℕ, zero, suc, _+_, _*_, _-_, _^_, _≤_, _<_}
 use mathlib.Core.Path.{_≡_, refl, sym, ap, ap₂, _∙_, subst}
 use mathlib.Core.List.{List, [], _∷_, _++_, map, append-nil}
 use mathlib.Core.Bool.{Bool, true, false}
-use lib.Dec.{leb, ltb, eqb}
+use lib.Dec.{ltb, eqb}
 use lib.ListN.{length, getD, length-append}
 use borrow.Author.Tests.{lt-ltb, ne-eqb, eqb-true, eqb-false}
 use native.Mathlib.Omega.{arith}
 use native.Mathlib.Nat.{add-zero}
 use Rattle.fields.specs.Numbers.{num, nums, be, joined, At, Bytes, All}
-use Rattle.fields.specs.Reader.{Res, Reader, ok, refuse, then, pick, rule, field, body, Judged, fine, fault, unless, judged, give, _>>=_, each, ended}
-use Rattle.fields.specs.Text.{Name, name, closed, front, isEmpty, nameBytes, Named}
+use Rattle.fields.specs.Reader.{Res, Reader, ok, then, pick, rule, body, Judged, fine, unless, judged, give, _>>=_, each}
+use Rattle.fields.specs.Text.{anyZero, text, Name, name, closed, front, nameBytes, Named}
 use Rattle.fields.specs.Algebra.{Exact}
 use Rattle.fields.proofs.Laws.{field-in, body-in, judged-ok}
-use Rattle.fields.proofs.Places.{length-be, length-nums, length-bes, joined-append, at-in, at-join, at-next, at-left, at-right, at-after, num-lt, num-be, be-num, nums-lt, nums-bes, bes-nums}
-use Rattle.fields.proofs.Inverse.{then-inv, judged-inv, body-inv, name-inv, each-none, each-inv, ok-value, ok-place}
+use Rattle.fields.proofs.Places.{length-be, length-nums, length-bes, joined-append, at-in, at-next, at-left, at-right, at-after, num-lt, num-be, be-num, nums-lt, nums-bes, bes-nums}
+use Rattle.fields.proofs.Inverse.{then-inv, judged-inv, body-inv, name-inv, text-inv, each-none, each-inv, ok-value, ok-place}
 
 -- ---- values of a list
 
@@ -197,6 +197,21 @@ module _ {A B : Type 0} {s : List ℕ} {p : ℕ → Reader A} {view : A → B} {
 
 -- ---- names
 
+-- no unit is zero
+pub any-none : (us : List ℕ) (i : ℕ) → anyZero us ≡ false → All (λ k u. 0 < u) i us
+unfolding anyZero
+any-none [] i e = tt
+any-none (u ∷ us) i e = let x = either (eqb u 0) (anyZero us) e in let ne = eqb-false u 0 (x .0) in (omega arith, any-none us (i + 1) (x .1))
+  where
+    either : (b c : Bool) → pick b true c ≡ false → (b ≡ false) × (c ≡ false)
+    either true c z = let y : _≡_ {A = ℕ} 0 1 = cc in absurd (omega arith)
+    either false c z = (refl, z)
+
+pub none-any : (us : List ℕ) (i : ℕ) → All (λ k u. 0 < u) i us → anyZero us ≡ false
+unfolding anyZero
+none-any [] i h = refl
+none-any (u ∷ us) i h = simp (ne-eqb u 0 (λ z. omega (arith, h .0))) (none-any us (i + 1) (h .1))
+
 -- units none of which is zero, and then a zero
 pub closed-snoc : (us : List ℕ) (i : ℕ) → All (λ k u. 0 < u) i us → closed (us ++ (0 ∷ [])) ≡ true
 unfolding closed
@@ -301,3 +316,24 @@ module _ (s : List ℕ) (w : ℕ) where
     -- a name with a count of w bytes
     pub name-exact : Exact s (name w) (λ nm. nm .units) (Named w) (nameBytes w)
     name-exact = record { reads = name-reads; writes = name-writes }
+
+-- ---- units without a count
+
+module _ (s : List ℕ) (bytes : Bytes s) (n : ℕ) where
+  text-reads : (at : ℕ) (us : List ℕ) → (length us ≡ n) × All (λ k u. (0 < u) × (u < 256 ^ 2)) 0 us → At s at (joined (be 2) us) → (a : List ℕ) × (text n s at ≡ ok a (at + length (joined (be 2) us))) × (a ≡ us)
+  unfolding text
+  text-reads at us fit h =
+      let small : All (λ k u. u < 256 ^ 2) 0 us = all-map (λ k u. (0 < u) × (u < 256 ^ 2)) (λ k u. u < 256 ^ 2) (λ k u g. g .1) 0 us (fit .1) in
+      let big : All (λ k u. 0 < u) 0 us = all-map (λ k u. (0 < u) × (u < 256 ^ 2)) (λ k u. 0 < u) (λ k u g. g .0) 0 us (fit .1) in
+      let x = body-exact s bytes 2 n .reads at us (fit .0, small) h in
+      (us, rw (x .1) (rw (x .2) (rw (none-any us 0 big))), refl)
+
+  text-writes : (at : ℕ) → at ≤ length s → (us : List ℕ) (q : ℕ) → text n s at ≡ ok us q → ((length us ≡ n) × All (λ k u. (0 < u) × (u < 256 ^ 2)) 0 us) × At s at (joined (be 2) us) × (at + length (joined (be 2) us) ≡ q)
+  text-writes at le us q e =
+      let i = text-inv n s at e in
+      let x = body-exact s bytes 2 n .writes at le us q (i .0) in
+      ((x .0 .0, all-both (λ k u. 0 < u) (λ k u. u < 256 ^ 2) 0 us (any-none us 0 (i .1)) (x .0 .1)), x .1, x .2)
+
+  -- n units, none of them zero
+  pub text-exact : Exact s (text n) (λ us. us) (λ us. (length us ≡ n) × All (λ k u. (0 < u) × (u < 256 ^ 2)) 0 us) (joined (be 2))
+  text-exact = record { reads = text-reads; writes = text-writes }

@@ -2,15 +2,15 @@
 use Prim.Native.Nat.{ℕ, zero, suc, _+_, _*_, _-_, _≤_, _<_}
 use mathlib.Core.Path.{_≡_, refl, sym, ap, ap₂, _∙_}
 use mathlib.Core.List.{List, [], _∷_}
-use mathlib.Core.Bool.{Bool, true, false}
+use mathlib.Core.Bool.{Bool, true, false, not}
 use lib.Dec.{leb, ltb, eqb}
 use lib.ListN.{length, getD}
-use borrow.Author.Tests.{leb-true, ltb-true, eqb-true}
+use borrow.Author.Tests.{leb-true, ltb-true, eqb-true, not-true}
 use native.Mathlib.Omega.{arith}
 use native.Mathlib.Nat.{add-zero, zero-mul, suc-mul, mul-suc, mul-zero}
 use Rattle.fields.specs.Numbers.{num, nums}
-use Rattle.fields.specs.Reader.{Res, Reader, ok, refuse, then, pick, field, body, rule, Judged, fine, fault, unless, judged, each, ended, done, numberOf}
-use Rattle.fields.specs.Text.{Name, name, closed, front}
+use Rattle.fields.specs.Reader.{Res, Reader, ok, refuse, then, pick, field, body, rule, Judged, fine, fault, unless, judged, each, ended, done}
+use Rattle.fields.specs.Text.{Name, name, text, anyZero, closed, front}
 
 -- a refusal accepts nothing
 pub clash : {A : Type 0} {X : Type 0} {a : A} {q x p r f : ℕ} → refuse x p r f ≡ ok a q → X
@@ -101,6 +101,14 @@ name-inv w s at {nm} {q} e =
     let u = then-inv (body 2 (t .0) s (t .1)) _ (t .3) in
     let b = body-inv 2 s (t .1) (t .0) (u .2) in
     (t .0, name-parts w s at (t .0) nm q (t .1) (u .1) (u .0) f b (rule-inv (unless (closed (u .0)) 8) at _ (u .3)))
+
+-- units without a count: they are there, and none of them is zero
+pub text-inv : (n : ℕ) (s : List ℕ) (at : ℕ) {us : List ℕ} {q : ℕ} → text n s at ≡ ok us q → (body 2 n s at ≡ ok us q) × (anyZero us ≡ false)
+unfolding text
+text-inv n s at e =
+    let t = then-inv (body 2 n s at) _ e in
+    let r = rule-inv (unless (not (anyZero (t .0))) 8) at (ok (t .0) (t .1)) (t .3) in
+    (t .2 ∙ r .1, ap anyZero (sym (ok-value (r .1))) ∙ not-true (anyZero (t .0)) (unless-fine (not (anyZero (t .0))) 8 (r .0)))
 
 -- all but the last of a row of numbers
 pub front-nums : (w n : ℕ) (s : List ℕ) (at : ℕ) → front (nums w (suc n) s at) ≡ nums w n s at

@@ -1,19 +1,19 @@
 -- A reader that accepts moves forward and stays inside, and depends only on the bytes that it passed: each combinator. Assumes nothing.
-use Prim.Native.Nat.{ℕ, zero, suc, _+_, _*_, _-_, _≤_, _<_}
-use mathlib.Core.Path.{_≡_, refl, sym, ap, ap₂, _∙_}
-use mathlib.Core.List.{List, [], _∷_}
-use mathlib.Core.Bool.{Bool, true, false}
-use lib.Dec.{leb, ltb}
-use lib.ListN.{length, getD}
+use Prim.Native.Nat.{ℕ, zero, suc, _+_, _*_, _-_, _≤_}
+use mathlib.Core.Path.{_≡_, sym, ap, ap₂, _∙_}
+use mathlib.Core.List.{List}
+use mathlib.Core.Bool.{Bool}
+use lib.Dec.{ltb}
+use lib.ListN.{length}
 use borrow.Author.Tests.{lt-ltb}
 use native.Mathlib.Omega.{arith}
 use Rattle.fields.specs.Numbers.{num, nums}
-use Rattle.fields.specs.Reader.{Res, Reader, ok, refuse, then, rule, field, body, Judged, fine, fault, unless, judged, give, _>>=_, each, ended}
-use Rattle.fields.specs.Text.{Name, name, closed, front}
+use Rattle.fields.specs.Reader.{Reader, ok, body, Judged, unless, judged, give, _>>=_, each, ended}
+use Rattle.fields.specs.Text.{Name, name, text}
 use Rattle.fields.specs.Algebra.{Same, Lawful}
 use Rattle.fields.proofs.Laws.{field-in, body-in, judged-ok}
 use Rattle.fields.proofs.Places.{num-cong, nums-cong}
-use Rattle.fields.proofs.Inverse.{then-inv, judged-inv, body-inv, name-inv, ended-inv, each-none, each-inv, ok-value, ok-place}
+use Rattle.fields.proofs.Inverse.{then-inv, judged-inv, body-inv, name-inv, text-inv, ended-inv, each-none, each-inv, ok-place}
 
 -- ---- a part of what is the same
 
@@ -67,6 +67,18 @@ pub name-lawful : (w : ℕ) → Lawful (name w)
 name-lawful w = record {
   moves = λ s at le a q e. let i = name-inv w s at e in (omega (arith, i .1 .end), omega (arith, i .1 .end, i .1 .inside, i .1 .room));
   local = name-local w;
+}
+
+text-local : (n : ℕ) (s : List ℕ) (at : ℕ) → at ≤ length s → (us : List ℕ) (q : ℕ) → text n s at ≡ ok us q → (t : List ℕ) → Same s t at q → text n t at ≡ ok us q
+unfolding text
+text-local n s at le us q e t same =
+    let i = text-inv n s at e in
+    rw (body-lawful 2 n .local s at le us q (i .0) t same) (rw (i .1))
+
+pub text-lawful : (n : ℕ) → Lawful (text n)
+text-lawful n = record {
+  moves = λ s at le a q e. body-lawful 2 n .moves s at le a q (text-inv n s at e .0);
+  local = text-local n;
 }
 
 -- ---- sequence

@@ -1,5 +1,5 @@
 -- Of bytes that were written, a reader's number is the value's own fault: each combinator. Assumes nothing.
-use Prim.Native.Nat.{ℕ, zero, suc, _+_, _*_, _-_, _^_, _≤_, _<_}
+use Prim.Native.Nat.{ℕ, zero, suc, _+_, _-_, _^_, _<_}
 use mathlib.Core.Path.{_≡_, refl, sym, ap, ap₂, _∙_, subst}
 use mathlib.Core.List.{List, [], _∷_, _++_, map}
 use mathlib.Core.Bool.{Bool, true, false, not}
@@ -8,14 +8,14 @@ use lib.ListN.{length, length-append}
 use borrow.Author.Tests.{eq-eqb, ne-eqb}
 use native.Mathlib.Omega.{arith}
 use native.Mathlib.Nat.{add-zero}
-use Rattle.fields.specs.Numbers.{num, be, joined, At, All}
+use Rattle.fields.specs.Numbers.{be, joined, At, All}
 use Rattle.fields.specs.Reader.{Res, Reader, ok, refuse, then, pick, rule, Judged, fine, fault, unless, judged, give, _>>=_, each, numberOf}
 use Rattle.fields.specs.Text.{Name, name, closed, anyZero, isEmpty, nameBytes}
 use Rattle.fields.specs.Faults.{firstOf, faults, faultsFrom, found}
 use Rattle.fields.specs.Algebra.{Exact, Tells}
 use Rattle.fields.proofs.Laws.{field-in}
 use Rattle.fields.proofs.Places.{length-be, at-in, at-left, at-right, num-be}
-use Rattle.fields.proofs.Inverse.{clash, ok-value, ok-place, judged-inv, then-inv, rule-inv, each-none, each-inv}
+use Rattle.fields.proofs.Inverse.{clash, ok-value, ok-place, judged-inv, rule-inv, each-none, each-inv}
 use Rattle.fields.proofs.Exact.{name-passes}
 
 -- ---- the first of two faults
@@ -29,6 +29,25 @@ first-some a b h = rw (ne-eqb a 0 (λ z. omega arith))
 pub first-zero : (a : ℕ) → firstOf a 0 ≡ a
 first-zero zero = refl
 first-zero (suc a) = first-some (suc a) 0 (omega arith)
+
+-- there is none where neither has one, or no value of a list
+pub first-inv : (a b : ℕ) → firstOf a b ≡ 0 → (a ≡ 0) × (b ≡ 0)
+first-inv zero b e = (refl, e)
+first-inv (suc a) b e = absurd (omega (arith, first-some (suc a) b (omega arith)))
+
+pub pick-none : (b : Bool) (n : ℕ) → 0 < n → pick b 0 n ≡ 0 → b ≡ true
+pick-none true n h e = refl
+pick-none false n h e = absurd (omega arith)
+
+pub faults-inv : {A : Type 0} (f : ℕ → A → ℕ) (i : ℕ) (l : List A) → faultsFrom f i l ≡ 0 → All (λ k a. f k a ≡ 0) i l
+unfolding faultsFrom
+faults-inv f i [] e = tt
+faults-inv f i (a ∷ l) e = let x = first-inv (f i a) (faultsFrom f (i + 1) l) e in (x .0, faults-inv f (i + 1) l (x .1))
+
+pub faults-none : {A : Type 0} (f : ℕ → A → ℕ) (i : ℕ) (l : List A) → All (λ k a. f k a ≡ 0) i l → faultsFrom f i l ≡ 0
+unfolding faultsFrom
+faults-none f i [] h = refl
+faults-none f i (a ∷ l) h = first-none (f i a) (faultsFrom f (i + 1) l) (h .0) ∙ faults-none f (i + 1) l (h .1)
 
 pub faults-map : {A B : Type 0} (f : B → ℕ) (g : A → B) (l : List A) → faults f (map g l) ≡ faults (λ a. f (g a)) l
 unfolding faults

@@ -1,0 +1,43 @@
+-- The first fault of swatches that are written, by its number of the refusal table; 0 is none.
+use Prim.Native.Nat.{ℕ, _+_, _^_, _<_}
+use mathlib.Core.Path.{_≡_}
+use mathlib.Core.List.{List}
+use lib.Dec.{leb}
+use lib.ListN.{length}
+use Rattle.fields.specs.Numbers.{All}
+use Rattle.fields.specs.Reader.{pick}
+use Rattle.fields.specs.Text.{anyZero}
+use Rattle.fields.specs.Faults.{firstOf, faults, faultsFrom}
+use Rattle.colour.specs.Spaces.{known, allowed}
+use Rattle.aco.specs.Grammar.{Swatch}
+
+-- an unknown space is 4
+abbrev pub spaceFault : ℕ → ℕ
+spaceFault x = pick (known x) 0 4
+
+-- sample k of a colour of the space x: a value that is not allowed is 5
+abbrev pub sampleFault : ℕ → ℕ → ℕ → ℕ
+sampleFault x k v = pick (allowed x k v) 0 5
+
+-- a colour's fields in their order
+unfoldable pub fieldsFault : ℕ → List ℕ → ℕ
+fieldsFault x vs = firstOf (spaceFault x) (faultsFrom (sampleFault x) 0 vs)
+
+abbrev pub colourFault : Swatch → ℕ
+colourFault w = fieldsFault (w .space) (w .samples)
+
+-- a name with a zero unit is 8
+abbrev pub nameFault : Swatch → ℕ
+nameFault w = pick (anyZero (w .name)) 8 0
+
+-- a palette: too many colours are 5, then its colours, then its names
+unfoldable pub paletteFault : List Swatch → ℕ
+paletteFault ws = firstOf (pick (leb (length ws) 4096) 0 5) (firstOf (faults colourFault ws) (faults nameFault ws))
+
+-- a swatch whose numbers fit their fields, whether or not they are allowed
+pub record Fits (w : Swatch) : Type 0 where
+  pub small : w .space < 256 ^ 2
+  pub four : length (w .samples) ≡ 4
+  pub each-small : All (λ k v. v < 256 ^ 2) 0 (w .samples)
+  pub counted : length (w .name) + 1 < 256 ^ 4
+  pub units : All (λ k u. u < 256 ^ 2) 0 (w .name)
