@@ -1,0 +1,142 @@
+-- Filling a table with the records of an accepted file, on plain values. Assumes nothing.
+use Prim.Native.Nat.{ℕ, zero, suc, _+_, _*_, _-_, _≤_, _<_}
+use mathlib.Core.Path.{_≡_, refl, sym, ap, ap₂, _∙_, subst}
+use mathlib.Core.List.{List, [], _∷_, _++_}
+use mathlib.Core.Bool.{Bool, true, false}
+use lib.ListN.{length, getD, take, drop, length-append, drop-of-length-le}
+use lib.Seq.{sets, sets-eq, drop-cons, length-sets}
+use lib.Dec.{leb, ltb}
+use borrow.Author.Tests.{le-leb, lt-leb, leb-true, lt-ltb, le-ltb}
+use native.Mathlib.Omega.{arith}
+use native.Mathlib.Numerals.{add-one}
+use Rattle.fields.specs.Numbers.{num, nums, joined}
+use Rattle.fields.specs.Reader.{Res, ok, refuse, pick, field, orZero, limit}
+use Rattle.fields.proofs.Laws.{field-in}
+use Rattle.fields.proofs.Places.{length-nums}
+use Rattle.fields.proofs.Inverse.{pick-inv}
+use Rattle.fields.proofs.Stores.{sets-append}
+use Rattle.colour.specs.declared.Colour.{Colour}
+use Rattle.aco.specs.Reading.{Entry, Contents, black, unnamed, lists, aco}
+use Rattle.aco.specs.Raw.{rawColour}
+use Rattle.aco.specs.Places.{entryPlace}
+use Rattle.aco.specs.Answer.{Verdict, accepted, refused, verdict}
+use Rattle.aco.proofs.Inverse.{aco-inv}
+use Rattle.aco.proofs.RoundTrip.{records-count, one-list, one-record, Placed, records-place}
+use Rattle.aco_read.specs.Table.{row, numbers, width, filled, Where, lies, refusal, swatchOf, recordAt, recordsOf, Accepted}
+
+-- ---- a number and a colour as they are loaded
+
+pub load : (w : ℕ) (s : List ℕ) (at v : ℕ) → at + w ≤ length s → 0 < w → v ≡ orZero (field w s at) → v ≡ num w s at
+load w s at v h z e = e ∙ ap orZero (field-in w s at (omega arith))
+
+pub five : (s : List ℕ) (at x a b c d : ℕ) → x ≡ num 2 s at → a ≡ num 2 s (at + 2) → b ≡ num 2 s (at + 4) → c ≡ num 2 s (at + 6) → d ≡ num 2 s (at + 8)
+    → record { space = x; samples = a ∷ b ∷ c ∷ d ∷ [] } ≡ rawColour s at
+unfolding nums
+five s at x a b c d ex ea eb ec ed =
+    let p4 : at + 4 ≡ at + 2 + 2 = omega arith in
+    let p6 : at + 6 ≡ at + 2 + 2 + 2 = omega arith in
+    let p8 : at + 8 ≡ at + 2 + 2 + 2 + 2 = omega arith in
+    rw (ex, ea, eb ∙ ap (num 2 s) p4, ec ∙ ap (num 2 s) p6, ed ∙ ap (num 2 s) p8)
+
+-- ---- the records of an accepted file
+
+-- no record of list 2 stands before its heading's end
+entry-low : (s : List ℕ) (n i : ℕ) → 8 + 10 * n ≤ entryPlace s n i
+unfolding entryPlace
+entry-low s n zero = omega arith
+entry-low s n (suc i) = omega (arith, entry-low s n i)
+
+pub entry-next : (s : List ℕ) (n i : ℕ) → entryPlace s n (i + 1) ≡ entryPlace s n i + 14 + 2 * num 4 s (entryPlace s n i + 10)
+unfolding entryPlace
+entry-next s n i = ap (entryPlace s n) (add-one i)
+
+pub entry-first : (s : List ℕ) (n : ℕ) → entryPlace s n 0 ≡ 8 + 10 * n
+unfolding entryPlace
+entry-first s n = refl
+
+module _ (s : List ℕ) (l n : ℕ) (a : Accepted (aco s) l n) where
+  pub records-are : recordsOf (aco s) ≡ a .0 .records
+  records-are = ap recordsOf (a .2)
+
+  count-is : n ≡ num 2 s 2
+  count-is = sym (a .4) ∙ records-count s (a .2)
+
+  pub small : length s ≤ limit
+  small = aco-inv s (a .2) .2 .short
+
+  pub count-small : n ≤ 4096
+  count-small = let f = aco-inv s (a .2) .2 in omega (arith, count-is, f .count, f .few)
+
+  pub length-records : length (recordsOf (aco s)) ≡ n
+  length-records = ap length records-are ∙ a .4
+
+  -- a file of one list
+  module _ (one : l ≡ 1) (i : ℕ) (h : i < n) where
+    pub plain-in : 4 + 10 * i + 10 ≤ length s
+    plain-in = omega (arith, one-list s (a .2) (a .3 ∙ one) .1, count-is)
+
+    pub plain-swatch : swatchOf (getD (a .0 .records) i (unnamed black)) ≡ (rawColour s (4 + 10 * i), lies 0 0)
+    plain-swatch = ap swatchOf (one-record s (a .2) (a .3 ∙ one) i (omega (arith, count-is)))
+
+    pub plain-row : row (getD (recordsOf (aco s)) i (unnamed black)) ≡ numbers (rawColour s (4 + 10 * i)) 0 0
+    unfolding nums
+    plain-row = ap (λ (rs : List Entry). row (getD rs i (unnamed black))) records-are ∙ ap row (one-record s (a .2) (a .3 ∙ one) i (omega (arith, count-is)))
+
+  -- a file of two lists
+  module _ (two : l ≡ 2) (i : ℕ) (h : i < n) where
+    placed : Placed s i (getD (a .0 .records) i (unnamed black))
+    placed = records-place s (a .2) (a .3 ∙ two) i (omega (arith, count-is))
+
+    at-place : entryPlace s (num 2 s 2) i ≡ entryPlace s n i
+    at-place = ap (λ (k : ℕ). entryPlace s k i) (sym count-is)
+
+    pub named-in : entryPlace s n i + 14 + 2 * num 4 s (entryPlace s n i + 10) ≤ length s
+    named-in = subst (λ (p : ℕ). p + 14 + 2 * num 4 s (p + 10) ≤ length s) at-place (placed .inside)
+
+    pub named-some : 0 < num 4 s (entryPlace s n i + 10)
+    named-some = subst (λ (p : ℕ). 0 < num 4 s (p + 10)) at-place (placed .some)
+
+    pub named-colour : 4 + 10 * i + 10 ≤ length s
+    named-colour = omega (arith, entry-low s n i, named-in)
+
+    pub named-swatch : swatchOf (getD (a .0 .records) i (unnamed black)) ≡ (rawColour s (4 + 10 * i), lies (entryPlace s n i + 14) (num 4 s (entryPlace s n i + 10) - 1))
+    named-swatch =
+        ap₂ (λ (c : Colour) (w : Where). (c, w)) (placed .is)
+        (ap₂ (λ (p u : ℕ). lies p u) (placed .first ∙ ap (λ (p : ℕ). p + 14) at-place) (placed .count ∙ ap (λ (p : ℕ). num 4 s (p + 10) - 1) at-place))
+
+    pub named-row : row (getD (recordsOf (aco s)) i (unnamed black))
+        ≡ numbers (rawColour s (4 + 10 * i)) (entryPlace s n i + 14) (num 4 s (entryPlace s n i + 10) - 1)
+    unfolding nums
+    named-row =
+        ap (λ (rs : List Entry). row (getD rs i (unnamed black))) records-are ∙ ap inOrder named-swatch
+      where
+        placeOf : Where → ℕ
+        placeOf (lies p u) = p
+        placeOf (refusal x p r f) = 0
+
+        unitsOf : Where → ℕ
+        unitsOf (lies p u) = u
+        unitsOf (refusal x p r f) = 0
+
+        inOrder : Colour × Where → List ℕ
+        inOrder w = w .0 .space ∷ (w .0 .samples ++ (placeOf (w .1) ∷ unitsOf (w .1) ∷ []))
+
+pub numbers-same : {c k : Colour} {p q u v : ℕ} → c ≡ k → p ≡ q → u ≡ v → numbers c p u ≡ numbers k q v
+numbers-same {k = k} {q = q} {v = v} e f g = rw (e, f, g)
+
+-- ---- a turn of the loop that stores rows: what is left to store, stored over what there is, is the whole
+
+module _ (rs : List Entry) (d : Entry) (all t : List ℕ) (i : ℕ) (inv : all ≡ sets t (7 * i) (joined row (drop i rs))) where
+  pub fill-turn : i < length rs → (t′ xs : List ℕ) → row (getD rs i d) ≡ xs → length xs ≡ 7 → t′ ≡ sets t (7 * i) xs → all ≡ sets t′ (7 * (i + 1)) (joined row (drop (i + 1) rs))
+  unfolding joined
+  fill-turn h t′ xs e seven w =
+      let p : 7 * i + length xs ≡ 7 * (i + 1) = omega arith in
+      inv ∙ ap (λ (l : List Entry). sets t (7 * i) (joined row l)) (drop-cons rs i d h)
+      ∙ ap (λ (l : List ℕ). sets t (7 * i) (l ++ joined row (drop (suc i) rs))) e
+      ∙ sets-append xs (joined row (drop (suc i) rs)) t (7 * i)
+      ∙ ap₂ (λ (k m : ℕ). sets (sets t (7 * i) xs) k (joined row (drop m rs))) p (sym (add-one i))
+      ∙ ap (λ (o : List ℕ). sets o (7 * (i + 1)) (joined row (drop (i + 1) rs))) (sym w)
+
+  pub fill-end : length rs ≤ i → all ≡ t
+  unfolding joined
+  fill-end h = inv ∙ ap (λ (l : List Entry). sets t (7 * i) (joined row l)) (drop-of-length-le rs h)

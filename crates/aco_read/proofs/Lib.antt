@@ -1,0 +1,3 @@
+-- The laws of filling a table.
+pub mod Filling
+pub mod Answers

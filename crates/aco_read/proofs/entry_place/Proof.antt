@@ -1,0 +1,153 @@
+use mathlib.Core.Path.{_≡_, refl, sym, ap, _∙_}
+use native.Mathlib.Omega.{arith}
+use borrow.Author.Needs.{needs}
+use Prim.Native.Nat.{ℕ, _+_, _-_, _*_, _≤_, _<_}
+use Rattle.fields.specs.Reader.{field, orZero}
+use Rattle.aco.specs.Places.{entryPlace}
+use Rattle.aco_read.proofs.Filling.{named-in, named-some, small, count-small, entry-first, entry-next, load}
+use Rattle.aco_read.proofs.entry_place.Statement.{statement}
+use Rattle.aco_read.proofs.entry_place.Tie as tie
+use Rattle.aco_read.proofs.entry_place.Reads as reads
+use Rattle.aco_read.proofs.entry_place.Lts as lts
+use Rattle.fields.proofs.u32_or_zero.Reads as u32-or-zero-reads
+
+abbrev Inv-loop : tie.InvT-loop
+Inv-loop file n i k₀ p₀ k p = (k ≤ i) × (p ≡ entryPlace file n k)
+
+abbrev μ-loop : tie.MeasureT-loop
+μ-loop file n i k₀ p₀ k p = i - k
+
+-- src/lib.rt:133:21
+mul-p : tie.Need-mul-p Inv-loop μ-loop
+mul-p c = let st = c .before in let few = count-small (st .args .file .now) 2 (st .args .n) (st .pre .0) in omega arith
+
+-- src/lib.rt:133:17
+add-p : tie.Need-add-p Inv-loop μ-loop
+add-p c = let st = c .before in let few = count-small (st .args .file .now) 2 (st .args .n) (st .pre .0) in omega arith
+
+-- src/lib.rt:134:5
+loop-holds : tie.Need-loop-holds Inv-loop μ-loop
+loop-holds c = (omega arith, sym (entry-first _ _))
+
+-- src/lib.rt:135:47
+add-u32-or-zero : tie.Need-add-u32-or-zero Inv-loop μ-loop
+add-u32-or-zero c =
+    let tn = c in
+    let l = tn .before .loop in
+    let st = tn .before .before .before in
+    let a = st .args in
+    let s = a .file .now in
+    let inside = named-in s 2 (a .n) (st .pre .0) refl (l .k) (omega (arith, tn .loop-test .taken, st .pre .1)) in
+    let short = small s 2 (a .n) (st .pre .0) in
+    omega arith
+
+-- src/lib.rt:135:13
+u32-or-zero-requires : tie.Need-u32-or-zero-requires Inv-loop μ-loop
+u32-or-zero-requires c κs = search needs
+
+-- src/lib.rt:136:24
+cast-p : tie.Need-cast-p Inv-loop μ-loop
+cast-p c =
+    let u = c in
+    let tn = u .before in
+    let l = tn .before .loop in
+    let st = tn .before .before .before in
+    let a = st .args in
+    let s = a .file .now in
+    let inside = named-in s 2 (a .n) (st .pre .0) refl (l .k) (omega (arith, tn .loop-test .taken, st .pre .1)) in
+    let short = small s 2 (a .n) (st .pre .0) in
+    let some = named-some s 2 (a .n) (st .pre .0) refl (l .k) (omega (arith, tn .loop-test .taken, st .pre .1)) in
+    let count = load 4 s (entryPlace s (a .n) (l .k) + 10) _ (omega arith) (omega arith) (u .u32-or-zero .ensures ∙ ap (λ (k : ℕ). orZero (field 4 s (k + 10))) (l .inv .1)) in
+    omega arith
+
+-- src/lib.rt:136:19
+mul-p-2 : tie.Need-mul-p-2 Inv-loop μ-loop
+mul-p-2 c =
+    let u = c in
+    let tn = u .before in
+    let l = tn .before .loop in
+    let st = tn .before .before .before in
+    let a = st .args in
+    let s = a .file .now in
+    let inside = named-in s 2 (a .n) (st .pre .0) refl (l .k) (omega (arith, tn .loop-test .taken, st .pre .1)) in
+    let short = small s 2 (a .n) (st .pre .0) in
+    let some = named-some s 2 (a .n) (st .pre .0) refl (l .k) (omega (arith, tn .loop-test .taken, st .pre .1)) in
+    let count = load 4 s (entryPlace s (a .n) (l .k) + 10) _ (omega arith) (omega arith) (u .u32-or-zero .ensures ∙ ap (λ (k : ℕ). orZero (field 4 s (k + 10))) (l .inv .1)) in
+    omega arith
+
+-- src/lib.rt:136:14
+add-p-2 : tie.Need-add-p-2 Inv-loop μ-loop
+add-p-2 c =
+    let u = c in
+    let tn = u .before in
+    let l = tn .before .loop in
+    let st = tn .before .before .before in
+    let a = st .args in
+    let s = a .file .now in
+    let inside = named-in s 2 (a .n) (st .pre .0) refl (l .k) (omega (arith, tn .loop-test .taken, st .pre .1)) in
+    let short = small s 2 (a .n) (st .pre .0) in
+    let some = named-some s 2 (a .n) (st .pre .0) refl (l .k) (omega (arith, tn .loop-test .taken, st .pre .1)) in
+    let count = load 4 s (entryPlace s (a .n) (l .k) + 10) _ (omega arith) (omega arith) (u .u32-or-zero .ensures ∙ ap (λ (k : ℕ). orZero (field 4 s (k + 10))) (l .inv .1)) in
+    omega arith
+
+-- src/lib.rt:136:9
+add-p-3 : tie.Need-add-p-3 Inv-loop μ-loop
+add-p-3 c =
+    let u = c in
+    let tn = u .before in
+    let l = tn .before .loop in
+    let st = tn .before .before .before in
+    let a = st .args in
+    let s = a .file .now in
+    let inside = named-in s 2 (a .n) (st .pre .0) refl (l .k) (omega (arith, tn .loop-test .taken, st .pre .1)) in
+    let short = small s 2 (a .n) (st .pre .0) in
+    let some = named-some s 2 (a .n) (st .pre .0) refl (l .k) (omega (arith, tn .loop-test .taken, st .pre .1)) in
+    let count = load 4 s (entryPlace s (a .n) (l .k) + 10) _ (omega arith) (omega arith) (u .u32-or-zero .ensures ∙ ap (λ (k : ℕ). orZero (field 4 s (k + 10))) (l .inv .1)) in
+    omega arith
+
+-- src/lib.rt:137:9
+add-k : tie.Need-add-k Inv-loop μ-loop
+add-k c = search needs
+
+-- src/lib.rt:134:5
+loop-less : tie.Need-loop-less Inv-loop μ-loop
+loop-less c = search needs
+
+-- src/lib.rt:134:5
+loop-again : tie.Need-loop-again Inv-loop μ-loop
+loop-again c =
+    let u = c in
+    let tn = u .before in
+    let l = tn .before .loop in
+    let st = tn .before .before .before in
+    let a = st .args in
+    let s = a .file .now in
+    let inside = named-in s 2 (a .n) (st .pre .0) refl (l .k) (omega (arith, tn .loop-test .taken, st .pre .1)) in
+    let short = small s 2 (a .n) (st .pre .0) in
+    let some = named-some s 2 (a .n) (st .pre .0) refl (l .k) (omega (arith, tn .loop-test .taken, st .pre .1)) in
+    let count = load 4 s (entryPlace s (a .n) (l .k) + 10) _ (omega arith) (omega arith) (u .u32-or-zero .ensures ∙ ap (λ (k : ℕ). orZero (field 4 s (k + 10))) (l .inv .1)) in
+    (omega arith, omega (arith, entry-next s (a .n) (l .k), l .inv .1, count))
+
+-- src/lib.rt:128:1
+returns : tie.Need-returns Inv-loop μ-loop
+returns c = let l = c .before .loop in let e : l .k ≡ c .before .before .before .args .i = omega arith in l .inv .1 ∙ ap (entryPlace _ _) e
+
+pub entry-place-spec : {M : Type 1} → statement M
+entry-place-spec =
+    tie.close
+    (tie.spec
+    Inv-loop
+    μ-loop
+    mul-p
+    add-p
+    loop-holds
+    add-u32-or-zero
+    u32-or-zero-requires
+    cast-p
+    mul-p-2
+    add-p-2
+    add-p-3
+    add-k
+    loop-less
+    loop-again
+    returns)

@@ -1,0 +1,263 @@
+use Rattle.fields.specs.Reader.{field, orZero}
+use mathlib.Core.Path.{_≡_, refl, sym, ap, _∙_}
+use native.Mathlib.Omega.{arith}
+use borrow.Author.Needs.{needs}
+use Prim.Native.Nat.{ℕ, _+_, _-_, _*_, _≤_, _<_}
+use lib.ListN.{length, drop}
+use lib.Seq.{sets}
+use Rattle.fields.specs.Numbers.{num, joined}
+use Rattle.aco.specs.Reading.{aco, unnamed, black}
+use Rattle.aco.specs.Places.{entryPlace}
+use Rattle.aco.specs.Raw.{rawColour}
+use Rattle.colour.specs.declared.Colour.{Colour}
+use Rattle.aco_read.specs.Table.{row, numbers, recordsOf}
+use Rattle.aco_read.proofs.Filling.{named-in, named-some, named-colour, named-row, small, count-small, entry-first, entry-next, length-records, load, fill-turn, fill-end, numbers-same}
+use Rattle.aco_read.proofs.fill_named.Statement.{statement}
+use Rattle.aco_read.proofs.fill_named.Tie as tie
+use Rattle.aco_read.proofs.fill_named.Reads as reads
+use Rattle.aco_read.proofs.fill_named.Lts as lts
+use Rattle.aco_read.proofs.colour_at.Reads as colour-at-reads
+use Rattle.aco_read.proofs.put_row.Reads as put-row-reads
+use Rattle.fields.proofs.u32_or_zero.Reads as u32-or-zero-reads
+
+abbrev Inv-loop : tie.InvT-loop
+Inv-loop file n table₀ i₀ p₀ table i p = (i ≤ n) × (sets table₀ 0 (joined row (recordsOf (aco file))) ≡ sets table (7 * i) (joined row (drop i (recordsOf (aco file))))) × (length table ≡ length table₀) × (p ≡ entryPlace file n i)
+
+abbrev μ-loop : tie.MeasureT-loop
+μ-loop file n table₀ i₀ p₀ table i p = n - i
+
+-- src/lib.rt:95:21
+mul-p : tie.Need-mul-p Inv-loop μ-loop
+mul-p c = let st = c .before .before in let few = count-small (st .args .file .now) 2 (st .args .n) (st .pre .0) in omega arith
+
+-- src/lib.rt:95:17
+add-p : tie.Need-add-p Inv-loop μ-loop
+add-p c = let st = c .before .before in let few = count-small (st .args .file .now) 2 (st .args .n) (st .pre .0) in omega arith
+
+-- src/lib.rt:96:5
+loop-holds : tie.Need-loop-holds Inv-loop μ-loop
+loop-holds c = (omega arith, refl, refl, sym (entry-first _ _))
+
+-- src/lib.rt:97:37
+mul-colour-at : tie.Need-mul-colour-at Inv-loop μ-loop
+mul-colour-at c = search needs
+
+-- src/lib.rt:97:33
+add-colour-at : tie.Need-add-colour-at Inv-loop μ-loop
+add-colour-at c = search needs
+
+-- src/lib.rt:97:13
+colour-at-requires : tie.Need-colour-at-requires Inv-loop μ-loop
+colour-at-requires c κs =
+    let st = c .before .before .before .before in
+    named-colour (st .args .file .now) 2 (st .args .n) (st .pre .0) refl (c .before .loop .i) (c .loop-test .taken)
+
+-- src/lib.rt:98:47
+add-u32-or-zero : tie.Need-add-u32-or-zero Inv-loop μ-loop
+add-u32-or-zero c =
+    let tn = c .before in
+    let l = tn .before .loop in
+    let st = tn .before .before .before .before in
+    let a = st .args in
+    let s = a .file .now in
+    let inside = named-in s 2 (a .n) (st .pre .0) refl (l .i) (tn .loop-test .taken) in
+    let short = small s 2 (a .n) (st .pre .0) in
+    omega arith
+
+-- src/lib.rt:98:13
+u32-or-zero-requires : tie.Need-u32-or-zero-requires Inv-loop μ-loop
+u32-or-zero-requires c κs = search needs
+
+-- src/lib.rt:99:24
+mul-put-row : tie.Need-mul-put-row Inv-loop μ-loop
+mul-put-row c = search needs
+
+-- src/lib.rt:99:39
+add-put-row : tie.Need-add-put-row Inv-loop μ-loop
+add-put-row c =
+    let u = c .before in
+    let tn = u .before .before in
+    let l = tn .before .loop in
+    let st = tn .before .before .before .before in
+    let a = st .args in
+    let s = a .file .now in
+    let inside = named-in s 2 (a .n) (st .pre .0) refl (l .i) (tn .loop-test .taken) in
+    let short = small s 2 (a .n) (st .pre .0) in
+    let some = named-some s 2 (a .n) (st .pre .0) refl (l .i) (tn .loop-test .taken) in
+    let count = load 4 s (entryPlace s (a .n) (l .i) + 10) _ (omega arith) (omega arith) (u .u32-or-zero .ensures ∙ ap (λ (k : ℕ). orZero (field 4 s (k + 10))) (l .inv .3)) in
+    omega arith
+
+-- src/lib.rt:99:38
+cast-put-row : tie.Need-cast-put-row Inv-loop μ-loop
+cast-put-row c =
+    let u = c .before in
+    let tn = u .before .before in
+    let l = tn .before .loop in
+    let st = tn .before .before .before .before in
+    let a = st .args in
+    let s = a .file .now in
+    let inside = named-in s 2 (a .n) (st .pre .0) refl (l .i) (tn .loop-test .taken) in
+    let short = small s 2 (a .n) (st .pre .0) in
+    let some = named-some s 2 (a .n) (st .pre .0) refl (l .i) (tn .loop-test .taken) in
+    let count = load 4 s (entryPlace s (a .n) (l .i) + 10) _ (omega arith) (omega arith) (u .u32-or-zero .ensures ∙ ap (λ (k : ℕ). orZero (field 4 s (k + 10))) (l .inv .3)) in
+    omega arith
+
+-- src/lib.rt:99:55
+sub-put-row : tie.Need-sub-put-row Inv-loop μ-loop
+sub-put-row c =
+    let u = c .before in
+    let tn = u .before .before in
+    let l = tn .before .loop in
+    let st = tn .before .before .before .before in
+    let a = st .args in
+    let s = a .file .now in
+    let inside = named-in s 2 (a .n) (st .pre .0) refl (l .i) (tn .loop-test .taken) in
+    let short = small s 2 (a .n) (st .pre .0) in
+    let some = named-some s 2 (a .n) (st .pre .0) refl (l .i) (tn .loop-test .taken) in
+    let count = load 4 s (entryPlace s (a .n) (l .i) + 10) _ (omega arith) (omega arith) (u .u32-or-zero .ensures ∙ ap (λ (k : ℕ). orZero (field 4 s (k + 10))) (l .inv .3)) in
+    omega arith
+
+-- src/lib.rt:99:9
+put-row-requires : tie.Need-put-row-requires Inv-loop μ-loop
+put-row-requires c κs =
+    let u = c .before in
+    let tn = u .before .before in
+    let l = tn .before .loop in
+    let st = tn .before .before .before .before in
+    let a = st .args in
+    let s = a .file .now in
+    let inside = named-in s 2 (a .n) (st .pre .0) refl (l .i) (tn .loop-test .taken) in
+    let short = small s 2 (a .n) (st .pre .0) in
+    let some = named-some s 2 (a .n) (st .pre .0) refl (l .i) (tn .loop-test .taken) in
+    let count = load 4 s (entryPlace s (a .n) (l .i) + 10) _ (omega arith) (omega arith) (u .u32-or-zero .ensures ∙ ap (λ (k : ℕ). orZero (field 4 s (k + 10))) (l .inv .3)) in
+    omega (arith, st .pre .1)
+
+-- src/lib.rt:100:24
+cast-p : tie.Need-cast-p Inv-loop μ-loop
+cast-p c =
+    let u = c .before .before .before .before in
+    let tn = u .before .before in
+    let l = tn .before .loop in
+    let st = tn .before .before .before .before in
+    let a = st .args in
+    let s = a .file .now in
+    let inside = named-in s 2 (a .n) (st .pre .0) refl (l .i) (tn .loop-test .taken) in
+    let short = small s 2 (a .n) (st .pre .0) in
+    let some = named-some s 2 (a .n) (st .pre .0) refl (l .i) (tn .loop-test .taken) in
+    let count = load 4 s (entryPlace s (a .n) (l .i) + 10) _ (omega arith) (omega arith) (u .u32-or-zero .ensures ∙ ap (λ (k : ℕ). orZero (field 4 s (k + 10))) (l .inv .3)) in
+    omega arith
+
+-- src/lib.rt:100:19
+mul-p-2 : tie.Need-mul-p-2 Inv-loop μ-loop
+mul-p-2 c =
+    let u = c .before .before .before .before in
+    let tn = u .before .before in
+    let l = tn .before .loop in
+    let st = tn .before .before .before .before in
+    let a = st .args in
+    let s = a .file .now in
+    let inside = named-in s 2 (a .n) (st .pre .0) refl (l .i) (tn .loop-test .taken) in
+    let short = small s 2 (a .n) (st .pre .0) in
+    let some = named-some s 2 (a .n) (st .pre .0) refl (l .i) (tn .loop-test .taken) in
+    let count = load 4 s (entryPlace s (a .n) (l .i) + 10) _ (omega arith) (omega arith) (u .u32-or-zero .ensures ∙ ap (λ (k : ℕ). orZero (field 4 s (k + 10))) (l .inv .3)) in
+    omega arith
+
+-- src/lib.rt:100:14
+add-p-2 : tie.Need-add-p-2 Inv-loop μ-loop
+add-p-2 c =
+    let u = c .before .before .before .before in
+    let tn = u .before .before in
+    let l = tn .before .loop in
+    let st = tn .before .before .before .before in
+    let a = st .args in
+    let s = a .file .now in
+    let inside = named-in s 2 (a .n) (st .pre .0) refl (l .i) (tn .loop-test .taken) in
+    let short = small s 2 (a .n) (st .pre .0) in
+    let some = named-some s 2 (a .n) (st .pre .0) refl (l .i) (tn .loop-test .taken) in
+    let count = load 4 s (entryPlace s (a .n) (l .i) + 10) _ (omega arith) (omega arith) (u .u32-or-zero .ensures ∙ ap (λ (k : ℕ). orZero (field 4 s (k + 10))) (l .inv .3)) in
+    omega arith
+
+-- src/lib.rt:100:9
+add-p-3 : tie.Need-add-p-3 Inv-loop μ-loop
+add-p-3 c =
+    let u = c .before .before .before .before in
+    let tn = u .before .before in
+    let l = tn .before .loop in
+    let st = tn .before .before .before .before in
+    let a = st .args in
+    let s = a .file .now in
+    let inside = named-in s 2 (a .n) (st .pre .0) refl (l .i) (tn .loop-test .taken) in
+    let short = small s 2 (a .n) (st .pre .0) in
+    let some = named-some s 2 (a .n) (st .pre .0) refl (l .i) (tn .loop-test .taken) in
+    let count = load 4 s (entryPlace s (a .n) (l .i) + 10) _ (omega arith) (omega arith) (u .u32-or-zero .ensures ∙ ap (λ (k : ℕ). orZero (field 4 s (k + 10))) (l .inv .3)) in
+    omega arith
+
+-- src/lib.rt:101:9
+add-i : tie.Need-add-i Inv-loop μ-loop
+add-i c = search needs
+
+-- src/lib.rt:96:5
+loop-less : tie.Need-loop-less Inv-loop μ-loop
+loop-less c = search needs
+
+-- src/lib.rt:96:5
+loop-again : tie.Need-loop-again Inv-loop μ-loop
+loop-again c =
+    let pr = c .before .before in
+    let u = pr .before .before in
+    let tn = u .before .before in
+    let l = tn .before .loop in
+    let st = tn .before .before .before .before in
+    let a = st .args in
+    let s = a .file .now in
+    let inside = named-in s 2 (a .n) (st .pre .0) refl (l .i) (tn .loop-test .taken) in
+    let short = small s 2 (a .n) (st .pre .0) in
+    let some = named-some s 2 (a .n) (st .pre .0) refl (l .i) (tn .loop-test .taken) in
+    let count = load 4 s (entryPlace s (a .n) (l .i) + 10) _ (omega arith) (omega arith) (u .u32-or-zero .ensures ∙ ap (λ (k : ℕ). orZero (field 4 s (k + 10))) (l .inv .3)) in (
+      omega arith,
+      fill-turn (recordsOf (aco s)) (unnamed black) _ (l .table) (l .i) (l .inv .1) (omega (arith, length-records s 2 (a .n) (st .pre .0))) _ _
+          (named-row s 2 (a .n) (st .pre .0) refl (l .i) (tn .loop-test .taken) ∙ sym (numbers-same (u .before .colour-at .ensures) (ap (λ (k : ℕ). k + 14) (l .inv .3)) (ap (λ (k : ℕ). k - 1) count))) refl (pr .put-row .ensures),
+      pr .put-row .kept .0 ∙ l .inv .2,
+      omega (arith, entry-next s (a .n) (l .i), l .inv .3, count),
+    )
+
+-- src/lib.rt:90:1
+same-length : tie.Need-same-length Inv-loop μ-loop
+same-length c = c .before .loop .inv .2
+
+-- src/lib.rt:90:1
+returns : tie.Need-returns Inv-loop μ-loop
+returns c =
+    let l = c .before .loop in
+    let st = c .before .before .before .before in
+    let s = st .args .file .now in
+    sym (fill-end (recordsOf (aco s)) (unnamed black) _ (l .table) (l .i) (l .inv .1) (omega (arith, length-records s 2 (st .args .n) (st .pre .0))))
+
+pub fill-named-spec : {M : Type 1} → statement M
+fill-named-spec =
+    tie.close
+    (tie.spec
+    Inv-loop
+    μ-loop
+    mul-p
+    add-p
+    loop-holds
+    mul-colour-at
+    add-colour-at
+    colour-at-requires
+    add-u32-or-zero
+    u32-or-zero-requires
+    mul-put-row
+    add-put-row
+    cast-put-row
+    sub-put-row
+    put-row-requires
+    cast-p
+    mul-p-2
+    add-p-2
+    add-p-3
+    add-i
+    loop-less
+    loop-again
+    same-length
+    returns)

@@ -1,0 +1,105 @@
+use mathlib.Core.Path.{_≡_, refl, sym, ap, _∙_}
+use native.Mathlib.Omega.{arith}
+use borrow.Author.Needs.{needs}
+use Prim.Native.Nat.{ℕ, _+_, _-_, _*_, _≤_, _<_}
+use lib.ListN.{length, drop}
+use lib.Seq.{sets}
+use Rattle.fields.specs.Numbers.{num, joined}
+use Rattle.aco.specs.Reading.{aco, unnamed, black}
+use Rattle.aco.specs.Places.{entryPlace}
+use Rattle.aco.specs.Raw.{rawColour}
+use Rattle.colour.specs.declared.Colour.{Colour}
+use Rattle.aco_read.specs.Table.{row, numbers, recordsOf}
+use Rattle.aco_read.proofs.Filling.{plain-in, plain-row, length-records, fill-turn, fill-end}
+use Rattle.aco_read.proofs.fill_plain.Statement.{statement}
+use Rattle.aco_read.proofs.fill_plain.Tie as tie
+use Rattle.aco_read.proofs.fill_plain.Reads as reads
+use Rattle.aco_read.proofs.fill_plain.Lts as lts
+use Rattle.aco_read.proofs.colour_at.Reads as colour-at-reads
+use Rattle.aco_read.proofs.put_row.Reads as put-row-reads
+
+abbrev Inv-loop : tie.InvT-loop
+Inv-loop file n table₀ i₀ table i = (i ≤ n) × (sets table₀ 0 (joined row (recordsOf (aco file))) ≡ sets table (7 * i) (joined row (drop i (recordsOf (aco file))))) × (length table ≡ length table₀)
+
+abbrev μ-loop : tie.MeasureT-loop
+μ-loop file n table₀ i₀ table i = n - i
+
+-- src/lib.rt:81:5
+loop-holds : tie.Need-loop-holds Inv-loop μ-loop
+loop-holds c = (omega arith, refl, refl)
+
+-- src/lib.rt:82:37
+mul-colour-at : tie.Need-mul-colour-at Inv-loop μ-loop
+mul-colour-at c = search needs
+
+-- src/lib.rt:82:33
+add-colour-at : tie.Need-add-colour-at Inv-loop μ-loop
+add-colour-at c = search needs
+
+-- src/lib.rt:82:13
+colour-at-requires : tie.Need-colour-at-requires Inv-loop μ-loop
+colour-at-requires c κs =
+    let st = c .before .before .before .before in
+    plain-in (st .args .file .now) 1 (st .args .n) (st .pre .0) refl (c .before .loop .i) (c .loop-test .taken)
+
+-- src/lib.rt:83:24
+mul-put-row : tie.Need-mul-put-row Inv-loop μ-loop
+mul-put-row c = search needs
+
+-- src/lib.rt:83:9
+put-row-requires : tie.Need-put-row-requires Inv-loop μ-loop
+put-row-requires c κs = search needs
+
+-- src/lib.rt:84:9
+add-i : tie.Need-add-i Inv-loop μ-loop
+add-i c = search needs
+
+-- src/lib.rt:81:5
+loop-less : tie.Need-loop-less Inv-loop μ-loop
+loop-less c = search needs
+
+-- src/lib.rt:81:5
+loop-again : tie.Need-loop-again Inv-loop μ-loop
+loop-again c =
+    let pr = c .before .before in
+    let ca = pr .before .before in
+    let tn = ca .before in
+    let l = tn .before .loop in
+    let st = tn .before .before .before .before in
+    let a = st .args in
+    let s = a .file .now in (
+      omega arith,
+      fill-turn (recordsOf (aco s)) (unnamed black) _ (l .table) (l .i) (l .inv .1) (omega (arith, length-records s 1 (a .n) (st .pre .0))) _ _
+          (plain-row s 1 (a .n) (st .pre .0) refl (l .i) (tn .loop-test .taken) ∙ ap (λ (k : Colour). numbers k 0 0) (sym (ca .colour-at .ensures))) refl (pr .put-row .ensures),
+      pr .put-row .kept .0 ∙ l .inv .2,
+    )
+
+-- src/lib.rt:76:1
+same-length : tie.Need-same-length Inv-loop μ-loop
+same-length c = c .before .loop .inv .2
+
+-- src/lib.rt:76:1
+returns : tie.Need-returns Inv-loop μ-loop
+returns c =
+    let l = c .before .loop in
+    let st = c .before .before .before .before in
+    let s = st .args .file .now in
+    sym (fill-end (recordsOf (aco s)) (unnamed black) _ (l .table) (l .i) (l .inv .1) (omega (arith, length-records s 1 (st .args .n) (st .pre .0))))
+
+pub fill-plain-spec : {M : Type 1} → statement M
+fill-plain-spec =
+    tie.close
+    (tie.spec
+    Inv-loop
+    μ-loop
+    loop-holds
+    mul-colour-at
+    add-colour-at
+    colour-at-requires
+    mul-put-row
+    put-row-requires
+    add-i
+    loop-less
+    loop-again
+    same-length
+    returns)

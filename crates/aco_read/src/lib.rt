@@ -1,0 +1,233 @@
+// ACO swatches: a file's records into a lent table, and a record by its number.
+ghost use mathlib.Core.Path.{_≡_};
+ghost use mathlib.Core.List.{_∷_, []};
+ghost use Prim.Native.Nat.{_+_, _*_, _≤_, _<_};
+ghost use lib.ListN.{length};
+ghost use lib.Seq.{sets};
+ghost use Rattle.fields.specs.Numbers.{num, joined};
+ghost use Rattle.aco.specs.Reading.{aco};
+ghost use Rattle.aco.specs.Raw.{rawColour};
+ghost use Rattle.aco.specs.Places.{entryPlace};
+ghost use Rattle.aco.specs.Answer.{told};
+ghost use Rattle.aco_read.specs.Table.{row, numbers, filled, recordAt, nameBytesAt, recordsOf, Accepted};
+ghost use Rattle.aco_read.specs.Answer.{toldPlace};
+use aco::Answer;
+use colour::Colour;
+
+// The numbers of a record in a table: space, four samples, place of the name's first unit, number
+// of its units.
+pub const WIDTH: usize = 7;
+
+// Where a record's name lies in the file, or the refusal.
+pub enum NamePlace {
+    At {
+        place: usize,
+        units: u32,
+    },
+    Refused {
+        number: u32,
+        place: usize,
+    },
+    Differ {
+        place: usize,
+        record: usize,
+        field: usize,
+    },
+}
+
+// A record: its colour, all zeros on a refusal, and its name.
+pub struct Swatch {
+    pub colour: Colour,
+    pub name: NamePlace,
+}
+
+// The colour in the ten bytes from `at`.
+fn colour_at(file: &[u8], at: usize) -> Colour
+    requires { ⌜ at + 10 ≤ length (now file) ⌝ }
+    ensures { λ r. ⌜ r ≡ rawColour (now (file .entry)) at ⌝ }
+{
+    let space = fields::u16_or_zero(file, at);
+    let a = fields::u16_or_zero(file, at + 2);
+    let b = fields::u16_or_zero(file, at + 4);
+    let c = fields::u16_or_zero(file, at + 6);
+    let d = fields::u16_or_zero(file, at + 8);
+    Colour {
+        space,
+        samples: [a, b, c, d],
+    }
+}
+
+// Stores a record's numbers from `at`.
+fn put_row(table: &mut [u32], at: usize, c: Colour, place: u32, units: u32)
+    requires { ⌜ at + 7 ≤ length (now table) ⌝ }
+    ensures { λ _. ⌜ now (table .exit) ≡ sets (now (table .entry)) at (numbers c place units) ⌝ }
+{
+    let v = c.samples;
+    table[at] = c.space as u32;
+    table[at + 1] = v[0] as u32;
+    table[at + 2] = v[1] as u32;
+    table[at + 3] = v[2] as u32;
+    table[at + 4] = v[3] as u32;
+    table[at + 5] = place;
+    table[at + 6] = units;
+}
+
+// Stores the n records of a file of one list.
+fn fill_plain(file: &[u8], n: usize, table: &mut [u32])
+    requires { ⌜ Accepted (aco (now file)) 1 n × (7 * n ≤ length (now table)) ⌝ }
+    ensures { λ _. ⌜ now (table .exit) ≡ sets (now (table .entry)) 0 (joined row (recordsOf (aco (now (file .entry))))) ⌝ }
+{
+    let mut i: usize = 0;
+    while i < n {
+        let c = colour_at(file, 4 + 10 * i);
+        put_row(table, WIDTH * i, c, 0, 0);
+        i += 1;
+    }
+}
+
+// Stores the n records of a file of two lists. The file is judged, so that a name's count is
+// enough to find the next record.
+fn fill_named(file: &[u8], n: usize, table: &mut [u32])
+    requires { ⌜ Accepted (aco (now file)) 2 n × (7 * n ≤ length (now table)) ⌝ }
+    ensures { λ _. ⌜ now (table .exit) ≡ sets (now (table .entry)) 0 (joined row (recordsOf (aco (now (file .entry))))) ⌝ }
+{
+    let mut i: usize = 0;
+    let mut p = 8 + 10 * n;
+    while i < n {
+        let c = colour_at(file, 4 + 10 * i);
+        let count = fields::u32_or_zero(file, p + 10);
+        put_row(table, WIDTH * i, c, (p + 14) as u32, count - 1);
+        p += 14 + 2 * (count as usize);
+        i += 1;
+    }
+}
+
+// Reads a file into a table, which a refusal leaves as it was. Accepted in `Answer` counts the rows.
+pub fn read(file: &[u8], table: &mut [u32]) -> Answer
+    ensures { λ r. ⌜ (told r, now (table .exit)) ≡ filled (aco (now (file .entry))) (now (table .entry)) ⌝ }
+{
+    match aco::judge(file) {
+        Answer::Refused { number, place } => Answer::Refused { number, place },
+        Answer::Differ {
+            place,
+            record,
+            field,
+        } => Answer::Differ {
+            place,
+            record,
+            field,
+        },
+        Answer::Accepted { colours, lists } => {
+            if table.len() < WIDTH * colours {
+                return Answer::Refused {
+                    number: 11,
+                    place: 0,
+                };
+            }
+            if lists == 1 {
+                fill_plain(file, colours, table);
+            } else {
+                fill_named(file, colours, table);
+            }
+            Answer::Accepted { colours, lists }
+        }
+    }
+}
+
+// The place of record i of list 2.
+fn entry_place(file: &[u8], n: usize, i: usize) -> usize
+    requires { ⌜ Accepted (aco (now file)) 2 n × (i < n) ⌝ }
+    ensures { λ r. ⌜ r ≡ entryPlace (now (file .entry)) n i ⌝ }
+{
+    let mut k: usize = 0;
+    let mut p = 8 + 10 * n;
+    while k < i {
+        let count = fields::u32_or_zero(file, p + 10);
+        p += 14 + 2 * (count as usize);
+        k += 1;
+    }
+    p
+}
+
+fn black() -> Colour
+    ensures { λ r. ⌜ r ≡ record { space = 0; samples = 0 ∷ 0 ∷ 0 ∷ 0 ∷ [] } ⌝ }
+{
+    Colour {
+        space: 0,
+        samples: [0; 4],
+    }
+}
+
+// Record i of a file.
+pub fn record_at(file: &[u8], i: usize) -> Swatch
+    ensures { λ r. ⌜ (r .colour, toldPlace (r .name)) ≡ recordAt i (aco (now (file .entry))) ⌝ }
+{
+    match aco::judge(file) {
+        Answer::Refused { number, place } => Swatch {
+            colour: black(),
+            name: NamePlace::Refused { number, place },
+        },
+        Answer::Differ {
+            place,
+            record,
+            field,
+        } => Swatch {
+            colour: black(),
+            name: NamePlace::Differ {
+                place,
+                record,
+                field,
+            },
+        },
+        Answer::Accepted { colours, lists } => {
+            if colours <= i {
+                return Swatch {
+                    colour: black(),
+                    name: NamePlace::Refused {
+                        number: 12,
+                        place: 0,
+                    },
+                };
+            }
+            let colour = colour_at(file, 4 + 10 * i);
+            if lists == 1 {
+                return Swatch {
+                    colour,
+                    name: NamePlace::At { place: 0, units: 0 },
+                };
+            }
+            let p = entry_place(file, colours, i);
+            let count = fields::u32_or_zero(file, p + 10);
+            Swatch {
+                colour,
+                name: NamePlace::At {
+                    place: p + 14,
+                    units: count - 1,
+                },
+            }
+        }
+    }
+}
+
+// The bytes of the name of record i, a part of the file; none where `record_at` refuses.
+pub fn name_at(file: &[u8], i: usize) -> &[u8]
+    ensures { λ r. ⌜ now r ≡ nameBytesAt (now (file .entry)) (recordAt i (aco (now (file .entry))) .1) ⌝ }
+{
+    let swatch = record_at(file, i);
+    let found = swatch.name;
+    match found {
+        NamePlace::At { place, units } => {
+            let end = place + 2 * (units as usize);
+            &file[place..end]
+        }
+        NamePlace::Refused {
+            number: _,
+            place: _,
+        } => &file[..0],
+        NamePlace::Differ {
+            place: _,
+            record: _,
+            field: _,
+        } => &file[..0],
+    }
+}

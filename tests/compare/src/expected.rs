@@ -1,0 +1,66 @@
+//! The reference's answers in the shape of the library's.
+
+use proved::{Answer, Record, Written};
+use reference::{Accepted, Refusal, Swatch};
+
+pub fn answer(result: Result<Accepted, Refusal>) -> Answer {
+    match result {
+        Ok(Accepted { colours, lists }) => Answer {
+            colours,
+            lists,
+            ..Answer::default()
+        },
+        Err(Refusal {
+            number,
+            place,
+            record,
+            field,
+        }) => Answer {
+            number,
+            place,
+            record,
+            field,
+            ..Answer::default()
+        },
+    }
+}
+
+pub fn record(result: Result<Swatch, Refusal>) -> Record {
+    match result {
+        Ok(Swatch {
+            space,
+            samples,
+            name,
+            units,
+        }) => Record {
+            space,
+            samples,
+            name,
+            units,
+            ..Record::default()
+        },
+        Err(Refusal {
+            number,
+            place,
+            record,
+            field,
+        }) => Record {
+            number,
+            place,
+            record,
+            field,
+            ..Record::default()
+        },
+    }
+}
+
+/// A writer's refusals are all at place 0, so the library does not say it.
+pub fn written(result: Result<usize, Refusal>) -> Written {
+    match result {
+        Ok(length) => Written { number: 0, length },
+        Err(refusal) => Written {
+            number: refusal.number,
+            length: 0,
+        },
+    }
+}

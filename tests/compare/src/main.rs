@@ -1,0 +1,72 @@
+//! Compares the proved library, and its listing program, with the reference.
+
+mod campaign;
+mod difference;
+mod expected;
+mod lent;
+mod listing;
+mod reading;
+mod tally;
+mod writing;
+
+use std::path::PathBuf;
+use std::process::ExitCode;
+
+const USAGE: &str = "usage: compare [SEED [FILES]]
+       compare list [PROGRAM [FILES [SEED]]]";
+const DEFAULT_SEED: u64 = 20_240_229;
+const DEFAULT_FILES: u64 = 300_000;
+const DEFAULT_LISTED: u64 = 300;
+const DEFAULT_PROGRAM: &str = concat!(env!("CARGO_MANIFEST_DIR"), "/../../target/bin/aco_list");
+
+fn main() -> ExitCode {
+    let args: Vec<String> = std::env::args().skip(1).collect();
+    let outcome = match args.first().map(String::as_str) {
+        Some("list") => compare_listings(&args[1..]),
+        _ => compare_library(&args),
+    };
+    match outcome {
+        Ok(summary) => {
+            println!("{summary}");
+            ExitCode::SUCCESS
+        }
+        Err(complaint) => {
+            eprintln!("{complaint}");
+            ExitCode::FAILURE
+        }
+    }
+}
+
+fn compare_library(args: &[String]) -> Result<String, String> {
+    let seed = number(args, 0, DEFAULT_SEED)?;
+    let files = number(args, 1, DEFAULT_FILES)?;
+    println!("seed {seed}");
+    let tally = campaign::run(seed, files).map_err(|difference| with_seed(seed, difference))?;
+    tally
+        .all_reached()
+        .map_err(|missing| with_seed(seed, missing))?;
+    Ok(format!("the library agrees: {tally}"))
+}
+
+fn compare_listings(args: &[String]) -> Result<String, String> {
+    let program = PathBuf::from(args.first().map_or(DEFAULT_PROGRAM, String::as_str));
+    let files = number(args, 1, DEFAULT_LISTED)?;
+    let seed = number(args, 2, DEFAULT_SEED)?;
+    println!("seed {seed}");
+    let listed =
+        listing::run(&program, seed, files).map_err(|difference| with_seed(seed, difference))?;
+    Ok(format!("the listing program agrees: {listed} inputs"))
+}
+
+fn number(args: &[String], index: usize, default: u64) -> Result<u64, String> {
+    match args.get(index) {
+        None => Ok(default),
+        Some(word) => word
+            .parse()
+            .map_err(|_| format!("not a number: {word}\n{USAGE}")),
+    }
+}
+
+fn with_seed(seed: u64, complaint: impl std::fmt::Display) -> String {
+    format!("seed {seed}\n{complaint}")
+}

@@ -1,0 +1,18 @@
+//! Swatch files and records made up from a seed: sound ones, damaged ones, and
+//! a few fixed ones with the answers written down beside them.
+//!
+//! Files are laid out here from the colours themselves, by no writer under test.
+
+#![forbid(unsafe_code)]
+
+mod damage;
+mod fixed;
+mod palette;
+mod random;
+mod records;
+
+pub use damage::{damage, Damage};
+pub use fixed::{fixed_files, Answer, Fixed, P2, P3, P3_LISTING, P4};
+pub use palette::{Colour, Layout, Palette, SPACES};
+pub use random::Random;
+pub use records::{Lot, LotDamage};

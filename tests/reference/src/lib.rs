@@ -1,0 +1,27 @@
+//! The rules of ACO swatch files in plain, safe Rust.
+//!
+//! Written from the paper that states the rules, without a look at the proved
+//! library: where the two agree, they agree by the rules. It is also what the
+//! proved library is timed against, so it goes over a file in linear time,
+//! copies nothing, and fills lent slices in place.
+
+#![forbid(unsafe_code)]
+
+mod colour;
+mod listing;
+mod reader;
+mod refusal;
+mod writer;
+
+pub use colour::{COLOUR_LEN, HEAD_LEN, MAX_COLOURS, NAME_COUNT_LEN, SAMPLES, UNIT_LEN};
+pub use listing::{list, LISTING_LIMIT};
+pub use reader::{judge, read, record, Accepted, Swatch};
+pub use refusal::{number, Refusal};
+pub use writer::{length, write};
+
+/// The longest file read and the longest output written, in bytes.
+pub const LIMIT: usize = 16_777_216;
+
+/// The numbers that stand for a colour in a table or in records to be written:
+/// the space, four samples, the name's place and its units.
+pub const ROW_LEN: usize = 7;

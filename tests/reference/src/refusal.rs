@@ -1,0 +1,51 @@
+//! The refusal slip.
+
+/// The numbers an ACO call can put on the slip.
+pub mod number {
+    pub const TOO_LONG: u32 = 1;
+    pub const CUT: u32 = 2;
+    pub const WRONG_VERSION: u32 = 3;
+    pub const UNKNOWN_SPACE: u32 = 4;
+    pub const OUT_OF_RANGE: u32 = 5;
+    pub const LEFT_OVER: u32 = 6;
+    pub const LISTS_DISAGREE: u32 = 7;
+    pub const BADLY_CLOSED: u32 = 8;
+    pub const NO_ROOM: u32 = 11;
+    pub const NO_RECORD: u32 = 12;
+}
+
+/// Why a call gave nothing. `record` and `field` are 0 save where the two
+/// lists disagree.
+#[derive(Clone, Copy, Debug, PartialEq, Eq)]
+pub struct Refusal {
+    pub number: u32,
+    pub place: usize,
+    pub record: u32,
+    pub field: u32,
+}
+
+impl Refusal {
+    /// A refusal of the field whose first byte is at `place`.
+    pub(crate) fn at(number: u32, place: usize) -> Self {
+        Refusal {
+            number,
+            place,
+            record: 0,
+            field: 0,
+        }
+    }
+
+    /// A refusal that is not about a field of the file: its place is 0.
+    pub(crate) fn of_call(number: u32) -> Self {
+        Refusal::at(number, 0)
+    }
+
+    pub(crate) fn disagreement(place: usize, record: usize, field: usize) -> Self {
+        Refusal {
+            number: number::LISTS_DISAGREE,
+            place,
+            record: record as u32,
+            field: field as u32,
+        }
+    }
+}
