@@ -1,0 +1,1 @@
+// The theorems that tie the reading and the writing of ACO files: proofs/RoundTrip.antt.
