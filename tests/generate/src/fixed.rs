@@ -5,13 +5,13 @@
 pub enum Answer {
     Accepted {
         colours: usize,
-        lists: u32,
+        lists: usize,
     },
     Refused {
         number: u32,
         place: usize,
-        record: u32,
-        field: u32,
+        record: usize,
+        field: usize,
     },
 }
 
@@ -151,7 +151,7 @@ const HUGE_NAME: &[u8] = &[
     0xFF, 0xFF, 0xFF, 0xFF, 0x00, 0x41, 0x00, 0x00,
 ];
 
-const fn accepted(colours: usize, lists: u32) -> Answer {
+const fn accepted(colours: usize, lists: usize) -> Answer {
     Answer::Accepted { colours, lists }
 }
 
@@ -164,7 +164,7 @@ const fn refused(number: u32, place: usize) -> Answer {
     }
 }
 
-const fn differing(place: usize, record: u32, field: u32) -> Answer {
+const fn differing(place: usize, record: usize, field: usize) -> Answer {
     Answer::Refused {
         number: 7,
         place,

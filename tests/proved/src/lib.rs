@@ -6,11 +6,11 @@
 #[derive(Clone, Copy, Debug, Default, PartialEq, Eq)]
 pub struct Answer {
     pub number: u32,
-    pub record: u32,
-    pub field: u32,
-    pub lists: u32,
     pub place: usize,
+    pub record: usize,
+    pub field: usize,
     pub colours: usize,
+    pub lists: usize,
 }
 
 /// What asking for a record by its number answers.
@@ -18,10 +18,10 @@ pub struct Answer {
 #[derive(Clone, Copy, Debug, Default, PartialEq, Eq)]
 pub struct Record {
     pub number: u32,
-    pub record: u32,
-    pub field: u32,
     pub units: u32,
     pub place: usize,
+    pub record: usize,
+    pub field: usize,
     pub name: usize,
     pub space: u16,
     pub samples: [u16; 4],

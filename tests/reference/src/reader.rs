@@ -14,7 +14,7 @@ const COUNT_FIELD: usize = 5;
 #[derive(Clone, Copy, Debug, PartialEq, Eq)]
 pub struct Accepted {
     pub colours: usize,
-    pub lists: u32,
+    pub lists: usize,
 }
 
 /// A record of an accepted file. The name is where its units lie in the file;

@@ -20,8 +20,8 @@ pub mod number {
 pub struct Refusal {
     pub number: u32,
     pub place: usize,
-    pub record: u32,
-    pub field: u32,
+    pub record: usize,
+    pub field: usize,
 }
 
 impl Refusal {
@@ -44,8 +44,8 @@ impl Refusal {
         Refusal {
             number: number::LISTS_DISAGREE,
             place,
-            record: record as u32,
-            field: field as u32,
+            record,
+            field,
         }
     }
 }

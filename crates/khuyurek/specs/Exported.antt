@@ -1,0 +1,32 @@
+-- What each exported answer says: refusal number 0 is accepted, and all that an answer does not have is 0.
+use Prim.Native.Nat.{ℕ}
+use mathlib.Core.List.{List}
+use Rattle.colour.specs.declared.Colour.{Colour}
+use Rattle.aco.specs.Answer.{Verdict, accepted, refused}
+use Rattle.aco_read.specs.Table.{Where, lies, refusal}
+use Rattle.aco_write.specs.Writing.{Outcome, bytes, refused as unwritten}
+use Rattle.khuyurek.specs.declared.AcoAnswer.{AcoAnswer}
+use Rattle.khuyurek.specs.declared.AcoRecord.{AcoRecord}
+use Rattle.khuyurek.specs.declared.AcoWritten.{AcoWritten}
+
+abbrev pub answerOf : Verdict → AcoAnswer
+answerOf (accepted n l) = record { number = 0; place = 0; rec = 0; field = 0; colours = n; lists = l }
+answerOf (refused x p r f) = record { number = x; place = p; rec = r; field = f; colours = 0; lists = 0 }
+
+abbrev pub placed : Colour → Where → AcoRecord
+placed c (lies p u) = record { number = 0; units = u; place = 0; rec = 0; field = 0; name = p; space = c .space; samples = c .samples }
+placed c (refusal x p r f) = record { number = x; units = 0; place = p; rec = r; field = f; name = 0; space = c .space; samples = c .samples }
+
+abbrev pub recordOf : Colour × Where → AcoRecord
+recordOf w = placed (w .0) (w .1)
+
+abbrev pub writtenOf : Outcome → AcoWritten
+writtenOf (bytes n) = record { number = 0; size = n }
+writtenOf (unwritten x) = record { number = x; size = 0 }
+
+-- an answer, and what the lent buffer then holds
+abbrev pub readOf : Verdict × List ℕ → AcoAnswer × List ℕ
+readOf v = (answerOf (v .0), v .1)
+
+abbrev pub wroteOf : Outcome × List ℕ → AcoWritten × List ℕ
+wroteOf o = (writtenOf (o .0), o .1)

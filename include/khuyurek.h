@@ -1,0 +1,76 @@
+/* Khuyurek for C: colour files judged, read and written.
+ *
+ * Link target/staticlib/libkhuyurek.a, which `rt staticlib khuyurek` makes.
+ * No call allocates, keeps a pointer or changes a buffer on a refusal. A pointer
+ * is aligned and not null even where its length is 0. Refusal numbers: README.md.
+ */
+#ifndef KHUYUREK_H
+#define KHUYUREK_H
+
+#include <stddef.h>
+#include <stdint.h>
+
+#ifdef __cplusplus
+extern "C" {
+#endif
+
+/* The numbers of a record in a table or run: space, four samples, place of the
+ * name's first unit in the file or text, number of its units (16 bits each,
+ * big-endian, without the closing zero). */
+#define KHUYUREK_ACO_WIDTH 7
+
+/* number 0: accepted, with the number of colours and of lists (2: names).
+ * Else the refusal and its place; for 7 also the record and field. */
+typedef struct {
+    uint32_t number;
+    size_t place;
+    size_t record;
+    size_t field;
+    size_t colours;
+    size_t lists;
+} khuyurek_aco_answer;
+
+/* number 0: accepted, with the colour and where its name lies. Else the refusal,
+ * and all the rest is 0. */
+typedef struct {
+    uint32_t number;
+    uint32_t units;
+    size_t place;
+    size_t record;
+    size_t field;
+    size_t name;
+    uint16_t space;
+    uint16_t samples[4];
+} khuyurek_aco_record;
+
+/* number 0: accepted, with the length in bytes. Else the refusal; its place is 0. */
+typedef struct {
+    uint32_t number;
+    size_t length;
+} khuyurek_aco_written;
+
+khuyurek_aco_answer khuyurek_aco_judge(const uint8_t *file, size_t file_len);
+
+/* Needs KHUYUREK_ACO_WIDTH * colours numbers of the table, else 11; the rest of it
+ * keeps its contents. */
+khuyurek_aco_answer khuyurek_aco_read(const uint8_t *file, size_t file_len,
+                                      uint32_t *table, size_t table_len);
+
+/* Judges the whole file, then 12 where it has no such record. */
+khuyurek_aco_record khuyurek_aco_record_at(const uint8_t *file, size_t file_len,
+                                           size_t index);
+
+/* The exact length that writing needs. A remainder of fewer than
+ * KHUYUREK_ACO_WIDTH numbers is left alone. */
+khuyurek_aco_written khuyurek_aco_length(const uint32_t *records, size_t records_len,
+                                         const uint8_t *text, size_t text_len);
+
+khuyurek_aco_written khuyurek_aco_write(const uint32_t *records, size_t records_len,
+                                        const uint8_t *text, size_t text_len,
+                                        uint8_t *out, size_t out_len);
+
+#ifdef __cplusplus
+}
+#endif
+
+#endif
