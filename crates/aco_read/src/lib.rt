@@ -140,13 +140,13 @@ fn entry_place(file: &[u8], n: usize, i: usize) -> usize
     ensures { λ r. ⌜ r ≡ entryPlace (now (file .entry)) n i ⌝ }
 {
     let mut k: usize = 0;
-    let mut p = 8 + 10 * n;
+    let mut place = 8 + 10 * n;
     while k < i {
-        let count = fields::u32_or_zero(file, p + 10);
-        p += 14 + 2 * (count as usize);
+        let count = fields::u32_or_zero(file, place + 10);
+        place += 14 + 2 * (count as usize);
         k += 1;
     }
-    p
+    place
 }
 
 fn black() -> Colour

@@ -12,18 +12,18 @@ use Rattle.aco_read.proofs.entry_place.Lts as lts
 use Rattle.fields.proofs.u32_or_zero.Reads as u32-or-zero-reads
 
 abbrev Inv-loop : tie.InvT-loop
-Inv-loop file n i k₀ p₀ k p = (k ≤ i) × (p ≡ entryPlace file n k)
+Inv-loop file n i k₀ place₀ k place = (k ≤ i) × (place ≡ entryPlace file n k)
 
 abbrev μ-loop : tie.MeasureT-loop
-μ-loop file n i k₀ p₀ k p = i - k
+μ-loop file n i k₀ place₀ k place = i - k
 
 -- src/lib.rt:133:21
-mul-p : tie.Need-mul-p Inv-loop μ-loop
-mul-p c = let st = c .before in let few = count-small (st .args .file .now) 2 (st .args .n) (st .pre .0) in omega arith
+mul-place : tie.Need-mul-place Inv-loop μ-loop
+mul-place c = let st = c .before in let few = count-small (st .args .file .now) 2 (st .args .n) (st .pre .0) in omega arith
 
 -- src/lib.rt:133:17
-add-p : tie.Need-add-p Inv-loop μ-loop
-add-p c = let st = c .before in let few = count-small (st .args .file .now) 2 (st .args .n) (st .pre .0) in omega arith
+add-place : tie.Need-add-place Inv-loop μ-loop
+add-place c = let st = c .before in let few = count-small (st .args .file .now) 2 (st .args .n) (st .pre .0) in omega arith
 
 -- src/lib.rt:134:5
 loop-holds : tie.Need-loop-holds Inv-loop μ-loop
@@ -46,8 +46,8 @@ u32-or-zero-requires : tie.Need-u32-or-zero-requires Inv-loop μ-loop
 u32-or-zero-requires c κs = search needs
 
 -- src/lib.rt:136:24
-cast-p : tie.Need-cast-p Inv-loop μ-loop
-cast-p c =
+cast-place : tie.Need-cast-place Inv-loop μ-loop
+cast-place c =
     let u = c in
     let tn = u .before in
     let l = tn .before .loop in
@@ -61,8 +61,8 @@ cast-p c =
     omega arith
 
 -- src/lib.rt:136:19
-mul-p-2 : tie.Need-mul-p-2 Inv-loop μ-loop
-mul-p-2 c =
+mul-place-2 : tie.Need-mul-place-2 Inv-loop μ-loop
+mul-place-2 c =
     let u = c in
     let tn = u .before in
     let l = tn .before .loop in
@@ -76,8 +76,8 @@ mul-p-2 c =
     omega arith
 
 -- src/lib.rt:136:14
-add-p-2 : tie.Need-add-p-2 Inv-loop μ-loop
-add-p-2 c =
+add-place-2 : tie.Need-add-place-2 Inv-loop μ-loop
+add-place-2 c =
     let u = c in
     let tn = u .before in
     let l = tn .before .loop in
@@ -91,8 +91,8 @@ add-p-2 c =
     omega arith
 
 -- src/lib.rt:136:9
-add-p-3 : tie.Need-add-p-3 Inv-loop μ-loop
-add-p-3 c =
+add-place-3 : tie.Need-add-place-3 Inv-loop μ-loop
+add-place-3 c =
     let u = c in
     let tn = u .before in
     let l = tn .before .loop in
@@ -138,15 +138,15 @@ entry-place-spec =
     (tie.spec
     Inv-loop
     μ-loop
-    mul-p
-    add-p
+    mul-place
+    add-place
     loop-holds
     add-u32-or-zero
     u32-or-zero-requires
-    cast-p
-    mul-p-2
-    add-p-2
-    add-p-3
+    cast-place
+    mul-place-2
+    add-place-2
+    add-place-3
     add-k
     loop-less
     loop-again

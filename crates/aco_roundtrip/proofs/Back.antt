@@ -1,0 +1,82 @@
+-- What writing answers, and what it makes of the records of an accepted file. Assumes nothing.
+use Prim.Native.Nat.{ℕ, _+_, _*_, _≤_}
+use mathlib.Core.Path.{_≡_, refl, sym, ap, ap₂, _∙_, subst}
+use mathlib.Core.List.{List, [], _++_, map}
+use mathlib.Core.Bool.{Bool, true, false}
+use lib.Dec.{leb, eqb}
+use lib.ListN.{length, drop}
+use borrow.Author.Tests.{le-leb, leb-true, eqb-true}
+use native.Mathlib.Omega.{arith}
+use Rattle.fields.specs.Numbers.{Bytes, All}
+use Rattle.fields.specs.Reader.{ok, pick, limit}
+use Rattle.fields.proofs.Exact.{length-map}
+use Rattle.aco.specs.Grammar.{Swatch, Palette, File, listOne, twoLists}
+use Rattle.aco.specs.Reading.{Contents, aco, swatch}
+use Rattle.aco.specs.Faults.{paletteFault}
+use Rattle.aco.proofs.Inverse.{aco-inv}
+use Rattle.aco.proofs.Faultless.{allowed-faultless}
+use Rattle.aco.proofs.RoundTrip.{accepted-allowed, allowed-written}
+use Rattle.aco_write.specs.Writing.{Given, size, fault, Outcome, bytes, refused, needed, written}
+use Rattle.aco_write.proofs.Outcomes.{room}
+use Rattle.aco_roundtrip.specs.Tie.{made, tabled}
+use Rattle.aco_roundtrip.proofs.Fitting.{length-made, all-four, fault-same}
+use Rattle.aco_roundtrip.proofs.Records.{palette-of, bare-of, length-bare, given-swatches, given-fit}
+
+-- what is known where a writer wrote n bytes
+pub record Wrote (text : List ℕ) (gs : List Given) (out : List ℕ) (n : ℕ) (out′ : List ℕ) : Type 0 where
+  pub none : fault text gs ≡ 0
+  pub size-is : size gs ≡ n
+  pub inside : n ≤ length out
+  pub is : out′ ≡ made text gs ++ drop n out
+
+pub written-inv : (text : List ℕ) (gs : List Given) (out : List ℕ) {n : ℕ} {out′ : List ℕ} → written text gs out ≡ (bytes n, out′) → Wrote text gs out n out′
+written-inv text gs out {n} {out′} e =
+    go (eqb (fault text gs) 0) (leb (size gs) (length out)) refl refl (ap (λ (w : Outcome × List ℕ). w .0) e) (ap (λ (w : Outcome × List ℕ). w .1) e)
+  where
+    answer : Bool → Bool → Outcome × List ℕ
+    answer x y = pick x (pick y (bytes (size gs), made text gs ++ drop (size gs) out) (refused 11, out)) (refused (fault text gs), out)
+
+    go : (x y : Bool) → eqb (fault text gs) 0 ≡ x → leb (size gs) (length out) ≡ y → answer x y .0 ≡ bytes n → answer x y .1 ≡ out′ → Wrote text gs out n out′
+    go true true h k f g =
+        let z : size gs ≡ n = cc in
+        record { none = eqb-true _ _ h; size-is = z; inside = omega (arith, leb-true (size gs) (length out) k); is = sym g ∙ ap (λ (m : ℕ). made text gs ++ drop m out) z }
+    go true false h k f g = let z : _≡_ {A = ℕ} 0 1 = cc in absurd (omega arith)
+    go false y h k f g = let z : _≡_ {A = ℕ} 0 1 = cc in absurd (omega arith)
+
+module _ (s : List ℕ) (b : Bytes s) {c : Contents} {q : ℕ} (e : aco s ≡ ok c q) where
+  -- the records of an accepted file as a file of two lists, where that is not too long
+  module _ (file : List ℕ) (is : file ≡ twoLists (map swatch (c .records))) (short : length file ≤ limit) where
+    made-is : made s (tabled c) ≡ file
+    made-is = ap twoLists (given-swatches s b e) ∙ sym is
+
+    file-size : size (tabled c) ≡ length file
+    file-size = sym (length-made s (tabled c) (all-four s (tabled c) (given-fit s b e))) ∙ ap length made-is
+
+    pub needs : needed s (tabled c) ≡ bytes (length file)
+    needs =
+        let ws : List Swatch = map swatch (c .records) in
+        let none : fault s (tabled c) ≡ 0 =
+        fault-same s (tabled c) (given-fit s b e) ∙ ap₂ (λ (f : List ℕ) (l : List Swatch). pick (leb (length f) limit) (paletteFault l) 1) made-is (given-swatches s b e)
+        ∙ ap (λ (t : Bool). pick t (paletteFault ws) 1) (le-leb (length file) limit short) ∙ allowed-faultless ws (palette-of (accepted-allowed b e .0)) in
+        ap (λ (k : ℕ). pick (eqb k 0) (bytes (size (tabled c))) (refused k)) none ∙ ap bytes file-size
+
+    pub writes : (out : List ℕ) → length file ≤ length out → written s (tabled c) out ≡ (bytes (length file), file ++ drop (length file) out)
+    writes out h = sym (room s (tabled c) out (length file) (sym needs) h _ (sym (ap₂ (λ (f : List ℕ) (k : ℕ). f ++ drop k out) made-is file-size)))
+
+  -- two lists: it is the file itself
+  pub itself : c .lists ≡ 2 → (s ≡ twoLists (map swatch (c .records))) × (length s ≤ limit)
+  itself two = (allowed-written (subst (λ (l : ℕ). File l (map swatch (c .records)) s) two (accepted-allowed b e .0)) .1, aco-inv s e .2 .short)
+
+  -- one list: it has no names, and is short
+  module _ (one : c .lists ≡ 1) where
+    pub bare : All (λ k w. w .name ≡ []) 0 (map swatch (c .records)) × (s ≡ listOne (map swatch (c .records)))
+    bare = bare-of (accepted-allowed b e .0) one
+
+    pub palette : Palette (map swatch (c .records))
+    palette = palette-of (accepted-allowed b e .0)
+
+    pub length-is : length (twoLists (map swatch (c .records))) ≡ 8 + 26 * length (c .records)
+    length-is = length-bare (map swatch (c .records)) (palette .swatches) (bare .0) ∙ ap (λ (n : ℕ). 8 + 26 * n) (length-map swatch (c .records))
+
+    pub short : length (twoLists (map swatch (c .records))) ≤ limit
+    short = omega (arith, length-is, palette .count, length-map swatch (c .records))

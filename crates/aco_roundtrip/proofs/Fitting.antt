@@ -1,0 +1,163 @@
+-- Given records that fit: their length and their first fault are those of the swatches that are written. Assumes nothing.
+use Prim.Native.Nat.{ℕ, zero, suc, _+_, _*_, _-_, _^_, _≤_, _<_}
+use mathlib.Core.Path.{_≡_, refl, sym, ap₂, _∙_}
+use mathlib.Core.List.{List, [], _∷_, map}
+use mathlib.Core.Bool.{Bool, true, false}
+use lib.Dec.{leb}
+use lib.ListN.{length, length-append}
+use borrow.Author.Tests.{leb-true, ne-eqb}
+use native.Mathlib.Omega.{arith}
+use native.Mathlib.Nat.{lt-of-not-le}
+use native.Mathlib.Decide.{ℕ-discrete, decLe}
+use Rattle.fields.specs.Numbers.{joined, Bytes, nums, All}
+use Rattle.fields.specs.Reader.{pick, numberOf, limit}
+use Rattle.fields.specs.Text.{anyZero, text}
+use Rattle.fields.specs.Faults.{firstOf, faults, faultsFrom}
+use Rattle.fields.proofs.Places.{length-nums, nums-lt}
+use Rattle.fields.proofs.Exact.{all-map, all-both, length-map}
+use Rattle.fields.proofs.Tells.{first-inv, faults-inv, faults-map, faults-from}
+use Rattle.fields.proofs.Texts.{text-zero, text-fine}
+use Rattle.colour.specs.Spaces.{known, allowed}
+use Rattle.aco.specs.Grammar.{Swatch, entryBytes, listOne, listTwo, twoLists}
+use Rattle.aco.specs.Reading.{most}
+use Rattle.aco.specs.Faults.{fieldsFault, paletteFault, Fits}
+use Rattle.aco.specs.Faults as a
+use Rattle.aco.proofs.Whole.{length-one, length-two}
+use Rattle.aco_write.specs.Writing.{Given, givens, swatchIn, sizes, size, spaceFault, sampleFault, colourFault, nameFault, fault}
+use Rattle.aco_write.proofs.Judging.{test-holds, space-is, space-small, sample-large, sample-is, name-number, name-inside}
+use Rattle.aco_write.proofs.Puts.{length-entry}
+use Rattle.aco_roundtrip.specs.Tie.{made, Fitting}
+
+-- ---- values of a list
+
+pub all-image : {A B : Type 0} (f : A → B) (P : ℕ → B → Type 0) (i : ℕ) (l : List A) → All (λ k a. P k (f a)) i l → All P i (map f l)
+all-image f P i [] h = tt
+all-image f P i (a ∷ l) h = (h .0, all-image f P (i + 1) l (h .1))
+
+pub all-source : {A B : Type 0} (f : A → B) (P : ℕ → B → Type 0) (i : ℕ) (l : List A) → All P i (map f l) → All (λ k a. P k (f a)) i l
+all-source f P i [] h = tt
+all-source f P i (a ∷ l) h = (h .0, all-source f P (i + 1) l (h .1))
+
+-- values that have the same faults have the same first fault
+faults-from-same : {A : Type 0} (f g : ℕ → A → ℕ) (i : ℕ) (l : List A) → All (λ k a. f k a ≡ g k a) i l → faultsFrom f i l ≡ faultsFrom g i l
+unfolding faultsFrom
+faults-from-same f g i [] h = refl
+faults-from-same f g i (a ∷ l) h = ap₂ (λ (x y : ℕ). firstOf x y) (h .0) (faults-from-same f g (i + 1) l (h .1))
+
+faults-same : {A : Type 0} (f g : A → ℕ) (l : List A) → All (λ k a. f a ≡ g a) 0 l → faults f l ≡ faults g l
+faults-same f g l h = sym (faults-from f 0 l) ∙ faults-from-same (λ k. f) (λ k. g) 0 l h ∙ faults-from g 0 l
+
+-- ---- how long the file is
+
+module _ (names : List ℕ) where
+  length-entries : (i : ℕ) (gs : List Given) → All (λ k g. length (g .samples) ≡ 4) i gs → length (joined entryBytes (map (swatchIn names) gs)) + 10 * length gs ≡ sizes gs
+  unfolding joined sizes
+  length-entries i [] h = refl
+  length-entries i (g ∷ gs) h =
+      omega (arith, length-append (entryBytes (swatchIn names g)) (joined entryBytes (map (swatchIn names) gs)), length-entry names g (h .0), length-entries (i + 1) gs (h .1))
+
+  -- what is made is as long as the writer says
+  pub length-made : (gs : List Given) → All (λ k g. length (g .samples) ≡ 4) 0 gs → length (made names gs) ≡ size gs
+  unfolding twoLists
+  length-made gs h =
+      let ws : List Swatch = map (swatchIn names) gs in
+      omega (arith, length-append (listOne ws) (listTwo ws), length-one ws (all-image (swatchIn names) (λ k w. length (w .samples) ≡ 4) 0 gs h), length-two ws, length-entries 0 gs h, length-map (swatchIn names) gs)
+
+  -- ---- a record that fits has the faults of its swatch
+
+  module _ (g : Given) (f : Fitting names g) where
+    colour-same : colourFault g ≡ a.colourFault (swatchIn names g)
+    unfolding fieldsFault
+    colour-same =
+        let x : ℕ = g .space in
+        ap₂ (λ (m n : ℕ). firstOf m n) (space-is x (known x) refl)
+        (faults-from-same (sampleFault x) (a.sampleFault x) 0 (g .samples)
+        (all-map (λ k v. v < 65536) (λ k v. sampleFault x k v ≡ a.sampleFault x k v) (λ k v h. sample-is x k v (allowed x k v) (omega arith) refl) 0 (g .samples) (f .each-small)))
+
+    room : g .units * 2 ≤ length names - g .first
+    room = elim (ℕ-discrete (g .units) 0) [
+      | yes z ↦ omega arith
+      | no z ↦ omega (arith, f .inside (omega arith))
+    ]
+
+    name-same : nameFault names g ≡ a.nameFault (swatchIn names g)
+    name-same = go (anyZero (nums 2 (g .units) names (g .first))) refl
+      where
+        go : (b : Bool) → anyZero (nums 2 (g .units) names (g .first)) ≡ b → numberOf (text (g .units) names (g .first)) ≡ pick b 8 0
+        go true e = sym (name-number (text (g .units) names (g .first)) _ (sym (text-zero (g .units) names (g .first) room e)))
+        go false e = sym (name-number (text (g .units) names (g .first)) _ (sym (text-fine (g .units) names (g .first) _ room e refl)))
+
+    -- the swatch fits its fields
+    pub swatch-fits : Bytes names → Fits (swatchIn names g)
+    swatch-fits bytes = record {
+      small = omega (arith, f .small);
+      four = f .four;
+      each-small = all-map (λ k v. v < 65536) (λ k v. v < 256 ^ 2) (λ k v h. omega arith) 0 (g .samples) (f .each-small);
+      counted = omega (arith, f .counted, length-nums 2 (g .units) names (g .first));
+      units = nums-lt 2 names bytes (g .units) (g .first) 0;
+    }
+
+  module _ (gs : List Given) (fit : All (λ k g. Fitting names g) 0 gs) where
+    pub all-four : All (λ k g. length (g .samples) ≡ 4) 0 gs
+    all-four = all-map (λ k g. Fitting names g) (λ k g. length (g .samples) ≡ 4) (λ k g f. f .four) 0 gs fit
+
+    pub all-fit : Bytes names → All (λ k w. Fits w) 0 (map (swatchIn names) gs)
+    all-fit bytes = all-image (swatchIn names) (λ k w. Fits w) 0 gs (all-map (λ k g. Fitting names g) (λ k g. Fits (swatchIn names g)) (λ k g f. swatch-fits g f bytes) 0 gs fit)
+
+    -- the writer's first fault is that of the swatches
+    pub fault-same : fault names gs ≡ pick (leb (length (made names gs)) limit) (paletteFault (map (swatchIn names) gs)) 1
+    unfolding fault paletteFault
+    fault-same =
+        let ws : List Swatch = map (swatchIn names) gs in
+        let cs : faults colourFault gs ≡ faults a.colourFault ws =
+        faults-same colourFault (λ g. a.colourFault (swatchIn names g)) gs (all-map (λ k g. Fitting names g) (λ k g. colourFault g ≡ a.colourFault (swatchIn names g)) (λ k g f. colour-same g f) 0 gs fit)
+        ∙ sym (faults-map a.colourFault (swatchIn names) gs) in
+        let ns : faults (nameFault names) gs ≡ faults a.nameFault ws =
+        faults-same (nameFault names) (λ g. a.nameFault (swatchIn names g)) gs (all-map (λ k g. Fitting names g) (λ k g. nameFault names g ≡ a.nameFault (swatchIn names g)) (λ k g f. name-same g f) 0 gs fit)
+        ∙ sym (faults-map a.nameFault (swatchIn names) gs) in
+        ap₂ (λ (m n : ℕ). pick (leb m limit) n 1) (sym (length-made gs all-four))
+        (ap₂ (λ (m n : ℕ). firstOf (pick (leb m 4096) 0 5) n) (sym (length-map (swatchIn names) gs)) (ap₂ (λ (m n : ℕ). firstOf m n) cs ns))
+
+  -- ---- records without a fault fit
+
+  sample-small : (x k v : ℕ) → sampleFault x k v ≡ 0 → v < 65536
+  sample-small x k v e = elim (decLe v 65535) [
+    | yes h ↦ omega arith
+    | no h ↦ absurd (omega (arith, sample-large x k v (lt-of-not-le h)))
+  ]
+
+  faultless-fits : (g : Given) → length (g .samples) ≡ 4 → 2 * g .units ≤ limit → colourFault g ≡ 0 → nameFault names g ≡ 0 → Fitting names g
+  faultless-fits g four short cf nf =
+      let x : ℕ = g .space in
+      let i = first-inv (spaceFault x) (faultsFrom (sampleFault x) 0 (g .samples)) cf in record {
+        small = omega (arith, space-small x (spaceFault x) refl (i .0));
+        four = four;
+        each-small = all-map (λ k v. sampleFault x k v ≡ 0) (λ k v. v < 65536) (λ k v e. sample-small x k v e) 0 (g .samples) (faults-inv (sampleFault x) 0 (g .samples) (i .1));
+        counted = omega arith;
+        inside = λ h. omega (arith, rw (ne-eqb (g .units) 0 (λ z. omega arith)) at (name-inside names g nf));
+      }
+
+  units-short : (i : ℕ) (gs : List Given) → sizes gs ≤ limit → All (λ k g. 2 * g .units ≤ limit) i gs
+  unfolding sizes
+  units-short i [] h = tt
+  units-short i (g ∷ gs) h = (omega arith, units-short (i + 1) gs (omega arith))
+
+  pub faultless-fit : (gs : List Given) → All (λ k g. length (g .samples) ≡ 4) 0 gs → fault names gs ≡ 0 → All (λ k g. Fitting names g) 0 gs
+  unfolding fault
+  faultless-fit gs four e =
+      let x = test-holds (leb (size gs) limit) _ 1 (omega arith) e in
+      let y = first-inv (pick (leb (length gs) most) 0 5) (firstOf (faults colourFault gs) (faults (nameFault names) gs)) (x .1) in
+      let z = first-inv (faults colourFault gs) (faults (nameFault names) gs) (y .1) in
+      let cs = faults-inv (λ k. colourFault) 0 gs (faults-from colourFault 0 gs ∙ z .0) in
+      let ns = faults-inv (λ k. nameFault names) 0 gs (faults-from (nameFault names) 0 gs ∙ z .1) in
+      let us = units-short 0 gs (omega (arith, leb-true (size gs) limit (x .0))) in
+      let A : ℕ → Given → Type 0 = λ k g. (length (g .samples) ≡ 4) × (2 * g .units ≤ limit) in
+      let B : ℕ → Given → Type 0 = λ k g. (colourFault g ≡ 0) × (nameFault names g ≡ 0) in
+      all-map (λ k g. A k g × B k g) (λ k g. Fitting names g) (λ k g h. faultless-fits g (h .0 .0) (h .0 .1) (h .1 .0) (h .1 .1)) 0 gs
+      (all-both A B 0 gs (all-both (λ k g. length (g .samples) ≡ 4) (λ k g. 2 * g .units ≤ limit) 0 gs four us) (all-both (λ k g. colourFault g ≡ 0) (λ k g. nameFault names g ≡ 0) 0 gs cs ns))
+
+-- a record of a run has four samples
+pub givens-four : (run : List ℕ) (n k i : ℕ) → All (λ k g. length (g .samples) ≡ 4) i (givens run n k)
+unfolding givens
+givens-four run zero k i = tt
+givens-four run (suc n) k i = (refl, givens-four run n (k + 1) (i + 1))

@@ -1,0 +1,143 @@
+-- The records of an accepted file, from a table to a writer. Assumes nothing.
+use Prim.Native.Nat.{ℕ, _+_, _*_, _/_, _^_, _≤_, _<_}
+use mathlib.Core.Path.{_≡_, refl, sym, ap, ap₂, _∙_, subst}
+use mathlib.Core.List.{List, [], _∷_, _++_, map, append-assoc}
+use lib.ListN.{length, getD, length-append}
+use lib.Seq.{getD-append-add}
+use native.Mathlib.Omega.{arith}
+use native.Mathlib.Nat.{add-zero}
+use native.Mathlib.Decide.{ℕ-discrete}
+use Rattle.fields.specs.Numbers.{num, nums, joined, Bytes, All}
+use Rattle.fields.specs.Reader.{ok}
+use Rattle.fields.proofs.Exact.{all-map, all-both, all-by}
+use Rattle.aco.specs.Grammar.{Swatch, Allowed, Palette, File, plain, named, entryBytes, listOne, listTwo, twoLists}
+use Rattle.aco.specs.Reading.{Entry, Contents, black, unnamed, aco, swatch}
+use Rattle.aco.specs.Faults.{Fits}
+use Rattle.aco.proofs.Faultless.{allowed-fits}
+use Rattle.aco.proofs.Whole.{length-entry, length-one, length-two}
+use Rattle.aco.proofs.RoundTrip.{accepted-allowed, records-count, one-record, lists-are, Placed, records-place}
+use Rattle.aco_read.specs.Table.{row}
+use Rattle.aco_write.specs.Writing.{Given, givenAt, givens, given, swatchIn}
+use Rattle.aco_write.proofs.Puts.{four}
+use Rattle.aco_roundtrip.specs.Tie.{tabled, Fitting}
+use Rattle.aco_roundtrip.proofs.Fitting.{all-image, all-source}
+
+-- a record that was read, as it is given to a writer
+abbrev pub taken : Entry → Given
+taken e = record { space = e .colour .space; samples = e .colour .samples; first = e .name .first; units = length (e .name .units) }
+
+-- ---- a run made of rows gives the records
+
+row-back : (p : List ℕ) (k : ℕ) (e : Entry) (more : List ℕ) → length p ≡ 7 * k → length (e .colour .samples) ≡ 4 → givenAt (p ++ (row e ++ more)) k ≡ taken e
+row-back p k e more l h =
+    let vs : List ℕ = e .colour .samples in
+    let v : ℕ → ℕ = λ j. getD vs j 0 in
+    let y : List ℕ = e .colour .space ∷ v 0 ∷ v 1 ∷ v 2 ∷ v 3 ∷ e .name .first ∷ length (e .name .units) ∷ more in
+    let s : List ℕ = p ++ (row e ++ more) in
+    let is : s ≡ p ++ y = ap (λ (x : List ℕ). p ++ (e .colour .space ∷ ((x ++ (e .name .first ∷ length (e .name .units) ∷ [])) ++ more))) (four vs h) in
+    let at : (j : ℕ) → getD s (7 * k + j) 0 ≡ getD y j 0 = λ j. ap₂ (λ (x : List ℕ) (n : ℕ). getD x (n + j) 0) is (sym l) ∙ getD-append-add p y j 0 in
+    let zero-at : getD s (7 * k) 0 ≡ e .colour .space = ap (λ (n : ℕ). getD s n 0) (sym (add-zero (7 * k))) ∙ at 0 in
+    let cs : getD s (7 * k + 1) 0 ∷ getD s (7 * k + 2) 0 ∷ getD s (7 * k + 3) 0 ∷ getD s (7 * k + 4) 0 ∷ [] ≡ vs =
+    (λ i. at 1 i ∷ at 2 i ∷ at 3 i ∷ at 4 i ∷ []) ∙ sym (four vs h) in
+    λ i. record { space = zero-at i; samples = cs i; first = at 5 i; units = at 6 i }
+
+length-row : (e : Entry) → length (e .colour .samples) ≡ 4 → length (row e) ≡ 7
+length-row e h = omega (arith, length-append (e .colour .samples) (e .name .first ∷ length (e .name .units) ∷ []))
+
+rows-back : (p : List ℕ) (k i : ℕ) (rs : List Entry) → All (λ j e. length (e .colour .samples) ≡ 4) i rs → length p ≡ 7 * k → givens (p ++ joined row rs) (length rs) k ≡ map taken rs
+unfolding givens joined
+rows-back p k i [] h l = refl
+rows-back p k i (e ∷ rs) h l =
+    let len : length (p ++ row e) ≡ 7 * (k + 1) = omega (arith, length-append p (row e), length-row e (h .0)) in
+    ap₂ (λ (x : Given) (xs : List Given). x ∷ xs) (row-back p k e (joined row rs) l (h .0))
+    (ap (λ (r : List ℕ). givens r (length rs) (k + 1)) (sym (append-assoc p (row e) (joined row rs))) ∙ rows-back (p ++ row e) (k + 1) (i + 1) rs (h .1) len)
+
+length-rows : (i : ℕ) (rs : List Entry) → All (λ j e. length (e .colour .samples) ≡ 4) i rs → length (joined row rs) ≡ 7 * length rs
+unfolding joined
+length-rows i [] h = refl
+length-rows i (e ∷ rs) h = omega (arith, length-append (row e) (joined row rs), length-row e (h .0), length-rows (i + 1) rs (h .1))
+
+pub given-rows : (rs : List Entry) → All (λ j e. length (e .colour .samples) ≡ 4) 0 rs → given (joined row rs) ≡ map taken rs
+given-rows rs h =
+    let n : length (joined row rs) / 7 ≡ length rs = omega (arith, length-rows 0 rs h) in
+    ap (λ (k : ℕ). givens (joined row rs) k 0) n ∙ rows-back [] 0 0 rs h refl
+
+-- ---- the names of an accepted file lie in it
+
+record Lies (s : List ℕ) (e : Entry) : Type 0 where
+  are : nums 2 (length (e .name .units)) s (e .name .first) ≡ e .name .units
+  inside : 0 < length (e .name .units) → e .name .first + 2 * length (e .name .units) ≤ length s
+
+lies-unnamed : (s : List ℕ) (e : Entry) → e .name .units ≡ [] → Lies s e
+unfolding nums
+lies-unnamed s e z =
+    let l : length (e .name .units) ≡ 0 = ap length z in
+    record { are = ap (λ (us : List ℕ). nums 2 (length us) s (e .name .first)) z ∙ sym z; inside = λ h. absurd (omega arith) }
+
+lies-placed : (s : List ℕ) (i : ℕ) (e : Entry) → Placed s i e → Lies s e
+lies-placed s i e p = record {
+  are = ap₂ (λ (n at : ℕ). nums 2 n s at) (p .count) (p .first) ∙ sym (p .units);
+  inside = λ h. omega (arith, p .first, p .count, p .inside);
+}
+
+all-lie : (s : List ℕ) {c : Contents} {q : ℕ} → aco s ≡ ok c q → All (λ k e. Lies s e) 0 (c .records)
+all-lie s {c} e = all-by (λ k e. Lies s e) (unnamed black) 0 (c .records) (λ k h. go k (omega (arith, records-count s e)) (ℕ-discrete (c .lists) 1))
+  where
+    go : (k : ℕ) → k < num 2 s 2 → Dec (c .lists ≡ 1) → Lies s (getD (c .records) k (unnamed black))
+    go k h (yes one) = lies-unnamed s _ (ap (λ (r : Entry). r .name .units) (one-record s e one k h))
+    go k h (no z) = let l = lists-are s e in let two : c .lists ≡ 2 = omega arith in lies-placed s k _ (records-place s e two k h)
+
+swatches-back : (s : List ℕ) (i : ℕ) (rs : List Entry) → All (λ k e. Lies s e) i rs → map (swatchIn s) (map taken rs) ≡ map swatch rs
+swatches-back s i [] h = refl
+swatches-back s i (e ∷ rs) h =
+    ap₂ (λ (us : List ℕ) (ws : List Swatch). record { space = e .colour .space; samples = e .colour .samples; name = us } ∷ ws) (h .0 .are) (swatches-back s (i + 1) rs (h .1))
+
+-- ---- the records of an accepted file, as they stand in a table
+
+pub palette-of : {l : ℕ} {ws : List Swatch} {b : List ℕ} → File l ws b → Palette ws
+palette-of (plain pal none short) = pal
+palette-of (named pal short) = pal
+
+-- a file of one list has no names, and is as long with two lists as its number of colours says
+pub bare-of : {l : ℕ} {ws : List Swatch} {b : List ℕ} → File l ws b → l ≡ 1 → All (λ k w. w .name ≡ []) 0 ws × (b ≡ listOne ws)
+bare-of (plain pal none short) e = (none, refl)
+bare-of (named pal short) e = absurd (omega arith)
+
+length-entries : (i : ℕ) (ws : List Swatch) → All (λ k w. Allowed w) i ws → All (λ k w. w .name ≡ []) i ws → length (joined entryBytes ws) ≡ 16 * length ws
+unfolding joined
+length-entries i [] h n = refl
+length-entries i (w ∷ ws) h n = omega (arith, length-append (entryBytes w) (joined entryBytes ws), length-entry w (h .0 .four), ap length (n .0), length-entries (i + 1) ws (h .1) (n .1))
+
+pub length-bare : (ws : List Swatch) → All (λ k w. Allowed w) 0 ws → All (λ k w. w .name ≡ []) 0 ws → length (twoLists ws) ≡ 8 + 26 * length ws
+unfolding twoLists
+length-bare ws h n =
+    omega (arith, length-append (listOne ws) (listTwo ws), length-one ws (all-map (λ k w. Allowed w) (λ k w. length (w .samples) ≡ 4) (λ k w a. a .four) 0 ws h), length-two ws, length-entries 0 ws h n)
+
+taken-fits : (s : List ℕ) (e : Entry) → Lies s e → Fits (swatch e) → Fitting s (taken e)
+taken-fits s e l f = record {
+  small = omega (arith, f .small);
+  four = f .four;
+  each-small = all-map (λ k v. v < 256 ^ 2) (λ k v. v < 65536) (λ k v h. omega arith) 0 (e .colour .samples) (f .each-small);
+  counted = f .counted;
+  inside = l .inside;
+}
+
+module _ (s : List ℕ) (bytes : Bytes s) {c : Contents} {q : ℕ} (e : aco s ≡ ok c q) where
+  all-fit : All (λ k e. Fits (swatch e)) 0 (c .records)
+  all-fit =
+      all-source swatch (λ k w. Fits w) 0 (c .records)
+      (all-map (λ k w. Allowed w) (λ k w. Fits w) (λ k w h. allowed-fits w h) 0 (map swatch (c .records)) (palette-of (accepted-allowed bytes e .0) .swatches))
+
+  given-are : tabled c ≡ map taken (c .records)
+  given-are = given-rows (c .records) (all-map (λ k e. Fits (swatch e)) (λ k e. length (e .colour .samples) ≡ 4) (λ k e f. f .four) 0 (c .records) all-fit)
+
+  -- they are the swatches that were read
+  pub given-swatches : map (swatchIn s) (tabled c) ≡ map swatch (c .records)
+  given-swatches = ap (map (swatchIn s)) given-are ∙ swatches-back s 0 (c .records) (all-lie s e)
+
+  -- they fit
+  pub given-fit : All (λ k g. Fitting s g) 0 (tabled c)
+  given-fit =
+      subst (λ (gs : List Given). All (λ k g. Fitting s g) 0 gs) (sym given-are)
+      (all-image taken (λ k g. Fitting s g) 0 (c .records)
+      (all-map (λ k e. Lies s e × Fits (swatch e)) (λ k e. Fitting s (taken e)) (λ k e h. taken-fits s e (h .0) (h .1)) 0 (c .records) (all-both (λ k e. Lies s e) (λ k e. Fits (swatch e)) 0 (c .records) (all-lie s e) all-fit)))

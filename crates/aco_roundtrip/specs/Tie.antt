@@ -1,0 +1,31 @@
+-- What the theorems say of a file, and of a record that is given to a writer.
+use Prim.Native.Nat.{ℕ, _+_, _*_, _^_, _≤_, _<_}
+use mathlib.Core.Path.{_≡_}
+use mathlib.Core.List.{List, map}
+use lib.ListN.{length}
+use Rattle.fields.specs.Numbers.{joined, All}
+use Rattle.fields.specs.Reader.{ok}
+use Rattle.aco.specs.Grammar.{Swatch, twoLists}
+use Rattle.aco.specs.Reading.{Contents, aco, swatch}
+use Rattle.aco_read.specs.Table.{row}
+use Rattle.aco_write.specs.Writing.{Given, given, swatchIn}
+
+-- the file b is accepted to its end, with l lists, and holds the swatches ws
+abbrev pub Holds : List ℕ → ℕ → List Swatch → Type 0
+Holds b l ws = (c : Contents) × (aco b ≡ ok c (length b)) × (c .lists ≡ l) × (map swatch (c .records) ≡ ws)
+
+-- the bytes that are made of given records, whose names lie in `text`
+abbrev pub made : List ℕ → List Given → List ℕ
+made text gs = twoLists (map (swatchIn text) gs)
+
+-- the records of a file that was read, given to a writer by the table that `read` fills
+abbrev pub tabled : Contents → List Given
+tabled c = given (joined row (c .records))
+
+-- a given record's numbers fit their fields, and its name, unless it is empty, lies in `text`; it may be refused all the same
+pub record Fitting (text : List ℕ) (g : Given) : Type 0 where
+  pub small : g .space < 65536
+  pub four : length (g .samples) ≡ 4
+  pub each-small : All (λ k v. v < 65536) 0 (g .samples)
+  pub counted : g .units + 1 < 256 ^ 4
+  pub inside : 0 < g .units → g .first + 2 * g .units ≤ length text
