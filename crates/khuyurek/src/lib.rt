@@ -3,13 +3,14 @@
 ghost use mathlib.Core.Path.{_≡_};
 ghost use Rattle.aco.specs.Reading.{aco};
 ghost use Rattle.aco.specs.Answer.{verdict, told};
-ghost use Rattle.aco_read.specs.Table.{filled, recordAt};
+ghost use Rattle.aco_read.specs.Table.{filled, recordAt, lies, refusal};
 ghost use Rattle.aco_write.specs.Writing.{given, needed, written};
 ghost use Rattle.aco_write.specs.Answer.{told as toldWritten};
-ghost use Rattle.khuyurek.specs.Exported.{answerOf, recordOf, writtenOf, readOf, wroteOf};
+ghost use Rattle.khuyurek.specs.Exported.{answerOf, placed, recordOf, writtenOf, readOf, wroteOf};
 use aco::Answer;
 use aco_read::NamePlace;
 use aco_write::Written;
+use colour::Colour;
 
 // Number 0 is accepted, with the number of colours and of lists; else the refusal with its place,
 // and for 7 the record and field.
@@ -104,6 +105,38 @@ pub extern "C" fn khuyurek_aco_read(file: &[u8], table: &mut [u32]) -> AcoAnswer
     exported(aco_read::read(file, table))
 }
 
+fn found(colour: Colour, name: usize, units: u32) -> AcoRecord
+    ensures { λ r. ⌜ r ≡ placed colour (lies name units) ⌝ }
+{
+    let samples = colour.samples;
+    AcoRecord {
+        number: 0,
+        units,
+        place: 0,
+        rec: 0,
+        field: 0,
+        name,
+        space: colour.space,
+        samples,
+    }
+}
+
+fn missing(colour: Colour, number: u32, place: usize, rec: usize, field: usize) -> AcoRecord
+    ensures { λ r. ⌜ r ≡ placed colour (refusal number place rec field) ⌝ }
+{
+    let samples = colour.samples;
+    AcoRecord {
+        number,
+        units: 0,
+        place,
+        rec,
+        field,
+        name: 0,
+        space: colour.space,
+        samples,
+    }
+}
+
 // Record i of a file.
 #[no_mangle]
 pub extern "C" fn khuyurek_aco_record_at(file: &[u8], i: usize) -> AcoRecord
@@ -111,44 +144,15 @@ pub extern "C" fn khuyurek_aco_record_at(file: &[u8], i: usize) -> AcoRecord
 {
     let swatch = aco_read::record_at(file, i);
     let colour = swatch.colour;
-    let found = swatch.name;
-    let samples = colour.samples;
-    let space = colour.space;
-    match found {
-        NamePlace::At { place, units } => AcoRecord {
-            number: 0,
-            units,
-            place: 0,
-            rec: 0,
-            field: 0,
-            name: place,
-            space,
-            samples,
-        },
-        NamePlace::Refused { number, place } => AcoRecord {
-            number,
-            units: 0,
-            place,
-            rec: 0,
-            field: 0,
-            name: 0,
-            space,
-            samples,
-        },
+    let name = swatch.name;
+    match name {
+        NamePlace::At { place, units } => found(colour, place, units),
+        NamePlace::Refused { number, place } => missing(colour, number, place, 0, 0),
         NamePlace::Differ {
             place,
             record,
             field,
-        } => AcoRecord {
-            number: 7,
-            units: 0,
-            place,
-            rec: record,
-            field,
-            name: 0,
-            space,
-            samples,
-        },
+        } => missing(colour, 7, place, record, field),
     }
 }
 

@@ -69,7 +69,7 @@ fn each_field_of_p3_that_differs_is_named() {
             number: 7,
             place,
             record: 0,
-            field: field as usize,
+            field,
         };
         assert_eq!(judge(&file), Err(expected));
     }
