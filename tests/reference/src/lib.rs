@@ -1,6 +1,6 @@
 //! The rules of ACO swatch files in plain, safe Rust.
 //!
-//! Written from the paper that states the rules, without a look at the proved
+//! Written from the rules themselves, without a look at the proved
 //! library: where the two agree, they agree by the rules. It is also what the
 //! proved library is timed against, so it goes over a file in linear time,
 //! copies nothing, and fills lent slices in place.

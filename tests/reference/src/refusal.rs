@@ -1,6 +1,6 @@
-//! The refusal slip.
+//! Refusals.
 
-/// The numbers an ACO call can put on the slip.
+/// The numbers that an ACO call can refuse with.
 pub mod number {
     pub const TOO_LONG: u32 = 1;
     pub const CUT: u32 = 2;

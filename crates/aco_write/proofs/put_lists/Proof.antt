@@ -24,7 +24,7 @@ put-u16-requires-2 c κs = search needs
 
 -- src/lib.rt:261:5
 put-colours-requires : tie.Need-put-colours-requires
-put-colours-requires c κs = let s = c .before .before .before .before .before .before .before .before .before .before .before .before in let h = sizes-all (s .args .run .now) (s .args .n) 0 in let m = length-givens (s .args .run .now) (s .args .n) 0 in (omega (arith, h, m, s .pre .2 .inside), s .pre .0)
+put-colours-requires c κs = let s = c .before .before .before .before .before .before .before .before .before .before .before .before in let h = sizes-all (s .args .run .now) (s .args .n) 0 in let m = length-givens (s .args .run .now) (s .args .n) 0 in (omega (arith, h, m, s .pre .2 .inside), omega (arith, s .pre .0))
 
 -- src/lib.rt:262:30
 mul-put-u16 : tie.Need-mul-put-u16

@@ -1,3 +1,4 @@
+use native.Mathlib.Omega.{arith}
 use mathlib.Core.Path.{sym, _∙_}
 use Rattle.aco_write.proofs.Judging.{sample-large, sample-is}
 use borrow.Author.Needs.{needs}
@@ -9,7 +10,7 @@ use Rattle.colour.proofs.is_allowed.Reads as is-allowed-reads
 
 -- src/lib.rt:54:9
 returns : tie.Need-returns
-returns c = sym (sample-large _ _ _ (c .if1 .taken))
+returns c = sym (sample-large _ _ _ (omega arith))
 
 -- src/lib.rt:56:27
 cast-is-allowed : tie.Need-cast-is-allowed

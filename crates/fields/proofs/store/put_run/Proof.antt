@@ -54,7 +54,7 @@ loop-again c =
     let l = c .before .before .loop in
     let a = c .before .before .before .before .before .args in (
       omega arith,
-      copy-turn _ (a .run .now) (l .out) (a .at) (l .i) (l .inv .1) (c .before .loop-test .taken),
+      copy-turn _ (a .run .now) (l .out) (a .at) (l .i) (l .inv .1) (omega arith),
       length-set (l .out) (a .at + l .i) _ ∙ l .inv .2,
     )
 
