@@ -17,7 +17,7 @@ use Rattle.aco.specs.Raw.{rawColour}
 use Rattle.aco.specs.Places.{entryPlace}
 use Rattle.aco.specs.Answer.{Verdict, accepted, refused, verdict}
 use Rattle.aco.proofs.RoundTrip.{lists-are}
-use Rattle.aco_read.specs.Table.{row, numbers, width, filled, Where, lies, refusal, swatchOf, recordAt, nameBytesAt, recordsOf, Accepted}
+use Rattle.aco_read.specs.Table.{row, numbers, width, filled, Where, lies, refusal, swatchOf, noRecord, recordAt, nameBytesAt, recordsOf, Accepted}
 use Rattle.aco_read.proofs.Filling.{records-are, length-records, plain-in, plain-row, plain-swatch, named-in, named-colour, named-row, named-swatch}
 
 -- ---- from the verdict to what the file holds
@@ -81,11 +81,11 @@ filled-refused m t e = sym (ap (λ (k : Res Contents). filled k t) (refused-of m
 
 -- ---- a record by its number
 
-pub record-refused : (i : ℕ) (m : Res Contents) {x p r f : ℕ} → refused x p r f ≡ verdict m → (black, refusal x p r f) ≡ recordAt i m
+pub record-refused : (i : ℕ) (m : Res Contents) {x p r f : ℕ} → refused x p r f ≡ verdict m → noRecord (refusal x p r f) ≡ recordAt i m
 record-refused i m e = sym (ap (recordAt i) (refused-of m e))
 
 module _ (m : Res Contents) (l n : ℕ) (a : Accepted m l n) (i : ℕ) where
-  pub record-none : n ≤ i → (black, refusal 12 0 0 0) ≡ recordAt i m
+  pub record-none : n ≤ i → noRecord (refusal 12 0 0 0) ≡ recordAt i m
   record-none h = let k : length (a .0 .records) ≤ i = omega (arith, a .4) in sym (ap (recordAt i) (a .2) ∙ simp (le-ltb _ _ k))
 
   pub record-is : i < n → (w : Colour × Where) → w ≡ swatchOf (getD (a .0 .records) i (unnamed black)) → w ≡ recordAt i m
@@ -105,7 +105,7 @@ name-in s i p u e = go (aco s) refl e
         let j = same (sym (ap (λ (w : Colour × Where). w .1) (named-swatch s l n a two i h)) ∙ z) in
         omega (arith, named-in s l n a two i h)
 
-    test : (c : Contents) (q : ℕ) → aco s ≡ ok c q → (b : Bool) → ltb i (length (c .records)) ≡ b → pick b (swatchOf (getD (c .records) i (unnamed black))) (black, refusal 12 0 0 0) .1 ≡ lies p u → p + 2 * u ≤ length s
+    test : (c : Contents) (q : ℕ) → aco s ≡ ok c q → (b : Bool) → ltb i (length (c .records)) ≡ b → pick b (swatchOf (getD (c .records) i (unnamed black))) (noRecord (refusal 12 0 0 0)) .1 ≡ lies p u → p + 2 * u ≤ length s
     test c q x true h z = found (c .lists) (length (c .records)) (c, q, x, refl, refl) (ltb-true _ _ h) z (ℕ-discrete (c .lists) 1)
     test c q x false h z = let w : _≡_ {A = ℕ} 0 1 = cc in absurd (omega arith)
 

@@ -121,8 +121,34 @@ module _ (s : List ℕ) (l n : ℕ) (a : Accepted (aco s) l n) where
         inOrder : Colour × Where → List ℕ
         inOrder w = w .0 .space ∷ (w .0 .samples ++ (placeOf (w .1) ∷ unitsOf (w .1) ∷ []))
 
-pub numbers-same : {c k : Colour} {p q u v : ℕ} → c ≡ k → p ≡ q → u ≡ v → numbers c p u ≡ numbers k q v
-numbers-same {k = k} {q = q} {v = v} e f g = rw (e, f, g)
+-- record i of a file of two lists, where p is its place and c the count of its name as it is loaded
+pub record Counted (s : List ℕ) (n i p c : ℕ) : Type 0 where
+  pub short : length s ≤ limit
+  pub some : 0 < c
+  pub inside : p + 14 + 2 * c ≤ length s
+  pub next : p + (14 + 2 * c) ≡ entryPlace s n (i + 1)
+  pub is-row : row (getD (recordsOf (aco s)) i (unnamed black)) ≡ numbers (rawColour s (4 + 10 * i)) (p + 14) (c - 1)
+  pub is-swatch : recordAt i (aco s) ≡ (rawColour s (4 + 10 * i), lies (p + 14) (c - 1))
+
+module _ (s : List ℕ) (l n : ℕ) (a : Accepted (aco s) l n) (two : l ≡ 2) (i : ℕ) (h : i < n) (p : ℕ) (e : p ≡ entryPlace s n i) where
+  -- the count itself is inside
+  pub counted-in : (p + 14 ≤ length s) × (length s ≤ limit)
+  counted-in = (omega (arith, named-in s l n a two i h), small s l n a)
+
+  pub counted : (c : ℕ) → c ≡ orZero (field 4 s (p + 10)) → Counted s n i p c
+  counted c f =
+      let inside = named-in s l n a two i h in
+      let k : c ≡ num 4 s (entryPlace s n i + 10) = load 4 s (entryPlace s n i + 10) c (omega arith) (omega arith) (f ∙ ap (λ (q : ℕ). orZero (field 4 s (q + 10))) e) in
+      let g : i < length (a .0 .records) = omega (arith, a .4) in record {
+        short = small s l n a;
+        some = omega (arith, named-some s l n a two i h);
+        inside = omega arith;
+        next = omega (arith, entry-next s n i);
+        is-row = named-row s l n a two i h ∙ sym (ap₂ (λ (q u : ℕ). numbers (rawColour s (4 + 10 * i)) (q + 14) (u - 1)) e k);
+        is-swatch =
+            ap (recordAt i) (a .2) ∙ simp (lt-ltb _ _ g) (named-swatch s l n a two i h
+            ∙ sym (ap₂ (λ (q u : ℕ). (rawColour s (4 + 10 * i), lies (q + 14) (u - 1))) e k));
+      }
 
 -- ---- a turn of the loop that stores rows: what is left to store, stored over what there is, is the whole
 

@@ -41,14 +41,18 @@ pub data Where : Type 0 where
   lies : ℕ → ℕ → Where
   refusal : ℕ → ℕ → ℕ → ℕ → Where
 
--- a record's colour and where its name lies; on a refusal the colour is all zeros
+-- on a refusal the colour is all zeros
+abbrev pub noRecord : Where → Colour × Where
+noRecord w = (black, w)
+
+-- a record's colour and where its name lies
 abbrev pub swatchOf : Entry → Colour × Where
 swatchOf e = (e .colour, lies (e .name .first) (length (e .name .units)))
 
 -- the file's own refusal first, then 12 where it has no such record
 abbrev pub recordAt : ℕ → Res Contents → Colour × Where
-recordAt i (refuse x p r f) = (black, refusal x p r f)
-recordAt i (ok c q) = pick (ltb i (length (c .records))) (swatchOf (getD (c .records) i (unnamed black))) (black, refusal 12 0 0 0)
+recordAt i (refuse x p r f) = noRecord (refusal x p r f)
+recordAt i (ok c q) = pick (ltb i (length (c .records))) (swatchOf (getD (c .records) i (unnamed black))) (noRecord (refusal 12 0 0 0))
 
 -- the bytes of a name's units in the file; none on a refusal
 abbrev pub nameBytesAt : List ℕ → Where → List ℕ

@@ -1,6 +1,5 @@
 // ACO swatches: a file's records into a lent table, and a record by its number.
 ghost use mathlib.Core.Path.{_≡_};
-ghost use mathlib.Core.List.{_∷_, []};
 ghost use Prim.Native.Nat.{_+_, _*_, _≤_, _<_};
 ghost use lib.ListN.{length};
 ghost use lib.Seq.{sets};
@@ -9,8 +8,8 @@ ghost use Rattle.aco.specs.Reading.{aco};
 ghost use Rattle.aco.specs.Raw.{rawColour};
 ghost use Rattle.aco.specs.Places.{entryPlace};
 ghost use Rattle.aco.specs.Answer.{told};
-ghost use Rattle.aco_read.specs.Table.{row, numbers, filled, recordAt, nameBytesAt, recordsOf, Accepted};
-ghost use Rattle.aco_read.specs.Answer.{toldPlace};
+ghost use Rattle.aco_read.specs.Table.{row, numbers, filled, noRecord, recordAt, nameBytesAt, recordsOf, Accepted};
+ghost use Rattle.aco_read.specs.Answer.{toldPlace, toldSwatch};
 use aco::Answer;
 use colour::Colour;
 
@@ -149,62 +148,62 @@ fn entry_place(file: &[u8], n: usize, i: usize) -> usize
     place
 }
 
-fn black() -> Colour
-    ensures { λ r. ⌜ r ≡ record { space = 0; samples = 0 ∷ 0 ∷ 0 ∷ 0 ∷ [] } ⌝ }
+// No record: a colour of zeros beside the refusal.
+fn none(name: NamePlace) -> Swatch
+    ensures { λ r. ⌜ toldSwatch r ≡ noRecord (toldPlace name) ⌝ }
 {
-    Colour {
+    let colour = Colour {
         space: 0,
         samples: [0; 4],
+    };
+    Swatch { colour, name }
+}
+
+// Record i of an accepted file, which has it.
+fn found(file: &[u8], colours: usize, lists: usize, i: usize) -> Swatch
+    requires { ⌜ Accepted (aco (now file)) lists colours × (i < colours) ⌝ }
+    ensures { λ r. ⌜ toldSwatch r ≡ recordAt i (aco (now (file .entry))) ⌝ }
+{
+    let colour = colour_at(file, 4 + 10 * i);
+    if lists == 1 {
+        let name = NamePlace::At { place: 0, units: 0 };
+        return Swatch { colour, name };
     }
+    let p = entry_place(file, colours, i);
+    let count = fields::u32_or_zero(file, p + 10);
+    let name = NamePlace::At {
+        place: p + 14,
+        units: count - 1,
+    };
+    Swatch { colour, name }
 }
 
 // Record i of a file.
 pub fn record_at(file: &[u8], i: usize) -> Swatch
-    ensures { λ r. ⌜ (r .colour, toldPlace (r .name)) ≡ recordAt i (aco (now (file .entry))) ⌝ }
+    ensures { λ r. ⌜ toldSwatch r ≡ recordAt i (aco (now (file .entry))) ⌝ }
 {
     match aco::judge(file) {
-        Answer::Refused { number, place } => Swatch {
-            colour: black(),
-            name: NamePlace::Refused { number, place },
-        },
+        Answer::Refused { number, place } => none(NamePlace::Refused { number, place }),
         Answer::Differ {
             place,
             record,
             field,
-        } => Swatch {
-            colour: black(),
-            name: NamePlace::Differ {
+        } => {
+            none(NamePlace::Differ {
                 place,
                 record,
                 field,
-            },
-        },
+            })
+        }
         Answer::Accepted { colours, lists } => {
             if colours <= i {
-                return Swatch {
-                    colour: black(),
-                    name: NamePlace::Refused {
-                        number: 12,
-                        place: 0,
-                    },
+                let name = NamePlace::Refused {
+                    number: 12,
+                    place: 0,
                 };
+                return none(name);
             }
-            let colour = colour_at(file, 4 + 10 * i);
-            if lists == 1 {
-                return Swatch {
-                    colour,
-                    name: NamePlace::At { place: 0, units: 0 },
-                };
-            }
-            let p = entry_place(file, colours, i);
-            let count = fields::u32_or_zero(file, p + 10);
-            Swatch {
-                colour,
-                name: NamePlace::At {
-                    place: p + 14,
-                    units: count - 1,
-                },
-            }
+            found(file, colours, lists, i)
         }
     }
 }

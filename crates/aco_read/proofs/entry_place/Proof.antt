@@ -2,9 +2,10 @@ use mathlib.Core.Path.{_≡_, refl, sym, ap, _∙_}
 use native.Mathlib.Omega.{arith}
 use borrow.Author.Needs.{needs}
 use Prim.Native.Nat.{ℕ, _+_, _-_, _*_, _≤_, _<_}
-use Rattle.fields.specs.Reader.{field, orZero}
+use Rattle.fields.specs.Reader.{limit}
+use lib.ListN.{length}
 use Rattle.aco.specs.Places.{entryPlace}
-use Rattle.aco_read.proofs.Filling.{named-in, named-some, small, count-small, entry-first, entry-next, load}
+use Rattle.aco_read.proofs.Filling.{count-small, entry-first, Counted, counted-in, counted}
 use Rattle.aco_read.proofs.entry_place.Statement.{statement}
 use Rattle.aco_read.proofs.entry_place.Tie as tie
 use Rattle.aco_read.proofs.entry_place.Reads as reads
@@ -16,6 +17,19 @@ Inv-loop file n i k₀ place₀ k place = (k ≤ i) × (place ≡ entryPlace fil
 
 abbrev μ-loop : tie.MeasureT-loop
 μ-loop file n i k₀ place₀ k place = i - k
+
+-- what is known of record k where its place is, and once its count is loaded
+here : (c : tie.In-loop Inv-loop μ-loop) → (c .before .loop .place + 14 ≤ length (c .before .before .before .args .file .now)) × (length (c .before .before .before .args .file .now) ≤ limit)
+here c =
+    let st = c .before .before .before in
+    counted-in (st .args .file .now) 2 (st .args .n) (st .pre .0) refl (c .before .loop .k) (omega (arith, c .loop-test .taken, st .pre .1)) (c .before .loop .place) (c .before .loop .inv .1)
+
+loaded : (u : tie.After-u32-or-zero Inv-loop μ-loop)
+    → Counted (u .before .before .before .before .args .file .now) (u .before .before .before .before .args .n) (u .before .before .loop .k) (u .before .before .loop .place) (u .u32-or-zero .result)
+loaded u =
+    let c = u .before in
+    let st = c .before .before .before in
+    counted (st .args .file .now) 2 (st .args .n) (st .pre .0) refl (c .before .loop .k) (omega (arith, c .loop-test .taken, st .pre .1)) (c .before .loop .place) (c .before .loop .inv .1) _ (u .u32-or-zero .ensures)
 
 -- src/lib.rt:133:21
 mul-place : tie.Need-mul-place Inv-loop μ-loop
@@ -31,15 +45,7 @@ loop-holds c = (omega arith, sym (entry-first _ _))
 
 -- src/lib.rt:135:47
 add-u32-or-zero : tie.Need-add-u32-or-zero Inv-loop μ-loop
-add-u32-or-zero c =
-    let tn = c in
-    let l = tn .before .loop in
-    let st = tn .before .before .before in
-    let a = st .args in
-    let s = a .file .now in
-    let inside = named-in s 2 (a .n) (st .pre .0) refl (l .k) (omega (arith, tn .loop-test .taken, st .pre .1)) in
-    let short = small s 2 (a .n) (st .pre .0) in
-    omega arith
+add-u32-or-zero c = omega (arith, here c)
 
 -- src/lib.rt:135:13
 u32-or-zero-requires : tie.Need-u32-or-zero-requires Inv-loop μ-loop
@@ -47,63 +53,19 @@ u32-or-zero-requires c κs = search needs
 
 -- src/lib.rt:136:24
 cast-place : tie.Need-cast-place Inv-loop μ-loop
-cast-place c =
-    let u = c in
-    let tn = u .before in
-    let l = tn .before .loop in
-    let st = tn .before .before .before in
-    let a = st .args in
-    let s = a .file .now in
-    let inside = named-in s 2 (a .n) (st .pre .0) refl (l .k) (omega (arith, tn .loop-test .taken, st .pre .1)) in
-    let short = small s 2 (a .n) (st .pre .0) in
-    let some = named-some s 2 (a .n) (st .pre .0) refl (l .k) (omega (arith, tn .loop-test .taken, st .pre .1)) in
-    let count = load 4 s (entryPlace s (a .n) (l .k) + 10) _ (omega arith) (omega arith) (u .u32-or-zero .ensures ∙ ap (λ (k : ℕ). orZero (field 4 s (k + 10))) (l .inv .1)) in
-    omega arith
+cast-place c = omega (arith, loaded c)
 
 -- src/lib.rt:136:19
 mul-place-2 : tie.Need-mul-place-2 Inv-loop μ-loop
-mul-place-2 c =
-    let u = c in
-    let tn = u .before in
-    let l = tn .before .loop in
-    let st = tn .before .before .before in
-    let a = st .args in
-    let s = a .file .now in
-    let inside = named-in s 2 (a .n) (st .pre .0) refl (l .k) (omega (arith, tn .loop-test .taken, st .pre .1)) in
-    let short = small s 2 (a .n) (st .pre .0) in
-    let some = named-some s 2 (a .n) (st .pre .0) refl (l .k) (omega (arith, tn .loop-test .taken, st .pre .1)) in
-    let count = load 4 s (entryPlace s (a .n) (l .k) + 10) _ (omega arith) (omega arith) (u .u32-or-zero .ensures ∙ ap (λ (k : ℕ). orZero (field 4 s (k + 10))) (l .inv .1)) in
-    omega arith
+mul-place-2 c = omega (arith, loaded c)
 
 -- src/lib.rt:136:14
 add-place-2 : tie.Need-add-place-2 Inv-loop μ-loop
-add-place-2 c =
-    let u = c in
-    let tn = u .before in
-    let l = tn .before .loop in
-    let st = tn .before .before .before in
-    let a = st .args in
-    let s = a .file .now in
-    let inside = named-in s 2 (a .n) (st .pre .0) refl (l .k) (omega (arith, tn .loop-test .taken, st .pre .1)) in
-    let short = small s 2 (a .n) (st .pre .0) in
-    let some = named-some s 2 (a .n) (st .pre .0) refl (l .k) (omega (arith, tn .loop-test .taken, st .pre .1)) in
-    let count = load 4 s (entryPlace s (a .n) (l .k) + 10) _ (omega arith) (omega arith) (u .u32-or-zero .ensures ∙ ap (λ (k : ℕ). orZero (field 4 s (k + 10))) (l .inv .1)) in
-    omega arith
+add-place-2 c = omega (arith, loaded c)
 
 -- src/lib.rt:136:9
 add-place-3 : tie.Need-add-place-3 Inv-loop μ-loop
-add-place-3 c =
-    let u = c in
-    let tn = u .before in
-    let l = tn .before .loop in
-    let st = tn .before .before .before in
-    let a = st .args in
-    let s = a .file .now in
-    let inside = named-in s 2 (a .n) (st .pre .0) refl (l .k) (omega (arith, tn .loop-test .taken, st .pre .1)) in
-    let short = small s 2 (a .n) (st .pre .0) in
-    let some = named-some s 2 (a .n) (st .pre .0) refl (l .k) (omega (arith, tn .loop-test .taken, st .pre .1)) in
-    let count = load 4 s (entryPlace s (a .n) (l .k) + 10) _ (omega arith) (omega arith) (u .u32-or-zero .ensures ∙ ap (λ (k : ℕ). orZero (field 4 s (k + 10))) (l .inv .1)) in
-    omega arith
+add-place-3 c = omega (arith, loaded c)
 
 -- src/lib.rt:137:9
 add-k : tie.Need-add-k Inv-loop μ-loop
@@ -115,18 +77,7 @@ loop-less c = search needs
 
 -- src/lib.rt:134:5
 loop-again : tie.Need-loop-again Inv-loop μ-loop
-loop-again c =
-    let u = c in
-    let tn = u .before in
-    let l = tn .before .loop in
-    let st = tn .before .before .before in
-    let a = st .args in
-    let s = a .file .now in
-    let inside = named-in s 2 (a .n) (st .pre .0) refl (l .k) (omega (arith, tn .loop-test .taken, st .pre .1)) in
-    let short = small s 2 (a .n) (st .pre .0) in
-    let some = named-some s 2 (a .n) (st .pre .0) refl (l .k) (omega (arith, tn .loop-test .taken, st .pre .1)) in
-    let count = load 4 s (entryPlace s (a .n) (l .k) + 10) _ (omega arith) (omega arith) (u .u32-or-zero .ensures ∙ ap (λ (k : ℕ). orZero (field 4 s (k + 10))) (l .inv .1)) in
-    (omega arith, omega (arith, entry-next s (a .n) (l .k), l .inv .1, count))
+loop-again c = let k = loaded c in (omega arith, omega (arith, k .next))
 
 -- src/lib.rt:128:1
 returns : tie.Need-returns Inv-loop μ-loop

@@ -1,4 +1,4 @@
-use Rattle.fields.specs.Reader.{field, orZero}
+use Rattle.fields.specs.Reader.{limit}
 use mathlib.Core.Path.{_≡_, refl, sym, ap, _∙_}
 use native.Mathlib.Omega.{arith}
 use borrow.Author.Needs.{needs}
@@ -11,7 +11,7 @@ use Rattle.aco.specs.Places.{entryPlace}
 use Rattle.aco.specs.Raw.{rawColour}
 use Rattle.colour.specs.declared.Colour.{Colour}
 use Rattle.aco_read.specs.Table.{row, numbers, recordsOf}
-use Rattle.aco_read.proofs.Filling.{named-in, named-some, named-colour, named-row, small, count-small, entry-first, entry-next, length-records, load, fill-turn, fill-end, numbers-same}
+use Rattle.aco_read.proofs.Filling.{named-colour, count-small, entry-first, length-records, Counted, counted-in, counted, fill-turn, fill-end}
 use Rattle.aco_read.proofs.fill_named.Statement.{statement}
 use Rattle.aco_read.proofs.fill_named.Tie as tie
 use Rattle.aco_read.proofs.fill_named.Reads as reads
@@ -25,6 +25,19 @@ Inv-loop file n table₀ i₀ p₀ table i p = (i ≤ n) × (sets table₀ 0 (jo
 
 abbrev μ-loop : tie.MeasureT-loop
 μ-loop file n table₀ i₀ p₀ table i p = n - i
+
+-- what is known of record i where its place is, and once its count is loaded
+here : (c : tie.In-loop Inv-loop μ-loop) → (c .before .loop .p + 14 ≤ length (c .before .before .before .before .args .file .now)) × (length (c .before .before .before .before .args .file .now) ≤ limit)
+here c =
+    let st = c .before .before .before .before in
+    counted-in (st .args .file .now) 2 (st .args .n) (st .pre .0) refl (c .before .loop .i) (c .loop-test .taken) (c .before .loop .p) (c .before .loop .inv .3)
+
+loaded : (u : tie.After-u32-or-zero Inv-loop μ-loop)
+    → Counted (u .before .before .before .before .before .before .args .file .now) (u .before .before .before .before .before .before .args .n) (u .before .before .before .loop .i) (u .before .before .before .loop .p) (u .u32-or-zero .result)
+loaded u =
+    let c = u .before .before in
+    let st = c .before .before .before .before in
+    counted (st .args .file .now) 2 (st .args .n) (st .pre .0) refl (c .before .loop .i) (c .loop-test .taken) (c .before .loop .p) (c .before .loop .inv .3) _ (u .u32-or-zero .ensures)
 
 -- src/lib.rt:95:21
 mul-p : tie.Need-mul-p Inv-loop μ-loop
@@ -54,15 +67,7 @@ colour-at-requires c κs =
 
 -- src/lib.rt:98:47
 add-u32-or-zero : tie.Need-add-u32-or-zero Inv-loop μ-loop
-add-u32-or-zero c =
-    let tn = c .before in
-    let l = tn .before .loop in
-    let st = tn .before .before .before .before in
-    let a = st .args in
-    let s = a .file .now in
-    let inside = named-in s 2 (a .n) (st .pre .0) refl (l .i) (tn .loop-test .taken) in
-    let short = small s 2 (a .n) (st .pre .0) in
-    omega arith
+add-u32-or-zero c = omega (arith, here (c .before))
 
 -- src/lib.rt:98:13
 u32-or-zero-requires : tie.Need-u32-or-zero-requires Inv-loop μ-loop
@@ -74,123 +79,35 @@ mul-put-row c = search needs
 
 -- src/lib.rt:99:39
 add-put-row : tie.Need-add-put-row Inv-loop μ-loop
-add-put-row c =
-    let u = c .before in
-    let tn = u .before .before in
-    let l = tn .before .loop in
-    let st = tn .before .before .before .before in
-    let a = st .args in
-    let s = a .file .now in
-    let inside = named-in s 2 (a .n) (st .pre .0) refl (l .i) (tn .loop-test .taken) in
-    let short = small s 2 (a .n) (st .pre .0) in
-    let some = named-some s 2 (a .n) (st .pre .0) refl (l .i) (tn .loop-test .taken) in
-    let count = load 4 s (entryPlace s (a .n) (l .i) + 10) _ (omega arith) (omega arith) (u .u32-or-zero .ensures ∙ ap (λ (k : ℕ). orZero (field 4 s (k + 10))) (l .inv .3)) in
-    omega arith
+add-put-row c = omega (arith, loaded (c .before))
 
 -- src/lib.rt:99:38
 cast-put-row : tie.Need-cast-put-row Inv-loop μ-loop
-cast-put-row c =
-    let u = c .before in
-    let tn = u .before .before in
-    let l = tn .before .loop in
-    let st = tn .before .before .before .before in
-    let a = st .args in
-    let s = a .file .now in
-    let inside = named-in s 2 (a .n) (st .pre .0) refl (l .i) (tn .loop-test .taken) in
-    let short = small s 2 (a .n) (st .pre .0) in
-    let some = named-some s 2 (a .n) (st .pre .0) refl (l .i) (tn .loop-test .taken) in
-    let count = load 4 s (entryPlace s (a .n) (l .i) + 10) _ (omega arith) (omega arith) (u .u32-or-zero .ensures ∙ ap (λ (k : ℕ). orZero (field 4 s (k + 10))) (l .inv .3)) in
-    omega arith
+cast-put-row c = omega (arith, loaded (c .before))
 
 -- src/lib.rt:99:55
 sub-put-row : tie.Need-sub-put-row Inv-loop μ-loop
-sub-put-row c =
-    let u = c .before in
-    let tn = u .before .before in
-    let l = tn .before .loop in
-    let st = tn .before .before .before .before in
-    let a = st .args in
-    let s = a .file .now in
-    let inside = named-in s 2 (a .n) (st .pre .0) refl (l .i) (tn .loop-test .taken) in
-    let short = small s 2 (a .n) (st .pre .0) in
-    let some = named-some s 2 (a .n) (st .pre .0) refl (l .i) (tn .loop-test .taken) in
-    let count = load 4 s (entryPlace s (a .n) (l .i) + 10) _ (omega arith) (omega arith) (u .u32-or-zero .ensures ∙ ap (λ (k : ℕ). orZero (field 4 s (k + 10))) (l .inv .3)) in
-    omega arith
+sub-put-row c = omega (arith, loaded (c .before))
 
 -- src/lib.rt:99:9
 put-row-requires : tie.Need-put-row-requires Inv-loop μ-loop
-put-row-requires c κs =
-    let u = c .before in
-    let tn = u .before .before in
-    let l = tn .before .loop in
-    let st = tn .before .before .before .before in
-    let a = st .args in
-    let s = a .file .now in
-    let inside = named-in s 2 (a .n) (st .pre .0) refl (l .i) (tn .loop-test .taken) in
-    let short = small s 2 (a .n) (st .pre .0) in
-    let some = named-some s 2 (a .n) (st .pre .0) refl (l .i) (tn .loop-test .taken) in
-    let count = load 4 s (entryPlace s (a .n) (l .i) + 10) _ (omega arith) (omega arith) (u .u32-or-zero .ensures ∙ ap (λ (k : ℕ). orZero (field 4 s (k + 10))) (l .inv .3)) in
-    omega (arith, st .pre .1)
+put-row-requires c κs = omega (arith, c .before .before .before .before .loop .inv .2, c .before .before .before .before .before .before .before .pre .1)
 
 -- src/lib.rt:100:24
 cast-p : tie.Need-cast-p Inv-loop μ-loop
-cast-p c =
-    let u = c .before .before .before .before in
-    let tn = u .before .before in
-    let l = tn .before .loop in
-    let st = tn .before .before .before .before in
-    let a = st .args in
-    let s = a .file .now in
-    let inside = named-in s 2 (a .n) (st .pre .0) refl (l .i) (tn .loop-test .taken) in
-    let short = small s 2 (a .n) (st .pre .0) in
-    let some = named-some s 2 (a .n) (st .pre .0) refl (l .i) (tn .loop-test .taken) in
-    let count = load 4 s (entryPlace s (a .n) (l .i) + 10) _ (omega arith) (omega arith) (u .u32-or-zero .ensures ∙ ap (λ (k : ℕ). orZero (field 4 s (k + 10))) (l .inv .3)) in
-    omega arith
+cast-p c = omega (arith, loaded (c .before .before .before .before))
 
 -- src/lib.rt:100:19
 mul-p-2 : tie.Need-mul-p-2 Inv-loop μ-loop
-mul-p-2 c =
-    let u = c .before .before .before .before in
-    let tn = u .before .before in
-    let l = tn .before .loop in
-    let st = tn .before .before .before .before in
-    let a = st .args in
-    let s = a .file .now in
-    let inside = named-in s 2 (a .n) (st .pre .0) refl (l .i) (tn .loop-test .taken) in
-    let short = small s 2 (a .n) (st .pre .0) in
-    let some = named-some s 2 (a .n) (st .pre .0) refl (l .i) (tn .loop-test .taken) in
-    let count = load 4 s (entryPlace s (a .n) (l .i) + 10) _ (omega arith) (omega arith) (u .u32-or-zero .ensures ∙ ap (λ (k : ℕ). orZero (field 4 s (k + 10))) (l .inv .3)) in
-    omega arith
+mul-p-2 c = omega (arith, loaded (c .before .before .before .before))
 
 -- src/lib.rt:100:14
 add-p-2 : tie.Need-add-p-2 Inv-loop μ-loop
-add-p-2 c =
-    let u = c .before .before .before .before in
-    let tn = u .before .before in
-    let l = tn .before .loop in
-    let st = tn .before .before .before .before in
-    let a = st .args in
-    let s = a .file .now in
-    let inside = named-in s 2 (a .n) (st .pre .0) refl (l .i) (tn .loop-test .taken) in
-    let short = small s 2 (a .n) (st .pre .0) in
-    let some = named-some s 2 (a .n) (st .pre .0) refl (l .i) (tn .loop-test .taken) in
-    let count = load 4 s (entryPlace s (a .n) (l .i) + 10) _ (omega arith) (omega arith) (u .u32-or-zero .ensures ∙ ap (λ (k : ℕ). orZero (field 4 s (k + 10))) (l .inv .3)) in
-    omega arith
+add-p-2 c = omega (arith, loaded (c .before .before .before .before))
 
 -- src/lib.rt:100:9
 add-p-3 : tie.Need-add-p-3 Inv-loop μ-loop
-add-p-3 c =
-    let u = c .before .before .before .before in
-    let tn = u .before .before in
-    let l = tn .before .loop in
-    let st = tn .before .before .before .before in
-    let a = st .args in
-    let s = a .file .now in
-    let inside = named-in s 2 (a .n) (st .pre .0) refl (l .i) (tn .loop-test .taken) in
-    let short = small s 2 (a .n) (st .pre .0) in
-    let some = named-some s 2 (a .n) (st .pre .0) refl (l .i) (tn .loop-test .taken) in
-    let count = load 4 s (entryPlace s (a .n) (l .i) + 10) _ (omega arith) (omega arith) (u .u32-or-zero .ensures ∙ ap (λ (k : ℕ). orZero (field 4 s (k + 10))) (l .inv .3)) in
-    omega arith
+add-p-3 c = omega (arith, loaded (c .before .before .before .before))
 
 -- src/lib.rt:101:9
 add-i : tie.Need-add-i Inv-loop μ-loop
@@ -208,17 +125,13 @@ loop-again c =
     let tn = u .before .before in
     let l = tn .before .loop in
     let st = tn .before .before .before .before in
-    let a = st .args in
-    let s = a .file .now in
-    let inside = named-in s 2 (a .n) (st .pre .0) refl (l .i) (tn .loop-test .taken) in
-    let short = small s 2 (a .n) (st .pre .0) in
-    let some = named-some s 2 (a .n) (st .pre .0) refl (l .i) (tn .loop-test .taken) in
-    let count = load 4 s (entryPlace s (a .n) (l .i) + 10) _ (omega arith) (omega arith) (u .u32-or-zero .ensures ∙ ap (λ (k : ℕ). orZero (field 4 s (k + 10))) (l .inv .3)) in (
+    let s = st .args .file .now in
+    let k = loaded u in (
       omega arith,
-      fill-turn (recordsOf (aco s)) (unnamed black) _ (l .table) (l .i) (l .inv .1) (omega (arith, length-records s 2 (a .n) (st .pre .0))) _ _
-          (named-row s 2 (a .n) (st .pre .0) refl (l .i) (tn .loop-test .taken) ∙ sym (numbers-same (u .before .colour-at .ensures) (ap (λ (k : ℕ). k + 14) (l .inv .3)) (ap (λ (k : ℕ). k - 1) count))) refl (pr .put-row .ensures),
+      fill-turn (recordsOf (aco s)) (unnamed black) _ (l .table) (l .i) (l .inv .1) (omega (arith, length-records s 2 (st .args .n) (st .pre .0))) _ _
+          (k .is-row ∙ ap (λ (b : Colour). numbers b (l .p + 14) (u .u32-or-zero .result - 1)) (sym (u .before .colour-at .ensures))) refl (pr .put-row .ensures),
       pr .put-row .kept .0 ∙ l .inv .2,
-      omega (arith, entry-next s (a .n) (l .i), l .inv .3, count),
+      omega (arith, k .next),
     )
 
 -- src/lib.rt:90:1

@@ -50,7 +50,8 @@ part-result-end c =
     let r = c .before .before .before in
     let a = r .before .before .args in
     let e = sym (ap (λ (w : Colour × Where). w .1) (r .record-at .ensures)) ∙ ap toldPlace (c .before .found .given .1) in
-    name-in (a .file .now) (a .i) _ _ e
+    let h = name-in (a .file .now) (a .i) _ _ e in
+    omega arith
 
 -- src/lib.rt:226:14
 enum-told : tie.Need-enum-told
