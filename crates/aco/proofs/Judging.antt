@@ -7,14 +7,16 @@ use lib.ListN.{length, getD, length-map}
 use lib.Dec.{leb, eqb}
 use borrow.Author.Tests.{le-leb, lt-leb, eq-eqb, ne-eqb}
 use native.Mathlib.Omega.{arith}
+use native.Mathlib.Nat.{add-zero}
 use Rattle.fields.specs.Numbers.{num}
 use Rattle.fields.specs.Reader.{Res, ok, refuse, Reader, then, pick, rule, field, done, mapRes, orZero, each, ended, judged, Judged, unless, fine, fault, limit}
 use Rattle.fields.specs.Text.{Name, name, place}
-use Rattle.fields.proofs.Laws.{field-in, judged-short, judged-bad, judged-ok, then-ok, done-refuse, done-const, ended-done, each-turn}
+use Rattle.fields.proofs.Laws.{field-in, judged-short, judged-bad, judged-ok, then-ok, done-refuse, done-const, ended-done, each-turn, turn-ok, turn-end, inner-ok}
 use Rattle.fields.proofs.Inverse.{then-inv, field-inv, judged-inv, ended-inv, done-inv, each-length}
 use Rattle.colour.specs.declared.Colour.{Colour}
-use Rattle.colour.specs.Spaces.{known}
-use Rattle.aco.specs.Reading.{most, space, samples, colour, heading, fieldOf, twin, Entry, entry, Contents, black, second, unnamed, after, lists, aco}
+use Rattle.colour.specs.Spaces.{known, allowed, sound}
+use Rattle.colour.proofs.Laws.{sound-inv}
+use Rattle.aco.specs.Reading.{most, space, sample, samples, colour, heading, fieldOf, twin, Entry, entry, Contents, black, second, unnamed, after, lists, aco}
 use Rattle.aco.specs.Raw.{rawColours, headed, afterHeading}
 use Rattle.aco.specs.Answer.{Verdict, accepted, refused, verdict}
 use Rattle.aco.proofs.Raw.{colours-raw, colours-inside, length-raw, fields-raw}
@@ -34,6 +36,29 @@ module _ (s : List ℕ) (at : ℕ) where
     pub colour-known : known x ≡ true → done (colour s at) ≡ done (samples x s n)
     unfolding colour
     colour-known u = rw (judged-ok 2 s at space e (rw u)) (then-ok _ (samples x s n))
+
+-- a colour without a fault
+module _ (s : List ℕ) (x : ℕ) where
+  sample-turn : (k p q : ℕ) → p + 2 ≡ q → q ≤ length s → allowed x k (num 2 s p) ≡ true → done (judged 2 (sample x k) s p) ≡ ok tt q
+  sample-turn k p q e h a = ap done (judged-ok 2 s p (sample x k) (sym (field-in 2 s p (omega arith))) (rw a)) ∙ ap (λ (n : ℕ). ok tt n) e
+
+  samples-sound : (p q r t u : ℕ) → p + 2 ≡ q → q + 2 ≡ r → r + 2 ≡ t → t + 2 ≡ u → u ≤ length s → allowed x 0 (num 2 s p) ≡ true → allowed x 1 (num 2 s q) ≡ true → allowed x 2 (num 2 s r) ≡ true → allowed x 3 (num 2 s t) ≡ true
+      → done (samples x s p) ≡ ok tt u
+  unfolding samples
+  samples-sound p q r t u eq er et eu h a b c d =
+      let first = turn-ok (λ j. judged 2 (sample x j)) s _ 4 0 p refl (omega arith) q (sample-turn 0 p q eq (omega arith) a) in
+      let second = turn-ok (λ j. judged 2 (sample x j)) s _ 4 1 q first (omega arith) r (sample-turn 1 q r er (omega arith) b) in
+      let third = turn-ok (λ j. judged 2 (sample x j)) s _ 4 2 r second (omega arith) t (sample-turn 2 r t et (omega arith) c) in
+      let fourth = turn-ok (λ j. judged 2 (sample x j)) s _ 4 3 t third (omega arith) u (sample-turn 3 t u eu (omega arith) d) in
+      turn-end (λ j. judged 2 (sample x j)) s _ 4 4 u fourth (omega arith)
+
+pub colour-sound : (s : List ℕ) (at x a b c d : ℕ) → at + 10 ≤ length s → x ≡ num 2 s at → a ≡ num 2 s (at + 2) → b ≡ num 2 s (at + 4) → c ≡ num 2 s (at + 6) → d ≡ num 2 s (at + 8)
+    → sound x (a ∷ b ∷ c ∷ d ∷ []) ≡ true → done (colour s at) ≡ ok tt (at + 10)
+colour-sound s at x a b c d h ex ea eb ec ed e =
+    let g = sound-inv x a b c d e in
+    colour-known s at x (at + 2) (ap (λ (v : ℕ). ok v (at + 2)) ex ∙ sym (field-in 2 s at (omega arith))) (g .is-known)
+    ∙ samples-sound s x (at + 2) (at + 4) (at + 6) (at + 8) (at + 10) (omega arith) (omega arith) (omega arith) (omega arith) h
+    (ap (allowed x 0) (sym ea) ∙ g .first) (ap (allowed x 1) (sym eb) ∙ g .second) (ap (allowed x 2) (sym ec) ∙ g .third) (ap (allowed x 3) (sym ed) ∙ g .fourth)
 
 -- ---- the records of list 2, where list 1 has the colours cs
 
@@ -79,6 +104,19 @@ module _ (s : List ℕ) (c : Colour) (i f at : ℕ) where
 
   pub twin-same : (v n : ℕ) → ok v n ≡ field 2 s at → v ≡ fieldOf c f → done (twin i c f s at) ≡ ok tt n
   twin-same v n e h = rw (← e) (simp (eq-eqb _ _ h))
+
+-- the five fields where all are the same
+module _ (s : List ℕ) (c : Colour) (i at : ℕ) (all : Res Unit) (k : ℕ → Res Unit) (h : at + 10 ≤ length s) (same : (f : ℕ) → f < 5 → num 2 s (at + 2 * f) ≡ fieldOf c f) where
+  twins-turn : (f : ℕ) → f < 5 → all ≡ then (done (each (5 - f) f (twin i c) s (at + 2 * f))) (λ u q. k q)
+      → all ≡ then (done (each (5 - (f + 1)) (f + 1) (twin i c) s (at + 2 * (f + 1)))) (λ u q. k q)
+  twins-turn f l inv =
+      let p : at + 2 * f + 2 ≡ at + 2 * (f + 1) = omega arith in
+      inner-ok (twin i c) s all k 5 f (at + 2 * f) inv l _ (twin-same s c i f (at + 2 * f) _ _ (sym (field-in 2 s (at + 2 * f) (omega arith))) (same f l) ∙ ap (λ (n : ℕ). ok tt n) p)
+
+  pub twins-same : all ≡ then (done (each (5 - 0) 0 (twin i c) s at)) (λ u q. k q) → all ≡ then (done (each (5 - 5) 5 (twin i c) s (at + 10))) (λ u q. k q)
+  twins-same inv =
+      let start = inv ∙ ap (λ (p : ℕ). then (done (each 5 0 (twin i c) s p)) (λ u q. k q)) (sym (add-zero at)) in
+      twins-turn 4 (omega arith) (twins-turn 3 (omega arith) (twins-turn 2 (omega arith) (twins-turn 1 (omega arith) (twins-turn 0 (omega arith) start))))
 
 -- field f of colour i of list 1, as it is loaded
 pub raw-field : (n : ℕ) (s : List ℕ) (i f v : ℕ) → 4 + 10 * n ≤ length s → i < n → f < 5 → v ≡ orZero (field 2 s (4 + 10 * i + 2 * f)) → v ≡ fieldOf (getD (rawColours n s 4) i black) f

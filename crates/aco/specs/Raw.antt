@@ -1,9 +1,11 @@
 -- Parts of the reading that the code goes by: the colours of list 1 by their places, and what stands after a heading.
-use Prim.Native.Nat.{ℕ, zero, suc, _+_}
+use Prim.Native.Nat.{ℕ, zero, suc, _+_, _*_, _≤_, _<_}
+use mathlib.Core.Path.{_≡_}
 use mathlib.Core.List.{List, [], _∷_}
 use lib.Dec.{eqb}
+use lib.ListN.{length}
 use Rattle.fields.specs.Numbers.{num, nums}
-use Rattle.fields.specs.Reader.{Reader, then, judged, unless, field, each}
+use Rattle.fields.specs.Reader.{Reader, ok, then, done, judged, unless, field, each}
 use Rattle.colour.specs.declared.Colour.{Colour}
 use Rattle.aco.specs.Reading.{Contents, colour, after}
 
@@ -23,3 +25,11 @@ headed v s at = then (judged 2 (λ x. unless (eqb x v) 3) s at) (λ x a. field 2
 -- what stands after the first heading
 unfoldable pub afterHeading : ℕ → Reader Contents
 afterHeading n s at = then (each n 0 (λ i. colour) s at) (λ cs q. after cs s q)
+
+-- a whole colour without a fault stands at `at`
+abbrev pub SoundAt : List ℕ → ℕ → Type 0
+SoundAt s at = (at + 10 ≤ length s) × (done (colour s at) ≡ ok tt (at + 10))
+
+-- a whole colour stands at `at`, its five fields the same as those at `first`
+abbrev pub SameAt : List ℕ → ℕ → ℕ → Type 0
+SameAt s at first = (at + 10 ≤ length s) × ((f : ℕ) → f < 5 → num 2 s (at + 2 * f) ≡ num 2 s (first + 2 * f))

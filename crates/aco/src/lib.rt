@@ -1,11 +1,12 @@
 // ACO swatches: judging a file by the layout.
 ghost use mathlib.Core.Path.{_≡_};
+ghost use mathlib.Core.Bool.{true};
 ghost use Prim.Native.Nat.{_+_, _*_, _≤_};
 ghost use lib.ListN.{length, getD};
 ghost use Rattle.fields.specs.Reader.{done, each};
 ghost use Rattle.fields.specs.Answer.{toldStep};
 ghost use Rattle.aco.specs.Reading.{samples, colour, entry, black, second, aco};
-ghost use Rattle.aco.specs.Raw.{rawColours, headed, afterHeading};
+ghost use Rattle.aco.specs.Raw.{rawColours, headed, afterHeading, SoundAt, SameAt};
 ghost use Rattle.aco.specs.Answer.{told, toldHeading, toldWalk, verdict};
 use fields::NameAt;
 use fields::Number16;
@@ -15,6 +16,9 @@ use fields::Step;
 pub const LIMIT: usize = 16777216;
 // The most colours that a list has.
 pub const MOST: u16 = 4096;
+// The numbers of a record in a table or run: space, four samples, place of the name's first unit,
+// number of its units.
+pub const WIDTH: usize = 7;
 
 // What a file is found to be. Differ is refusal 7, with the first differing record and in it the
 // first differing field.
@@ -66,8 +70,8 @@ fn samples_at(file: &[u8], at: usize, space: u16) -> Step
     Step::Next(p)
 }
 
-// The colour at `at`.
-fn colour_at(file: &[u8], at: usize) -> Step
+// The colour at `at`, field by field up to its first fault.
+fn fields_at(file: &[u8], at: usize) -> Step
     ensures { λ r. ⌜ toldStep r ≡ done (colour (now (file .entry)) at) ⌝ }
 {
     let Number16::Is(space, next) = fields::u16_at(file, at) else {
@@ -79,8 +83,39 @@ fn colour_at(file: &[u8], at: usize) -> Step
     samples_at(file, next, space)
 }
 
+// Whether a colour stands at `at` that is whole and has no fault. A part of known length is loaded
+// from without tests.
+fn is_sound(file: &[u8], at: usize) -> bool
+    requires { ⌜ at ≤ length (now file) ⌝ }
+    ensures { λ r. ⌜ (r ≡ true → SoundAt (now (file .entry)) at) ⌝ }
+{
+    if file.len() - at < 10 {
+        return false;
+    }
+    let end = at + 10;
+    let part = &file[at..end];
+    let space = fields::u16_or_zero(part, 0);
+    let a = fields::u16_or_zero(part, 2);
+    let b = fields::u16_or_zero(part, 4);
+    let c = fields::u16_or_zero(part, 6);
+    let d = fields::u16_or_zero(part, 8);
+    colour::is_sound(space, a, b, c, d)
+}
+
+// The colour at `at`. Nearly all are sound, and only another is looked into.
+fn colour_at(file: &[u8], at: usize) -> Step
+    requires { ⌜ at ≤ length (now file) ⌝ }
+    ensures { λ r. ⌜ toldStep r ≡ done (colour (now (file .entry)) at) ⌝ }
+{
+    if is_sound(file, at) {
+        return Step::Next(at + 10);
+    }
+    fields_at(file, at)
+}
+
 // The n colours of list 1 from `at`.
 fn colours_at(file: &[u8], at: usize, n: u16) -> Step
+    requires { ⌜ at ≤ length (now file) ⌝ }
     ensures { λ r. ⌜ toldStep r ≡ done (each n 0 (λ i. colour) (now (file .entry)) at) ⌝ }
 {
     let mut i: u16 = 0;
@@ -99,7 +134,27 @@ fn colours_at(file: &[u8], at: usize, n: u16) -> Step
     Step::Next(p)
 }
 
-// The n records of list 2 from `at`, compared with list 1, which stands at 4.
+// Whether ten bytes stand at `at`, the same as the ten at `first`.
+fn is_same(file: &[u8], at: usize, first: usize) -> bool
+    requires { ⌜ first + 10 ≤ length (now file) ⌝ }
+    ensures { λ r. ⌜ (r ≡ true → SameAt (now (file .entry)) at first) ⌝ }
+{
+    let n = file.len();
+    if n - 10 < at {
+        return false;
+    }
+    let end = at + 10;
+    let last = first + 10;
+    let a = &file[at..end];
+    let b = &file[first..last];
+    if fields::u64_or_zero(a, 0) != fields::u64_or_zero(b, 0) {
+        return false;
+    }
+    fields::u16_or_zero(a, 8) == fields::u16_or_zero(b, 8)
+}
+
+// The n records of list 2 from `at`, compared with list 1, which stands at 4. Nearly all are the
+// same, and only in another is a field looked for that differs.
 fn entries_at(file: &[u8], at: usize, n: u16) -> Walk
     requires { ⌜ 4 + 10 * n ≤ length (now file) ⌝ }
     ensures { λ r. ⌜ toldWalk r ≡ done (each n 0 (λ i. entry i (getD (rawColours n (now (file .entry)) 4) i black)) (now (file .entry)) at) ⌝ }
@@ -110,6 +165,10 @@ fn entries_at(file: &[u8], at: usize, n: u16) -> Walk
     let mut p = at;
     'records: while i < count {
         f = 0;
+        if is_same(file, p, 4 + 10 * i) {
+            f = 5;
+            p += 10;
+        }
         while f < 5 {
             let Number16::Is(v, next) = fields::u16_at(file, p) else {
                 return Walk::Refused(2, p);

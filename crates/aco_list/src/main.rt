@@ -74,7 +74,7 @@ fn units_of(file: &[u8], place: u32, units: u32) -> &[u8] {
 
 // A record's line: its number, space, samples and name.
 fn put_record(out: &mut [u8], n: usize, file: &[u8], row: &[u32], i: usize) -> usize {
-    if row.len() < aco_read::WIDTH {
+    if row.len() < aco::WIDTH {
         return n;
     }
     let mut at = put_number(out, n, i as u64);
@@ -98,7 +98,7 @@ fn put_records(out: &mut [u8], n: usize, file: &[u8], table: &[u32], colours: us
             return at;
         }
         at = put_record(out, at, file, &table[p..], i);
-        p += aco_read::WIDTH;
+        p += aco::WIDTH;
         i += 1;
     }
     at

@@ -11,11 +11,8 @@ ghost use Rattle.aco.specs.Answer.{told};
 ghost use Rattle.aco_read.specs.Table.{row, numbers, filled, noRecord, recordAt, nameBytesAt, recordsOf, Accepted};
 ghost use Rattle.aco_read.specs.Answer.{toldPlace, toldSwatch};
 use aco::Answer;
+use aco::WIDTH;
 use colour::Colour;
-
-// The numbers of a record in a table: space, four samples, place of the name's first unit, number
-// of its units.
-pub const WIDTH: usize = 7;
 
 // Where a record's name lies in the file, or the refusal.
 pub enum NamePlace {
@@ -40,35 +37,44 @@ pub struct Swatch {
     pub name: NamePlace,
 }
 
-// The colour in the ten bytes from `at`.
+// The colour in the ten bytes from `at`. A part of known length is loaded from without tests.
 fn colour_at(file: &[u8], at: usize) -> Colour
     requires { ⌜ at + 10 ≤ length (now file) ⌝ }
     ensures { λ r. ⌜ r ≡ rawColour (now (file .entry)) at ⌝ }
 {
-    let space = fields::u16_or_zero(file, at);
-    let a = fields::u16_or_zero(file, at + 2);
-    let b = fields::u16_or_zero(file, at + 4);
-    let c = fields::u16_or_zero(file, at + 6);
-    let d = fields::u16_or_zero(file, at + 8);
+    let end = at + 10;
+    let part = &file[at..end];
+    let space = fields::u16_or_zero(part, 0);
+    let a = fields::u16_or_zero(part, 2);
+    let b = fields::u16_or_zero(part, 4);
+    let c = fields::u16_or_zero(part, 6);
+    let d = fields::u16_or_zero(part, 8);
     Colour {
         space,
         samples: [a, b, c, d],
     }
 }
 
-// Stores a record's numbers from `at`.
-fn put_row(table: &mut [u32], at: usize, c: Colour, place: u32, units: u32)
-    requires { ⌜ at + 7 ≤ length (now table) ⌝ }
-    ensures { λ _. ⌜ now (table .exit) ≡ sets (now (table .entry)) at (numbers c place units) ⌝ }
+// Stores a record's numbers from `to`: the colour in the ten bytes from `at`, and its name. All is
+// loaded, from a part of known length, before it is stored, which compilers join.
+fn put_row(file: &[u8], at: usize, table: &mut [u32], to: usize, place: u32, units: u32)
+    requires { ⌜ (at + 10 ≤ length (now file)) × (to + 7 ≤ length (now table)) ⌝ }
+    ensures { λ _. ⌜ now (table .exit) ≡ sets (now (table .entry)) to (numbers (rawColour (now (file .entry)) at) place units) ⌝ }
 {
-    let v = c.samples;
-    table[at] = c.space as u32;
-    table[at + 1] = v[0] as u32;
-    table[at + 2] = v[1] as u32;
-    table[at + 3] = v[2] as u32;
-    table[at + 4] = v[3] as u32;
-    table[at + 5] = place;
-    table[at + 6] = units;
+    let end = at + 10;
+    let part = &file[at..end];
+    let space = fields::u16_or_zero(part, 0);
+    let a = fields::u16_or_zero(part, 2);
+    let b = fields::u16_or_zero(part, 4);
+    let c = fields::u16_or_zero(part, 6);
+    let d = fields::u16_or_zero(part, 8);
+    table[to] = space as u32;
+    table[to + 1] = a as u32;
+    table[to + 2] = b as u32;
+    table[to + 3] = c as u32;
+    table[to + 4] = d as u32;
+    table[to + 5] = place;
+    table[to + 6] = units;
 }
 
 // Stores the n records of a file of one list.
@@ -78,8 +84,7 @@ fn fill_plain(file: &[u8], n: usize, table: &mut [u32])
 {
     let mut i: usize = 0;
     while i < n {
-        let c = colour_at(file, 4 + 10 * i);
-        put_row(table, WIDTH * i, c, 0, 0);
+        put_row(file, 4 + 10 * i, table, WIDTH * i, 0, 0);
         i += 1;
     }
 }
@@ -93,9 +98,15 @@ fn fill_named(file: &[u8], n: usize, table: &mut [u32])
     let mut i: usize = 0;
     let mut p = 8 + 10 * n;
     while i < n {
-        let c = colour_at(file, 4 + 10 * i);
         let count = fields::u32_or_zero(file, p + 10);
-        put_row(table, WIDTH * i, c, (p + 14) as u32, count - 1);
+        put_row(
+            file,
+            4 + 10 * i,
+            table,
+            WIDTH * i,
+            (p + 14) as u32,
+            count - 1,
+        );
         p += 14 + 2 * (count as usize);
         i += 1;
     }

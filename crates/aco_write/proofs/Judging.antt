@@ -13,7 +13,8 @@ use Rattle.fields.specs.Text.{text}
 use Rattle.fields.specs.Faults.{firstOf, faults, faultsFrom}
 use Rattle.fields.proofs.Tells.{first-none, first-zero}
 use Rattle.fields.proofs.Texts.{text-short}
-use Rattle.colour.specs.Spaces.{uses, known, allowed}
+use Rattle.colour.specs.Spaces.{uses, known, allowed, sound}
+use Rattle.colour.proofs.Laws.{sound-inv}
 use Rattle.aco_write.specs.Writing.{Given, givenAt, givens, sizes, spaceFault, sampleFault, nameFault}
 use Rattle.aco_write.specs.Parts.{start, EntryFits, EntriesFit}
 
@@ -65,6 +66,17 @@ sample-large x k v h = simp (lt-leb _ _ h)
 pub sample-is : (x k v : ℕ) (b : Bool) → v ≤ 65535 → b ≡ allowed x k v → sampleFault x k v ≡ pick b 0 5
 unfolding sampleFault
 sample-is x k v b h e = simp (le-leb _ _ h) (ap (λ (t : Bool). pick t 0 5) (sym e))
+
+-- a sound colour whose numbers fit their fields
+sample-none : (x k v : ℕ) → v ≤ 65535 → allowed x k v ≡ true → sampleFault x k v ≡ 0
+sample-none x k v h e = sample-is x k v true h (sym e)
+
+pub colour-none : (x a b c d : ℕ) → a ≤ 65535 → b ≤ 65535 → c ≤ 65535 → d ≤ 65535 → sound x (a ∷ b ∷ c ∷ d ∷ []) ≡ true
+    → firstOf (spaceFault x) (faultsFrom (sampleFault x) 0 (a ∷ b ∷ c ∷ d ∷ [])) ≡ 0
+unfolding faultsFrom
+colour-none x a b c d ha hb hc hd e =
+    let g = sound-inv x a b c d e in
+    rw (space-is x true (sym (g .is-known)), sample-none x 0 a ha (g .first), sample-none x 1 b hb (g .second), sample-none x 2 c hc (g .third), sample-none x 3 d hd (g .fourth))
 
 -- a colour's faults in order
 pub colour-faults : (x a b c d : ℕ)

@@ -1,10 +1,11 @@
 -- Stores one after the other, on plain values. Assumes nothing.
 use Prim.Native.Nat.{ℕ, zero, suc, _+_, _*_, _-_, _/_, _%_, _≤_, _<_}
 use mathlib.Core.Path.{_≡_, refl, sym, ap, ap₂, _∙_}
-use mathlib.Core.List.{List, [], _∷_, _++_, map, append-assoc}
-use lib.ListN.{length, getD, drop, length-append}
+use mathlib.Core.List.{List, [], _∷_, _++_, map, append-assoc, append-nil}
+use lib.ListN.{length, getD, take, drop, length-append, drop-of-length-le}
 use lib.Seq.{sets, sets-eq}
 use borrow.Author.Tests.{ne-eqb}
+use borrow.Rule.Slice.PartMut.{putMid, post-is}
 use native.Mathlib.Omega.{arith}
 use native.Mathlib.Decide.{ℕ-discrete}
 use native.Mathlib.Numerals.{unary-clauses}
@@ -12,7 +13,7 @@ use Rattle.fields.specs.Numbers.{be, nums, joined, Bytes}
 use Rattle.fields.specs.Store.{stored, part}
 use Rattle.fields.specs.Text.{nameBytes, countedUnits}
 use Rattle.fields.proofs.Stores.{stored-in, sets-append, length-stored}
-use Rattle.fields.proofs.Places.{length-be, length-bes, length-nums, part-nums}
+use Rattle.fields.proofs.Places.{length-be, length-bes, length-nums, length-part, part-nums}
 use Rattle.fields.proofs.Exact.{length-map}
 use Rattle.colour.specs.declared.Colour.{Colour}
 use Rattle.aco.specs.Grammar.{Swatch, colourBytes, entryBytes, listOne, listTwo, twoLists}
@@ -30,6 +31,16 @@ as-sets o out at l k e f h = e ∙ stored-in out at l (omega arith)
 pub peel : (out o a b : List ℕ) (at k next : ℕ) → length a ≡ k → at + k ≡ next → o ≡ sets out at a → sets out at (a ++ b) ≡ sets o next b
 peel out o a b at k next e f g =
     sets-append a b out at ∙ ap (λ (n : ℕ). sets (sets out at a) n b) (ap (λ (x : ℕ). at + x) e ∙ f) ∙ ap (λ (l : List ℕ). sets l next b) (sym g)
+
+-- a store over the whole of a part, when the part is back
+pub put-part : (out o : List ℕ) (at e : ℕ) (l : List ℕ) → at ≤ e → e ≤ length out → length l ≡ e - at → o ≡ sets (part out at (e - at)) 0 l → putMid at (e - at) out o ≡ sets out at l
+put-part out o at e l h k n w =
+    let m : length (part out at (e - at)) ≡ e - at = length-part out at (e - at) (omega arith) in
+    let z : length (part out at (e - at)) ≤ 0 + length l = omega arith in
+    let i : o ≡ l = w ∙ sets-eq l (part out at (e - at)) 0 (omega arith) ∙ ap (λ (r : List ℕ). l ++ r) (drop-of-length-le (part out at (e - at)) z) ∙ append-nil l in
+    let q : e ≡ at + length l = omega arith in
+    ap₂ (λ (x y : List ℕ). take at out ++ (x ++ y)) i (post-is at e out h) ∙ ap (λ (j : ℕ). take at out ++ (l ++ drop j out)) q
+    ∙ sym (append-assoc (take at out) l (drop (at + length l) out)) ∙ sym (sets-eq l out at (omega arith))
 
 -- ---- a colour
 

@@ -1,5 +1,6 @@
 // ACO swatches: writing the records of a run of numbers into lent bytes, both lists always.
 ghost use mathlib.Core.Path.{_≡_};
+ghost use mathlib.Core.Bool.{true};
 ghost use mathlib.Core.List.{[], map};
 ghost use Prim.Native.Nat.{_+_, _*_, _%_, _≤_, _<_};
 ghost use lib.Dec.{leb};
@@ -13,11 +14,9 @@ ghost use Rattle.aco.specs.Reading.{most};
 ghost use Rattle.aco_write.specs.Writing.{givenAt, givens, given, swatchIn, size, sampleFault, spaceFault, colourFault, nameFault, bytes, refused, needed, written};
 ghost use Rattle.aco_write.specs.Answer.{told};
 ghost use Rattle.aco_write.specs.Parts.{colourIn, plain, start, EntryFits, EntriesFit};
+use aco::WIDTH;
 use colour::Colour;
 use fields::Step;
-
-// The numbers of a record: space, four samples, place of the name's first unit, number of its units.
-const WIDTH: usize = 7;
 
 // How many bytes writing takes, or the refusal's number; its place is 0.
 pub enum Written {
@@ -59,8 +58,8 @@ fn sample_fault(x: u32, k: u16, v: u32) -> u32
     5
 }
 
-// The fault of the colour of record k: its space, then its samples in order.
-fn colour_fault(run: &[u32], k: usize) -> u32
+// The fault of the colour of record k, field by field: its space, then its samples in order.
+fn fields_fault(run: &[u32], k: usize) -> u32
     requires { ⌜ 7 * k + 7 ≤ length (now run) ⌝ }
     ensures { λ r. ⌜ r ≡ colourFault (givenAt (now (run .entry)) k) ⌝ }
 {
@@ -82,6 +81,45 @@ fn colour_fault(run: &[u32], k: usize) -> u32
         return c;
     }
     sample_fault(x, 3, run[WIDTH * k + 4])
+}
+
+// Whether the colour of record k fits its fields and has no fault.
+fn is_sound(run: &[u32], k: usize) -> bool
+    requires { ⌜ 7 * k + 7 ≤ length (now run) ⌝ }
+    ensures { λ r. ⌜ (r ≡ true → colourFault (givenAt (now (run .entry)) k) ≡ 0) ⌝ }
+{
+    let x = run[WIDTH * k];
+    let a = run[WIDTH * k + 1];
+    let b = run[WIDTH * k + 2];
+    let c = run[WIDTH * k + 3];
+    let d = run[WIDTH * k + 4];
+    if 65535 < x {
+        return false;
+    }
+    if 65535 < a {
+        return false;
+    }
+    if 65535 < b {
+        return false;
+    }
+    if 65535 < c {
+        return false;
+    }
+    if 65535 < d {
+        return false;
+    }
+    colour::is_sound(x as u16, a as u16, b as u16, c as u16, d as u16)
+}
+
+// The fault of the colour of record k. Nearly all are sound, and only another is looked into.
+fn colour_fault(run: &[u32], k: usize) -> u32
+    requires { ⌜ 7 * k + 7 ≤ length (now run) ⌝ }
+    ensures { λ r. ⌜ r ≡ colourFault (givenAt (now (run .entry)) k) ⌝ }
+{
+    if is_sound(run, k) {
+        return 0;
+    }
+    fields_fault(run, k)
 }
 
 // The first fault of the n colours.
@@ -191,8 +229,8 @@ fn colour_of(run: &[u32], k: usize) -> Colour
     }
 }
 
-// The ten bytes of a colour.
-fn put_colour(out: &mut [u8], at: usize, colour: Colour)
+// The five fields of a colour from `at`.
+fn put_fields(out: &mut [u8], at: usize, colour: Colour)
     requires { ⌜ at + 10 ≤ length (now out) ⌝ }
     ensures { λ _. ⌜ now (out .exit) ≡ sets (now (out .entry)) at (colourBytes (plain colour)) ⌝ }
 {
@@ -201,6 +239,15 @@ fn put_colour(out: &mut [u8], at: usize, colour: Colour)
     fields::put_u16(out, at + 4, colour.samples[1]);
     fields::put_u16(out, at + 6, colour.samples[2]);
     fields::put_u16(out, at + 8, colour.samples[3]);
+}
+
+// The ten bytes of a colour. A part of known length is stored in without tests.
+fn put_colour(out: &mut [u8], at: usize, colour: Colour)
+    requires { ⌜ at + 10 ≤ length (now out) ⌝ }
+    ensures { λ _. ⌜ now (out .exit) ≡ sets (now (out .entry)) at (colourBytes (plain colour)) ⌝ }
+{
+    let end = at + 10;
+    put_fields(&mut out[at..end], 0, colour);
 }
 
 // The n colours of list 1.

@@ -1,6 +1,7 @@
 -- The colour spaces of ACO files.
-use Prim.Native.Nat.{ℕ}
+use Prim.Native.Nat.{ℕ, _+_}
 use mathlib.Core.Bool.{Bool, true, false}
+use mathlib.Core.List.{List, [], _∷_}
 use lib.Dec.{ltb, eqb}
 use Rattle.fields.specs.Reader.{pick}
 
@@ -14,3 +15,12 @@ known x = ltb 0 (uses x)
 -- whether the sample at a position of a colour of a space may have a value: one that the space does not use is 0
 unfoldable pub allowed : ℕ → ℕ → ℕ → Bool
 allowed x k v = pick (ltb k (uses x)) true (eqb v 0)
+
+-- the samples of a colour of a space, from position k, are all allowed
+unfoldable pub allAllowed : ℕ → ℕ → List ℕ → Bool
+allAllowed x k [] = true
+allAllowed x k (v ∷ vs) = pick (allowed x k v) (allAllowed x (k + 1) vs) false
+
+-- a colour without a fault
+unfoldable pub sound : ℕ → List ℕ → Bool
+sound x vs = pick (known x) (allAllowed x 0 vs) false

@@ -1,6 +1,10 @@
 // Colour spaces: their numbers, the samples that they use, and the values that those may have.
 ghost use mathlib.Core.Path.{_≡_};
-ghost use Rattle.colour.specs.Spaces.{uses, known, allowed};
+ghost use mathlib.Core.Bool.{true};
+ghost use mathlib.Core.List.{_∷_, []};
+ghost use lib.Dec.{ltb, eqb};
+ghost use Rattle.fields.specs.Reader.{pick};
+ghost use Rattle.colour.specs.Spaces.{uses, known, allowed, sound};
 
 pub const RGB: u16 = 0;
 
@@ -38,12 +42,36 @@ pub fn is_known(space: u16) -> bool
     0 < samples_used(space)
 }
 
+// Whether the sample at a position may have this value, where a colour uses this many.
+fn is_free(used: u16, position: u16, sample: u16) -> bool
+    ensures { λ r. ⌜ r ≡ pick (ltb position used) true (eqb sample 0) ⌝ }
+{
+    if position < used {
+        return true;
+    }
+    sample == 0
+}
+
 // Whether the sample at a position may have this value.
 pub fn is_allowed(space: u16, position: u16, sample: u16) -> bool
     ensures { λ r. ⌜ r ≡ allowed space position sample ⌝ }
 {
-    if position < samples_used(space) {
-        return true;
+    is_free(samples_used(space), position, sample)
+}
+
+// Whether a colour has no fault. Its space is looked up once.
+pub fn is_sound(space: u16, a: u16, b: u16, c: u16, d: u16) -> bool
+    ensures { λ r. ⌜ r ≡ sound space (a ∷ b ∷ c ∷ d ∷ []) ⌝ }
+{
+    let used = samples_used(space);
+    if used == 0 {
+        return false;
     }
-    sample == 0
+    if !is_free(used, 1, b) {
+        return false;
+    }
+    if !is_free(used, 2, c) {
+        return false;
+    }
+    is_free(used, 3, d)
 }

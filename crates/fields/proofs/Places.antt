@@ -3,13 +3,16 @@ use Prim.Native.Nat.{ℕ, zero, suc, _+_, _*_, _-_, _/_, _%_, _^_, _≤_, _<_}
 use mathlib.Core.Path.{_≡_, refl, sym, ap, ap₂, _∙_, subst}
 use mathlib.Core.List.{List, [], _∷_, _++_, map, append-assoc, append-nil}
 use lib.ListN.{length, getD, take, drop, length-append, length-take, length-drop}
-use lib.Seq.{drop-cons, drop-length, take-length, take-append-seam}
+use lib.Seq.{drop-cons, drop-length, take-length, take-append-seam, getD-take, getD-drop}
 use lib.Arith.{digits-div, digits-mod, digits-lt}
 use native.Mathlib.Numerals.{add-one}
 use native.Mathlib.Nat.{add-zero, zero-add, suc-mul, zero-mul, mul-suc, mul-zero, div-add-mod', div-lt-iff-lt-mul, pow-zero, pow-suc}
 use native.Mathlib.Omega.{arith}
+use native.Mathlib.Decide.{ℕ-discrete}
 use Rattle.fields.specs.Numbers.{num, nums, be, joined, At, Bytes, All}
+use Rattle.fields.specs.Reader.{field, orZero}
 use Rattle.fields.specs.Store.{part}
+use Rattle.fields.proofs.Laws.{field-in}
 
 -- ---- lengths
 
@@ -228,3 +231,47 @@ module _ (w : ℕ) where
   getD-nums s (suc n) at (suc i) h =
       let e : at + w + w * i ≡ at + w * suc i = omega (arith, mul-suc w i) in
       getD-nums s n (at + w) i (omega arith) ∙ ap (λ (z : ℕ). num w s z) e
+
+-- ---- numbers in a part of a file
+
+pub num-part : (s : List ℕ) (from k w at : ℕ) → at + w ≤ k → num w (part s from k) at ≡ num w s (from + at)
+unfolding num
+num-part s from k zero at h = refl
+num-part s from k (suc w) at h =
+    let p : from + (at + w) ≡ from + at + w = omega arith in
+    ap₂ (λ (x y : ℕ). x * 256 + y) (num-part s from k w at (omega arith)) (getD-take k (drop from s) (at + w) 0 (omega arith) ∙ getD-drop from s (at + w) 0 ∙ ap (λ (i : ℕ). getD s i 0) p)
+
+-- a number that is loaded from a part that has it
+pub load-part : (w : ℕ) (s : List ℕ) (from k at v : ℕ) → from + k ≤ length s → at + w ≤ k → v ≡ orZero (field w (part s from k) at) → v ≡ num w s (from + at)
+load-part w s from k at v h l e =
+    let n : length (part s from k) ≡ k = length-part s from k h in
+    e ∙ ap orZero (field-in w (part s from k) at (omega arith)) ∙ num-part s from k w at l
+
+-- ---- the same number at two places
+
+-- its bytes are the same
+pub num-bytes : (s : List ℕ) → Bytes s → (w p q : ℕ) → num w s p ≡ num w s q → (k : ℕ) → k < w → getD s (p + k) 0 ≡ getD s (q + k) 0
+unfolding num
+num-bytes s b zero p q e k h = absurd (omega arith)
+num-bytes s b (suc w) p q e k h =
+    let x : num w s p ≡ num w s q = omega (arith, e, b (p + w), b (q + w)) in
+    let y : getD s (p + w) 0 ≡ getD s (q + w) 0 = omega (arith, e, b (p + w), b (q + w)) in
+    elim (ℕ-discrete k w) [
+      | yes z ↦ rw z y
+      | no z ↦ num-bytes s b w p q x k (omega arith)
+    ]
+
+pub num-same : (s : List ℕ) (w p q : ℕ) → ((k : ℕ) → k < w → getD s (p + k) 0 ≡ getD s (q + k) 0) → num w s p ≡ num w s q
+unfolding num
+num-same s zero p q h = refl
+num-same s (suc w) p q h = ap₂ (λ (x y : ℕ). x * 256 + y) (num-same s w p q (λ k l. h k (omega arith))) (h w (omega arith))
+
+-- ten bytes are the same as ten others: the first eight as one number, and the last two
+pub ten-same : (s : List ℕ) → Bytes s → (p q : ℕ) → num 8 s p ≡ num 8 s q → num 2 s (p + 8) ≡ num 2 s (q + 8) → (f : ℕ) → f < 5 → num 2 s (p + 2 * f) ≡ num 2 s (q + 2 * f)
+ten-same s b p q e g f h = elim (ℕ-discrete f 4) [
+  | yes z ↦ rw z g
+  | no z ↦ num-same s 2 (p + 2 * f) (q + 2 * f) (λ k l.
+      let x : p + (2 * f + k) ≡ p + 2 * f + k = omega arith in
+      let y : q + (2 * f + k) ≡ q + 2 * f + k = omega arith in
+      sym (ap (λ (i : ℕ). getD s i 0) x) ∙ num-bytes s b 8 p q e (2 * f + k) (omega arith) ∙ ap (λ (i : ℕ). getD s i 0) y)
+]

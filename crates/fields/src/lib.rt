@@ -19,6 +19,7 @@ pub use number::u16_or_zero;
 pub use number::u32_at;
 pub use number::u32_or_zero;
 pub use number::u64_at;
+pub use number::u64_or_zero;
 pub use store::put_name;
 pub use store::put_run;
 pub use store::put_u16;

@@ -1,7 +1,9 @@
 // Big-endian numbers and runs of bytes at a place of a file.
 ghost use mathlib.Core.Path.{_≡_};
-ghost use Prim.Native.Nat.{_+_, _<_};
+ghost use Prim.Native.Nat.{_+_, _*_, _/_, _%_, _≤_, _<_};
 ghost use lib.Dec.{eqb};
+ghost use lib.ListN.{length};
+ghost use Rattle.fields.specs.Numbers.{num};
 ghost use Rattle.fields.specs.Reader.{field, body, done, judged, orZero, unless};
 ghost use Rattle.fields.specs.Answer.{told8, told16, told32, told64, toldStep};
 
@@ -41,6 +43,17 @@ fn wide16(x: u8) -> u16
     x as u16
 }
 
+// Two bytes with the low one first: the load that compilers join with its neighbours, where a
+// function of its own has it. Swapped, it is the number.
+fn swapped(s: &[u8], at: usize) -> u16
+    requires { ⌜ at + 2 ≤ length (now s) ⌝ }
+    ensures { λ r. ⌜ 256 * (r % 256) + r / 256 ≡ num 2 (now (s .entry)) at ⌝ }
+{
+    let a = wide16(s[at]);
+    let b = wide16(s[at + 1]);
+    a + 256 * b
+}
+
 fn wide32(x: u8) -> u32
     ensures { λ r. ⌜ (r ≡ x) × (r < 256) ⌝ }
 {
@@ -72,9 +85,8 @@ pub fn u16_at(s: &[u8], at: usize) -> Number16
     if n - 2 < at {
         return Number16::Short;
     }
-    let a = wide16(s[at]);
-    let b = wide16(s[at + 1]);
-    Number16::Is(a * 256 + b, at + 2)
+    let x = swapped(s, at);
+    Number16::Is(256 * (x % 256) + x / 256, at + 2)
 }
 
 pub fn u32_at(s: &[u8], at: usize) -> Number32
@@ -127,6 +139,16 @@ pub fn u32_or_zero(s: &[u8], at: usize) -> u32
     match u32_at(s, at) {
         Number32::Is(v, _) => v,
         Number32::Short => 0,
+    }
+}
+
+// The 64-bit number at `at`, or 0 where fewer than eight bytes remain.
+pub fn u64_or_zero(s: &[u8], at: usize) -> u64
+    ensures { λ r. ⌜ r ≡ orZero (field 8 (now (s .entry)) at) ⌝ }
+{
+    match u64_at(s, at) {
+        Number64::Is(v, _) => v,
+        Number64::Short => 0,
     }
 }
 

@@ -1,70 +1,33 @@
+use Prim.Native.Nat.{ℕ, _+_, _-_, _*_, _≤_, _<_}
 use mathlib.Core.Path.{_≡_, refl, sym, ap, _∙_}
-use Rattle.fields.specs.Answer.{told16, toldStep, toldName}
-use borrow.Author.Tests.{not-true, not-false}
-use Rattle.aco.proofs.Judging.{colour-short, colour-unknown, colour-known}
+use native.Mathlib.Omega.{arith}
 use borrow.Author.Needs.{needs}
 use Rattle.aco.proofs.colour_at.Statement.{statement}
 use Rattle.aco.proofs.colour_at.Tie as tie
 use Rattle.aco.proofs.colour_at.Reads as reads
 use Rattle.aco.proofs.colour_at.Lts as lts
-use Rattle.aco.proofs.samples_at.Reads as samples-at-reads
-use Rattle.colour.proofs.is_known.Reads as is-known-reads
-use Rattle.fields.proofs.u16_at.Reads as u16-at-reads
+use Rattle.aco.proofs.fields_at.Reads as fields-at-reads
+use Rattle.aco.proofs.is_sound.Reads as is-sound-reads
 
--- src/lib.rt:73:37
-u16-at-requires : tie.Need-u16-at-requires
-u16-at-requires c κs = search needs
+-- src/lib.rt:109:8
+is-sound-requires : tie.Need-is-sound-requires
+is-sound-requires c κs = search needs
 
--- src/lib.rt:73:22
-enum-known-space : tie.Need-enum-known-space
-enum-known-space c = search needs
+-- src/lib.rt:110:27
+add-t4 : tie.Need-add-t4
+add-t4 c = let h = c .before .is-sound .ensures (c .if1 .taken) .0 in omega arith
 
--- src/lib.rt:74:9
-enum-told : tie.Need-enum-told
-enum-told c = search needs
-
--- src/lib.rt:74:9
+-- src/lib.rt:110:9
 returns : tie.Need-returns
-returns c =
-    let call = c .before .before in
-    let a = call .before .before .args in
-    sym (colour-short (a .file .now) (a .at) (sym (ap (told16 (a .at)) (c .enum-told .given .1)) ∙ call .u16-at .ensures))
+returns c = sym (c .before .is-sound .ensures (c .if1 .taken) .1)
 
--- src/lib.rt:76:9
-is-known-requires : tie.Need-is-known-requires
-is-known-requires c κs = search needs
+-- src/lib.rt:112:5
+fields-at-requires : tie.Need-fields-at-requires
+fields-at-requires c κs = search needs
 
--- src/lib.rt:77:9
+-- src/lib.rt:106:1
 returns-2 : tie.Need-returns-2
-returns-2 c =
-    let v = c .before .before .before in
-    let call = v .before .before in
-    let a = call .before .before .args in
-    let e = sym (ap (told16 (a .at)) (v .space .given .1)) ∙ call .u16-at .ensures in
-    sym (colour-unknown (a .file .now) (a .at) _ _ e (sym (c .before .is-known .ensures) ∙ not-true _ (c .if1 .taken)))
-
--- src/lib.rt:79:5
-samples-at-requires : tie.Need-samples-at-requires
-samples-at-requires c κs = search needs
-
--- src/lib.rt:70:1
-returns-3 : tie.Need-returns-3
-returns-3 c =
-    let v = c .before .before .before .before in
-    let call = v .before .before in
-    let a = call .before .before .args in
-    let e = sym (ap (told16 (a .at)) (v .space .given .1)) ∙ call .u16-at .ensures in
-    c .samples-at .ensures ∙ sym (colour-known (a .file .now) (a .at) _ _ e (sym (c .before .before .is-known .ensures) ∙ not-false _ (c .before .if1 .left)))
+returns-2 c = c .fields-at .ensures
 
 pub colour-at-spec : {M : Type 1} → statement M
-colour-at-spec =
-    tie.close
-    (tie.spec
-    u16-at-requires
-    enum-known-space
-    enum-told
-    returns
-    is-known-requires
-    returns-2
-    samples-at-requires
-    returns-3)
+colour-at-spec = tie.close (tie.spec is-sound-requires add-t4 returns fields-at-requires returns-2)

@@ -5,6 +5,9 @@ use Prim.Native.Nat.{ℕ, _+_, _-_, _*_, _≤_, _<_}
 use Rattle.fields.specs.Answer.{told16, toldStep, toldName}
 use Rattle.fields.specs.Reader.{done, each}
 use Rattle.aco.specs.Reading.{colour}
+use lib.ListN.{length}
+use Rattle.fields.proofs.Inverse.{done-inv}
+use Rattle.aco.proofs.Raw.{colour-moves}
 use Rattle.fields.proofs.Laws.{turn-start, turn-ok, turn-no, turn-end}
 use Rattle.aco.proofs.colours_at.Statement.{statement}
 use Rattle.aco.proofs.colours_at.Tie as tie
@@ -13,14 +16,14 @@ use Rattle.aco.proofs.colours_at.Lts as lts
 use Rattle.aco.proofs.colour_at.Reads as colour-at-reads
 
 abbrev Inv-loop : tie.InvT-loop
-Inv-loop file at n i₀ p₀ i p = (i ≤ n) × (done (each n 0 (λ k. colour) file at) ≡ done (each (n - i) i (λ k. colour) file p))
+Inv-loop file at n i₀ p₀ i p = (i ≤ n) × (done (each n 0 (λ k. colour) file at) ≡ done (each (n - i) i (λ k. colour) file p)) × (p ≤ length file)
 
 abbrev μ-loop : tie.MeasureT-loop
 μ-loop file at n i₀ p₀ i p = n - i
 
 -- src/lib.rt:88:5
 loop-holds : tie.Need-loop-holds Inv-loop μ-loop
-loop-holds c = (omega arith, turn-start (λ k. colour) _ _ _)
+loop-holds c = (omega arith, turn-start (λ k. colour) _ _ _, c .before .pre)
 
 -- src/lib.rt:89:15
 colour-at-requires : tie.Need-colour-at-requires Inv-loop μ-loop
@@ -58,7 +61,11 @@ loop-again c =
     let call = x .before .before in
     let l = call .before .before .loop in
     let a = call .before .before .before .before .args in
-    (omega arith, turn-ok (λ k. colour) (a .file .now) _ (a .n) (l .i) (l .p) (l .inv .1) (call .before .loop-test .taken) _ (sym (call .colour-at .ensures) ∙ ap toldStep (x .next .given .1)))
+    let e = sym (call .colour-at .ensures) ∙ ap toldStep (x .next .given .1) in (
+      omega arith,
+      turn-ok (λ k. colour) (a .file .now) _ (a .n) (l .i) (l .p) (l .inv .1) (call .before .loop-test .taken) _ e,
+      colour-moves (a .file .now) (l .p) (done-inv (colour (a .file .now) (l .p)) e .1) .1,
+    )
 
 -- src/lib.rt:83:1
 returns-2 : tie.Need-returns-2 Inv-loop μ-loop

@@ -8,7 +8,8 @@ use lib.ListN.{getD}
 use Rattle.fields.specs.Reader.{Res, done, each, then}
 use Rattle.aco.specs.Reading.{twin, black}
 use Rattle.aco.specs.Raw.{rawColours}
-use Rattle.aco.proofs.Judging.{entryOf, named, entry-start, entry-named, entry-refused, twin-short, twin-differs, twin-same, raw-field}
+use Rattle.aco.proofs.Judging.{entryOf, named, entry-start, entry-named, entry-refused, twin-short, twin-differs, twin-same, twins-same, raw-field}
+use Rattle.aco.proofs.Raw.{fields-raw}
 use Rattle.fields.proofs.Laws.{turn-start, turn-ok, turn-no, turn-end, inner-ok, inner-no, inner-end}
 use Rattle.aco.proofs.entries_at.Statement.{statement}
 use Rattle.aco.proofs.entries_at.Tie as tie
@@ -30,126 +31,156 @@ Inv-records file at n count i₀ f₀ p₀ i f p = (i ≤ n) × (done (each n 0 
 abbrev μ-records : tie.MeasureT-records
 μ-records file at n count i₀ f₀ p₀ i f p = n - i
 
--- src/lib.rt:111:5
+-- src/lib.rt:164:5
 records-holds : tie.Need-records-holds Inv-loop μ-loop Inv-records μ-records
 records-holds c = (omega arith, turn-start (entryOf (rawColours (c .before .args .n) (c .before .args .file .now) 4)) _ _ _)
 
--- src/lib.rt:113:9
+-- src/lib.rt:166:33
+mul-is-same : tie.Need-mul-is-same Inv-loop μ-loop Inv-records μ-records
+mul-is-same c = search needs
+
+-- src/lib.rt:166:29
+add-is-same : tie.Need-add-is-same Inv-loop μ-loop Inv-records μ-records
+add-is-same c = search needs
+
+-- src/lib.rt:166:12
+is-same-requires : tie.Need-is-same-requires Inv-loop μ-loop Inv-records μ-records
+is-same-requires c κs = search needs
+
+-- src/lib.rt:168:13
+add-p : tie.Need-add-p Inv-loop μ-loop Inv-records μ-records
+add-p c = let h = c .before .is-same .ensures (c .if1 .taken) .0 in omega arith
+
+-- src/lib.rt:170:9
 loop-holds : tie.Need-loop-holds Inv-loop μ-loop Inv-records μ-records
 loop-holds c =
-    let r = c .before in
+    let t = c .before .before in
+    let r = t .before in
     let a = r .before .before .args in
-    (omega arith, entry-start (a .file .now) (rawColours (a .n) (a .file .now) 4) _ (a .n) (r .records .i) (r .records .p) (r .records .inv .1) (c .records-test .taken))
+    let s = a .file .now in
+    let cs = rawColours (a .n) s 4 in
+    let col = getD cs (r .records .i) black in
+    let start = entry-start s cs _ (a .n) (r .records .i) (r .records .p) (r .records .inv .1) (t .records-test .taken) in
+    ⊎-elim
+    (λ w.
+    let same = c .before .is-same .ensures (w .0 .taken) in
+    rw (w .1, w .2) (
+      omega arith,
+      twins-same s col (r .records .i) (r .records .p) _ (named cs (a .n) s (r .records .i)) (same .0)
+          (λ f h. same .1 f h ∙ sym (fields-raw (a .n) s 4 (r .records .i) f (t .records-test .taken) h)) start,
+    ))
+    (λ w. rw (w .1, w .2) (omega arith, start))
+    (c .if1 .came)
 
--- src/lib.rt:114:41
+-- src/lib.rt:171:41
 u16-at-requires : tie.Need-u16-at-requires Inv-loop μ-loop Inv-records μ-records
 u16-at-requires c κs = search needs
 
--- src/lib.rt:114:30
+-- src/lib.rt:171:30
 enum-known-v : tie.Need-enum-known-v Inv-loop μ-loop Inv-records μ-records
 enum-known-v c = search needs
 
--- src/lib.rt:115:17
+-- src/lib.rt:172:17
 enum-told : tie.Need-enum-told Inv-loop μ-loop Inv-records μ-records
 enum-told c = search needs
 
--- src/lib.rt:115:17
+-- src/lib.rt:172:17
 returns : tie.Need-returns Inv-loop μ-loop Inv-records μ-records
 returns c =
     let call = c .before .before in
     let l = call .before .before .loop in
-    let r = call .before .before .before .before in
+    let r = call .before .before .before .before .before .before in
     let a = r .before .before .args in
     let cs = rawColours (a .n) (a .file .now) 4 in
     let tw = twin (r .records .i) (getD cs (r .records .i) black) in
     sym (inner-no tw (a .file .now) _ (named cs (a .n) (a .file .now) (r .records .i)) 5 (l .f) (l .p) (l .inv .1) (call .before .loop-test .taken)
     (twin-short (a .file .now) (getD cs (r .records .i) black) (r .records .i) (l .f) (l .p) (sym (ap (told16 (l .p)) (c .enum-told .given .1)) ∙ call .u16-at .ensures)))
 
--- src/lib.rt:117:51
+-- src/lib.rt:174:51
 mul-u16-or-zero : tie.Need-mul-u16-or-zero Inv-loop μ-loop Inv-records μ-records
 mul-u16-or-zero c = search needs
 
--- src/lib.rt:117:47
+-- src/lib.rt:174:47
 add-u16-or-zero : tie.Need-add-u16-or-zero Inv-loop μ-loop Inv-records μ-records
 add-u16-or-zero c = search needs
 
--- src/lib.rt:117:60
+-- src/lib.rt:174:60
 mul-u16-or-zero-2 : tie.Need-mul-u16-or-zero-2 Inv-loop μ-loop Inv-records μ-records
 mul-u16-or-zero-2 c = search needs
 
--- src/lib.rt:117:47
+-- src/lib.rt:174:47
 add-u16-or-zero-2 : tie.Need-add-u16-or-zero-2 Inv-loop μ-loop Inv-records μ-records
 add-u16-or-zero-2 c = search needs
 
--- src/lib.rt:117:21
+-- src/lib.rt:174:21
 u16-or-zero-requires : tie.Need-u16-or-zero-requires Inv-loop μ-loop Inv-records μ-records
 u16-or-zero-requires c κs = search needs
 
--- src/lib.rt:121:13
+-- src/lib.rt:178:13
 add-f : tie.Need-add-f Inv-loop μ-loop Inv-records μ-records
 add-f c = search needs
 
--- src/lib.rt:113:9
+-- src/lib.rt:170:9
 loop-less : tie.Need-loop-less Inv-loop μ-loop Inv-records μ-records
 loop-less c = search needs
 
--- src/lib.rt:113:9
+-- src/lib.rt:170:9
 loop-again : tie.Need-loop-again Inv-loop μ-loop Inv-records μ-records
 loop-again c =
     let raw = c .before in
-    let v = raw .before .before in
+    let v = raw .before .before .before in
     let call = v .before .before in
     let l = call .before .before .loop in
-    let r = call .before .before .before .before in
+    let r = call .before .before .before .before .before .before in
     let a = r .before .before .args in
     let cs = rawColours (a .n) (a .file .now) 4 in
     let tw = twin (r .records .i) (getD cs (r .records .i) black) in
     let same = raw-field (a .n) (a .file .now) (r .records .i) (l .f) _ (omega arith) (omega arith) (omega arith) (raw .u16-or-zero .ensures) in (
       omega arith,
       inner-ok tw (a .file .now) _ (named cs (a .n) (a .file .now) (r .records .i)) 5 (l .f) (l .p) (l .inv .1) (call .before .loop-test .taken) _
-          (twin-same (a .file .now) (getD cs (r .records .i) black) (r .records .i) (l .f) (l .p) _ _ (sym (ap (told16 (l .p)) (v .v .given .1)) ∙ call .u16-at .ensures) (c .if1 .left ∙ same)),
+          (twin-same (a .file .now) (getD cs (r .records .i) black) (r .records .i) (l .f) (l .p) _ _ (sym (ap (told16 (l .p)) (v .v .given .1)) ∙ call .u16-at .ensures) (c .if2 .left ∙ same)),
     )
 
--- src/lib.rt:123:15
+-- src/lib.rt:180:15
 name32-at-requires : tie.Need-name32-at-requires Inv-loop μ-loop Inv-records μ-records
 name32-at-requires c κs = search needs
 
--- src/lib.rt:124:30
+-- src/lib.rt:181:30
 enum-known-next : tie.Need-enum-known-next Inv-loop μ-loop Inv-records μ-records
 enum-known-next c = search needs
 
--- src/lib.rt:127:29
+-- src/lib.rt:184:29
 enum-known-x : tie.Need-enum-known-x Inv-loop μ-loop Inv-records μ-records
 enum-known-x c = search needs
 
--- src/lib.rt:128:17
+-- src/lib.rt:185:17
 returns-2 : tie.Need-returns-2 Inv-loop μ-loop Inv-records μ-records
 returns-2 c =
     let x = c .before in
     let nm = x .before .before in
     let l = nm .before .before .loop in
-    let r = nm .before .before .before .before in
+    let r = nm .before .before .before .before .before .before in
     let a = r .before .before .args in
     let cs = rawColours (a .n) (a .file .now) 4 in
     let tw = twin (r .records .i) (getD cs (r .records .i) black) in
     sym (entry-refused (a .file .now) cs _ (a .n) (r .records .i) (l .p) (inner-end tw (a .file .now) _ (named cs (a .n) (a .file .now) (r .records .i)) 5 (l .f) (l .p) (l .inv .1) (nm .before .loop-test .left))
     (sym (nm .name32-at .ensures) ∙ ap toldName (x .x .given .1)))
 
--- src/lib.rt:131:9
+-- src/lib.rt:188:9
 add-i : tie.Need-add-i Inv-loop μ-loop Inv-records μ-records
 add-i c = search needs
 
--- src/lib.rt:111:5
+-- src/lib.rt:164:5
 records-less : tie.Need-records-less Inv-loop μ-loop Inv-records μ-records
 records-less c = search needs
 
--- src/lib.rt:111:5
+-- src/lib.rt:164:5
 records-again : tie.Need-records-again Inv-loop μ-loop Inv-records μ-records
 records-again c =
     let x = c .before in
     let nm = x .before .before in
     let l = nm .before .before .loop in
-    let r = nm .before .before .before .before in
+    let r = nm .before .before .before .before .before .before in
     let a = r .before .before .args in
     let cs = rawColours (a .n) (a .file .now) 4 in
     let tw = twin (r .records .i) (getD cs (r .records .i) black) in (
@@ -158,7 +189,7 @@ records-again c =
           (sym (nm .name32-at .ensures) ∙ ap toldName (x .next .given .1)),
     )
 
--- src/lib.rt:134:9
+-- src/lib.rt:191:9
 returns-3 : tie.Need-returns-3 Inv-loop μ-loop Inv-records μ-records
 returns-3 c =
     let r = c .before .before in
@@ -166,12 +197,12 @@ returns-3 c =
     let cs = rawColours (a .n) (a .file .now) 4 in
     let tw = twin (r .records .i) (getD cs (r .records .i) black) in
     ⊎-elim (λ w. absurd (omega arith))
-    (λ w. rw (w .10, w .9) (sym (inner-no tw (a .file .now) _ (named cs (a .n) (a .file .now) (r .records .i)) 5 (w .1 .f) (w .1 .p) (w .1 .inv .1) (w .2 .taken)
-    (twin-differs (a .file .now) (getD cs (r .records .i) black) (r .records .i) (w .1 .f) (w .1 .p) _ _ (sym (ap (told16 (w .1 .p)) (w .5 .given .1)) ∙ w .3 .ensures)
-    (λ e. w .8 .taken (e ∙ sym (raw-field (a .n) (a .file .now) (r .records .i) (w .1 .f) _ (omega arith) (omega arith) (omega (arith, w .2 .taken)) (w .7 .ensures))))))))
+    (λ w. rw (w .13, w .12) (sym (inner-no tw (a .file .now) _ (named cs (a .n) (a .file .now) (r .records .i)) 5 (w .3 .f) (w .3 .p) (w .3 .inv .1) (w .4 .taken)
+    (twin-differs (a .file .now) (getD cs (r .records .i) black) (r .records .i) (w .3 .f) (w .3 .p) _ _ (sym (ap (told16 (w .3 .p)) (w .7 .given .1)) ∙ w .5 .ensures)
+    (λ e. w .11 .taken (e ∙ sym (raw-field (a .n) (a .file .now) (r .records .i) (w .3 .f) _ (omega arith) (omega arith) (omega (arith, w .4 .taken)) (w .10 .ensures))))))))
     (c .before .records-test .came)
 
--- src/lib.rt:103:1
+-- src/lib.rt:156:1
 returns-4 : tie.Need-returns-4 Inv-loop μ-loop Inv-records μ-records
 returns-4 c =
     let r = c .before .before in
@@ -189,6 +220,10 @@ entries-at-spec =
     Inv-records
     μ-records
     records-holds
+    mul-is-same
+    add-is-same
+    is-same-requires
+    add-p
     loop-holds
     u16-at-requires
     enum-known-v

@@ -1,7 +1,7 @@
-use Rattle.fields.specs.Reader.{limit}
-use mathlib.Core.Path.{_≡_, refl, sym, ap, _∙_}
-use native.Mathlib.Omega.{arith}
 use borrow.Author.Needs.{needs}
+use Rattle.fields.specs.Reader.{limit}
+use mathlib.Core.Path.{_≡_, refl, sym, ap, ap₂, _∙_}
+use native.Mathlib.Omega.{arith}
 use Prim.Native.Nat.{ℕ, _+_, _-_, _*_, _≤_, _<_}
 use lib.ListN.{length, drop}
 use lib.Seq.{sets}
@@ -16,7 +16,6 @@ use Rattle.aco_read.proofs.fill_named.Statement.{statement}
 use Rattle.aco_read.proofs.fill_named.Tie as tie
 use Rattle.aco_read.proofs.fill_named.Reads as reads
 use Rattle.aco_read.proofs.fill_named.Lts as lts
-use Rattle.aco_read.proofs.colour_at.Reads as colour-at-reads
 use Rattle.aco_read.proofs.put_row.Reads as put-row-reads
 use Rattle.fields.proofs.u32_or_zero.Reads as u32-or-zero-reads
 
@@ -33,112 +32,108 @@ here c =
     counted-in (st .args .file .now) 2 (st .args .n) (st .pre .0) refl (c .before .loop .i) (c .loop-test .taken) (c .before .loop .p) (c .before .loop .inv .3)
 
 loaded : (u : tie.After-u32-or-zero Inv-loop μ-loop)
-    → Counted (u .before .before .before .before .before .before .args .file .now) (u .before .before .before .before .before .before .args .n) (u .before .before .before .loop .i) (u .before .before .before .loop .p) (u .u32-or-zero .result)
+    → Counted (u .before .before .before .before .before .args .file .now) (u .before .before .before .before .before .args .n) (u .before .before .loop .i) (u .before .before .loop .p) (u .u32-or-zero .result)
 loaded u =
-    let c = u .before .before in
+    let c = u .before in
     let st = c .before .before .before .before in
     counted (st .args .file .now) 2 (st .args .n) (st .pre .0) refl (c .before .loop .i) (c .loop-test .taken) (c .before .loop .p) (c .before .loop .inv .3) _ (u .u32-or-zero .ensures)
 
--- src/lib.rt:95:21
+-- src/lib.rt:103:21
 mul-p : tie.Need-mul-p Inv-loop μ-loop
 mul-p c = let st = c .before .before in let few = count-small (st .args .file .now) 2 (st .args .n) (st .pre .0) in omega arith
 
--- src/lib.rt:95:17
+-- src/lib.rt:103:17
 add-p : tie.Need-add-p Inv-loop μ-loop
 add-p c = let st = c .before .before in let few = count-small (st .args .file .now) 2 (st .args .n) (st .pre .0) in omega arith
 
--- src/lib.rt:96:5
+-- src/lib.rt:104:5
 loop-holds : tie.Need-loop-holds Inv-loop μ-loop
 loop-holds c = (omega arith, refl, refl, sym (entry-first _ _))
 
--- src/lib.rt:97:37
-mul-colour-at : tie.Need-mul-colour-at Inv-loop μ-loop
-mul-colour-at c = search needs
-
--- src/lib.rt:97:33
-add-colour-at : tie.Need-add-colour-at Inv-loop μ-loop
-add-colour-at c = search needs
-
--- src/lib.rt:97:13
-colour-at-requires : tie.Need-colour-at-requires Inv-loop μ-loop
-colour-at-requires c κs =
-    let st = c .before .before .before .before in
-    named-colour (st .args .file .now) 2 (st .args .n) (st .pre .0) refl (c .before .loop .i) (c .loop-test .taken)
-
--- src/lib.rt:98:47
+-- src/lib.rt:105:47
 add-u32-or-zero : tie.Need-add-u32-or-zero Inv-loop μ-loop
-add-u32-or-zero c = omega (arith, here (c .before))
+add-u32-or-zero c = omega (arith, here c)
 
--- src/lib.rt:98:13
+-- src/lib.rt:105:13
 u32-or-zero-requires : tie.Need-u32-or-zero-requires Inv-loop μ-loop
 u32-or-zero-requires c κs = search needs
 
--- src/lib.rt:99:24
+-- src/lib.rt:106:27
 mul-put-row : tie.Need-mul-put-row Inv-loop μ-loop
 mul-put-row c = search needs
 
--- src/lib.rt:99:39
+-- src/lib.rt:106:23
 add-put-row : tie.Need-add-put-row Inv-loop μ-loop
-add-put-row c = omega (arith, loaded (c .before))
+add-put-row c = search needs
 
--- src/lib.rt:99:38
+-- src/lib.rt:106:42
+mul-put-row-2 : tie.Need-mul-put-row-2 Inv-loop μ-loop
+mul-put-row-2 c = search needs
+
+-- src/lib.rt:106:54
+add-put-row-2 : tie.Need-add-put-row-2 Inv-loop μ-loop
+add-put-row-2 c = omega (arith, loaded (c .before))
+
+-- src/lib.rt:106:53
 cast-put-row : tie.Need-cast-put-row Inv-loop μ-loop
 cast-put-row c = omega (arith, loaded (c .before))
 
--- src/lib.rt:99:55
+-- src/lib.rt:106:70
 sub-put-row : tie.Need-sub-put-row Inv-loop μ-loop
 sub-put-row c = omega (arith, loaded (c .before))
 
--- src/lib.rt:99:9
+-- src/lib.rt:106:9
 put-row-requires : tie.Need-put-row-requires Inv-loop μ-loop
-put-row-requires c κs = omega (arith, c .before .before .before .before .loop .inv .2, c .before .before .before .before .before .before .before .pre .1)
+put-row-requires c κs =
+    let tn = c .before .before in
+    let st = tn .before .before .before .before in
+    (named-colour (st .args .file .now) 2 (st .args .n) (st .pre .0) refl (tn .before .loop .i) (tn .loop-test .taken), omega (arith, tn .before .loop .inv .2, st .pre .1))
 
--- src/lib.rt:100:24
+-- src/lib.rt:107:24
 cast-p : tie.Need-cast-p Inv-loop μ-loop
 cast-p c = omega (arith, loaded (c .before .before .before .before))
 
--- src/lib.rt:100:19
+-- src/lib.rt:107:19
 mul-p-2 : tie.Need-mul-p-2 Inv-loop μ-loop
 mul-p-2 c = omega (arith, loaded (c .before .before .before .before))
 
--- src/lib.rt:100:14
+-- src/lib.rt:107:14
 add-p-2 : tie.Need-add-p-2 Inv-loop μ-loop
 add-p-2 c = omega (arith, loaded (c .before .before .before .before))
 
--- src/lib.rt:100:9
+-- src/lib.rt:107:9
 add-p-3 : tie.Need-add-p-3 Inv-loop μ-loop
 add-p-3 c = omega (arith, loaded (c .before .before .before .before))
 
--- src/lib.rt:101:9
+-- src/lib.rt:108:9
 add-i : tie.Need-add-i Inv-loop μ-loop
 add-i c = search needs
 
--- src/lib.rt:96:5
+-- src/lib.rt:104:5
 loop-less : tie.Need-loop-less Inv-loop μ-loop
 loop-less c = search needs
 
--- src/lib.rt:96:5
+-- src/lib.rt:104:5
 loop-again : tie.Need-loop-again Inv-loop μ-loop
 loop-again c =
     let pr = c .before .before in
     let u = pr .before .before in
-    let tn = u .before .before in
+    let tn = u .before in
     let l = tn .before .loop in
     let st = tn .before .before .before .before in
     let s = st .args .file .now in
     let k = loaded u in (
       omega arith,
-      fill-turn (recordsOf (aco s)) (unnamed black) _ (l .table) (l .i) (l .inv .1) (omega (arith, length-records s 2 (st .args .n) (st .pre .0))) _ _
-          (k .is-row ∙ ap (λ (b : Colour). numbers b (l .p + 14) (u .u32-or-zero .result - 1)) (sym (u .before .colour-at .ensures))) refl (pr .put-row .ensures),
-      pr .put-row .kept .0 ∙ l .inv .2,
+      fill-turn (recordsOf (aco s)) (unnamed black) _ (l .table) (l .i) (l .inv .1) (omega (arith, length-records s 2 (st .args .n) (st .pre .0))) _ _ (k .is-row) refl (pr .put-row .ensures),
+      pr .put-row .kept .1 .1 .0 ∙ l .inv .2,
       omega (arith, k .next),
     )
 
--- src/lib.rt:90:1
+-- src/lib.rt:98:1
 same-length : tie.Need-same-length Inv-loop μ-loop
 same-length c = c .before .loop .inv .2
 
--- src/lib.rt:90:1
+-- src/lib.rt:98:1
 returns : tie.Need-returns Inv-loop μ-loop
 returns c =
     let l = c .before .loop in
@@ -155,13 +150,12 @@ fill-named-spec =
     mul-p
     add-p
     loop-holds
-    mul-colour-at
-    add-colour-at
-    colour-at-requires
     add-u32-or-zero
     u32-or-zero-requires
     mul-put-row
     add-put-row
+    mul-put-row-2
+    add-put-row-2
     cast-put-row
     sub-put-row
     put-row-requires

@@ -1,6 +1,6 @@
+use borrow.Author.Needs.{needs}
 use mathlib.Core.Path.{_≡_, refl, sym, ap, _∙_}
 use native.Mathlib.Omega.{arith}
-use borrow.Author.Needs.{needs}
 use Prim.Native.Nat.{ℕ, _+_, _-_, _*_, _≤_, _<_}
 use lib.ListN.{length, drop}
 use lib.Seq.{sets}
@@ -15,7 +15,6 @@ use Rattle.aco_read.proofs.fill_plain.Statement.{statement}
 use Rattle.aco_read.proofs.fill_plain.Tie as tie
 use Rattle.aco_read.proofs.fill_plain.Reads as reads
 use Rattle.aco_read.proofs.fill_plain.Lts as lts
-use Rattle.aco_read.proofs.colour_at.Reads as colour-at-reads
 use Rattle.aco_read.proofs.put_row.Reads as put-row-reads
 
 abbrev Inv-loop : tie.InvT-loop
@@ -24,61 +23,58 @@ Inv-loop file n table₀ i₀ table i = (i ≤ n) × (sets table₀ 0 (joined ro
 abbrev μ-loop : tie.MeasureT-loop
 μ-loop file n table₀ i₀ table i = n - i
 
--- src/lib.rt:81:5
+-- src/lib.rt:90:5
 loop-holds : tie.Need-loop-holds Inv-loop μ-loop
 loop-holds c = (omega arith, refl, refl)
 
--- src/lib.rt:82:37
-mul-colour-at : tie.Need-mul-colour-at Inv-loop μ-loop
-mul-colour-at c = search needs
-
--- src/lib.rt:82:33
-add-colour-at : tie.Need-add-colour-at Inv-loop μ-loop
-add-colour-at c = search needs
-
--- src/lib.rt:82:13
-colour-at-requires : tie.Need-colour-at-requires Inv-loop μ-loop
-colour-at-requires c κs =
-    let st = c .before .before .before .before in
-    plain-in (st .args .file .now) 1 (st .args .n) (st .pre .0) refl (c .before .loop .i) (c .loop-test .taken)
-
--- src/lib.rt:83:24
+-- src/lib.rt:91:27
 mul-put-row : tie.Need-mul-put-row Inv-loop μ-loop
 mul-put-row c = search needs
 
--- src/lib.rt:83:9
-put-row-requires : tie.Need-put-row-requires Inv-loop μ-loop
-put-row-requires c κs = search needs
+-- src/lib.rt:91:23
+add-put-row : tie.Need-add-put-row Inv-loop μ-loop
+add-put-row c = search needs
 
--- src/lib.rt:84:9
+-- src/lib.rt:91:42
+mul-put-row-2 : tie.Need-mul-put-row-2 Inv-loop μ-loop
+mul-put-row-2 c = search needs
+
+-- src/lib.rt:91:9
+put-row-requires : tie.Need-put-row-requires Inv-loop μ-loop
+put-row-requires c κs =
+    let tn = c .before in
+    let st = tn .before .before .before .before in
+    let l = tn .before .loop in
+    (plain-in (st .args .file .now) 1 (st .args .n) (st .pre .0) refl (l .i) (tn .loop-test .taken), omega arith)
+
+-- src/lib.rt:92:9
 add-i : tie.Need-add-i Inv-loop μ-loop
 add-i c = search needs
 
--- src/lib.rt:81:5
+-- src/lib.rt:90:5
 loop-less : tie.Need-loop-less Inv-loop μ-loop
 loop-less c = search needs
 
--- src/lib.rt:81:5
+-- src/lib.rt:90:5
 loop-again : tie.Need-loop-again Inv-loop μ-loop
 loop-again c =
     let pr = c .before .before in
-    let ca = pr .before .before in
-    let tn = ca .before in
+    let tn = pr .before .before in
     let l = tn .before .loop in
     let st = tn .before .before .before .before in
     let a = st .args in
     let s = a .file .now in (
       omega arith,
       fill-turn (recordsOf (aco s)) (unnamed black) _ (l .table) (l .i) (l .inv .1) (omega (arith, length-records s 1 (a .n) (st .pre .0))) _ _
-          (plain-row s 1 (a .n) (st .pre .0) refl (l .i) (tn .loop-test .taken) ∙ ap (λ (k : Colour). numbers k 0 0) (sym (ca .colour-at .ensures))) refl (pr .put-row .ensures),
-      pr .put-row .kept .0 ∙ l .inv .2,
+          (plain-row s 1 (a .n) (st .pre .0) refl (l .i) (tn .loop-test .taken)) refl (pr .put-row .ensures),
+      pr .put-row .kept .1 .1 .0 ∙ l .inv .2,
     )
 
--- src/lib.rt:76:1
+-- src/lib.rt:85:1
 same-length : tie.Need-same-length Inv-loop μ-loop
 same-length c = c .before .loop .inv .2
 
--- src/lib.rt:76:1
+-- src/lib.rt:85:1
 returns : tie.Need-returns Inv-loop μ-loop
 returns c =
     let l = c .before .loop in
@@ -93,10 +89,9 @@ fill-plain-spec =
     Inv-loop
     μ-loop
     loop-holds
-    mul-colour-at
-    add-colour-at
-    colour-at-requires
     mul-put-row
+    add-put-row
+    mul-put-row-2
     put-row-requires
     add-i
     loop-less
