@@ -11,7 +11,7 @@ use native.Mathlib.Decide.{ℕ-discrete, decLe}
 use Rattle.fields.specs.Reader.{Res, ok, refuse, pick, done, numberOf}
 use Rattle.fields.specs.Text.{text}
 use Rattle.fields.specs.Faults.{firstOf, faults, faultsFrom}
-use Rattle.fields.proofs.Tells.{first-none, first-zero}
+use Rattle.fields.proofs.Tells.{first-none, first-zero, first-inv}
 use Rattle.fields.proofs.Texts.{text-short}
 use Rattle.colour.specs.Spaces.{uses, known, allowed, sound}
 use Rattle.colour.proofs.Laws.{sound-inv}
@@ -29,13 +29,6 @@ hit r a b e h = e ∙ sym (first-found a b (λ z. h (e ∙ z)))
 
 pub pass : (r a b z : ℕ) → z ≡ a → z ≡ 0 → r ≡ b → r ≡ firstOf a b
 pass r a b z e h k = k ∙ sym (first-none a b (sym e ∙ h))
-
--- no fault of two
-pub first-both : (a b : ℕ) → firstOf a b ≡ 0 → (a ≡ 0) × (b ≡ 0)
-first-both a b e = elim (ℕ-discrete a 0) [
-  | yes h ↦ (h, sym (first-none a b h) ∙ e)
-  | no h ↦ absurd (h (sym (first-found a b h) ∙ e))
-]
 
 -- a test that gives no fault holds
 pub test-holds : (t : Bool) (m x : ℕ) → 0 < x → pick t m x ≡ 0 → (t ≡ true) × (m ≡ 0)
@@ -150,7 +143,7 @@ module _ (f : Given → ℕ) (run : List ℕ) where
 
   -- no fault in what is left, so none in the next record
   pub faults-none : (n i : ℕ) → i < n → faults f (givens run (n - i) i) ≡ 0 → (f (givenAt run i) ≡ 0) × (faults f (givens run (n - (i + 1)) (i + 1)) ≡ 0)
-  faults-none n i h e = first-both _ _ (sym (faults-turn n i h) ∙ e)
+  faults-none n i h e = first-inv _ _ (sym (faults-turn n i h) ∙ e)
 
   module _ (all n i : ℕ) (inv : all ≡ faults f (givens run (n - i) i)) where
     pub faults-found : i < n → (r : ℕ) → r ≡ f (givenAt run i) → (r ≡ 0 → ⊥) → r ≡ all

@@ -12,7 +12,8 @@ use Rattle.fields.specs.Faults.{firstOf, faults}
 use Rattle.aco.specs.Grammar.{twoLists}
 use Rattle.aco.specs.Reading.{most}
 use Rattle.aco_write.specs.Writing.{Given, swatchIn, size, colourFault, nameFault, fault, Outcome, bytes, refused, needed, written}
-use Rattle.aco_write.proofs.Judging.{hit, pass, first-both, test-holds}
+use Rattle.fields.proofs.Tells.{first-inv}
+use Rattle.aco_write.proofs.Judging.{hit, pass, test-holds}
 
 -- ---- the length, or that it is over the limit
 
@@ -81,9 +82,9 @@ module _ (names : List ℕ) (gs : List Given) where
   unfolding fault
   no-fault e =
       let a = test-holds (leb (size gs) limit) _ 1 (omega arith) e in
-      let b = first-both (pick (leb (length gs) most) 0 5) (firstOf (faults colourFault gs) (faults (nameFault names) gs)) (a .1) in
+      let b = first-inv (pick (leb (length gs) most) 0 5) (firstOf (faults colourFault gs) (faults (nameFault names) gs)) (a .1) in
       let d = test-holds (leb (length gs) most) 0 5 (omega arith) (b .0) in
-      (leb-true _ _ (a .0), leb-true _ _ (d .0), first-both (faults colourFault gs) (faults (nameFault names) gs) (b .1) .1)
+      (leb-true _ _ (a .0), leb-true _ _ (d .0), first-inv (faults colourFault gs) (faults (nameFault names) gs) (b .1) .1)
 
   -- ---- what writing does
 

@@ -14,9 +14,10 @@ use Rattle.fields.specs.Store.{stored, part}
 use Rattle.fields.specs.Text.{nameBytes, countedUnits}
 use Rattle.fields.proofs.Stores.{stored-in, sets-append, length-stored}
 use Rattle.fields.proofs.Places.{length-be, length-bes, length-nums, length-part, part-nums}
-use Rattle.fields.proofs.Exact.{length-map}
+use Rattle.fields.proofs.Exact.{length-map, length-nameBytes}
 use Rattle.colour.specs.declared.Colour.{Colour}
 use Rattle.aco.specs.Grammar.{Swatch, colourBytes, entryBytes, listOne, listTwo, twoLists}
+use Rattle.aco.proofs.Whole.{length-colour}
 use Rattle.aco_write.specs.Writing.{Given, givenAt, givens, swatchIn, sizes, size, nameFault}
 use Rattle.aco_write.specs.Parts.{colourIn, plain, start}
 use Rattle.aco_write.proofs.Judging.{name-inside, givens-start, givens-turn, givens-end, length-givens}
@@ -91,10 +92,6 @@ pub colour-bytes : (names : List ℕ) (g : Given) → colourBytes (plain (colour
 unfolding colourBytes
 colour-bytes names g = ap₂ _++_ (low-be (g .space)) (low-bes (g .samples))
 
-pub length-colour : (w : Swatch) → length (w .samples) ≡ 4 → length (colourBytes w) ≡ 10
-unfolding colourBytes
-length-colour w four = length-append (be 2 (w .space)) (joined (be 2) (w .samples)) ∙ omega (arith, length-be 2 (w .space), length-bes 2 (w .samples))
-
 -- ---- a record of list 2
 
 -- the bytes of its name, from where its copy starts
@@ -114,19 +111,12 @@ unfolding countedUnits nameBytes
 name-bytes names b g k e f =
     ap₂ (λ (x : ℕ) (l : List ℕ). be 4 (x + 1) ++ (l ++ be 2 0)) (sym (length-nums 2 (g .units) names (g .first))) (name-part names b g k e f)
 
-length-name : (us : List ℕ) → length (nameBytes 4 us) ≡ 6 + 2 * length us
-unfolding nameBytes
-length-name us =
-    let a = length-append (be 4 (length us + 1)) (joined (be 2) us ++ be 2 0) in
-    let b = length-append (joined (be 2) us) (be 2 0) in
-    omega (arith, a, b, length-be 4 (length us + 1), length-be 2 0, length-bes 2 us)
-
 pub length-entry : (names : List ℕ) (g : Given) → length (g .samples) ≡ 4 → length (entryBytes (swatchIn names g)) ≡ 16 + 2 * g .units
 unfolding entryBytes
 length-entry names g l =
     let w : Swatch = swatchIn names g in
     let a = length-append (colourBytes w) (nameBytes 4 (w .name)) in
-    omega (arith, a, length-colour w l, length-name (w .name), length-nums 2 (g .units) names (g .first))
+    omega (arith, a, length-colour w l, length-nameBytes 4 (w .name), length-nums 2 (g .units) names (g .first))
 
 pub put-record : (names : List ℕ) → Bytes names → (g : Given) (o₀ o₁ o₂ : List ℕ) (at k : ℕ) → length (g .samples) ≡ 4 → k ≡ 2 * g .units → nameFault names g ≡ 0 → at + (16 + 2 * g .units) ≤ length o₀
     → length o₁ ≡ length o₀ → o₁ ≡ sets o₀ at (colourBytes (plain (colourIn g))) → o₂ ≡ stored o₁ (at + 10) (countedUnits (g .units + 1) (part names (start g) k))
@@ -134,7 +124,7 @@ pub put-record : (names : List ℕ) → Bytes names → (g : Given) (o₀ o₁ o
 unfolding entryBytes
 put-record names b g o₀ o₁ o₂ at k l e f h m e₁ e₂ =
     let w : Swatch = swatchIn names g in
-    let n : length (nameBytes 4 (w .name)) ≡ 6 + 2 * g .units = omega (arith, length-name (w .name), length-nums 2 (g .units) names (g .first)) in
+    let n : length (nameBytes 4 (w .name)) ≡ 6 + 2 * g .units = omega (arith, length-nameBytes 4 (w .name), length-nums 2 (g .units) names (g .first)) in
     let s : o₂ ≡ stored o₁ (at + 10) (nameBytes 4 (w .name)) = e₂ ∙ ap (stored o₁ (at + 10)) (name-bytes names b g k e f) in
     as-sets o₂ o₁ (at + 10) (nameBytes 4 (w .name)) _ s n (omega arith)
     ∙ sym (peel o₀ o₁ (colourBytes w) (nameBytes 4 (w .name)) at 10 (at + 10) (length-colour w l) refl (e₁ ∙ ap (sets o₀ at) (colour-bytes names g)))

@@ -1,4 +1,5 @@
-use Rattle.aco_write.proofs.Puts.{puts-start, puts-turn, puts-end, colour-bytes, length-colour}
+use Rattle.aco.proofs.Whole.{length-colour}
+use Rattle.aco_write.proofs.Puts.{puts-start, puts-turn, puts-end, colour-bytes}
 use Rattle.aco_write.specs.Parts.{plain}
 use borrow.Author.Needs.{needs}
 use native.Mathlib.Omega.{arith}
