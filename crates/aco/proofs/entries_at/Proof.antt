@@ -93,7 +93,7 @@ returns c =
     let a = r .before .before .args in
     let cs = rawColours (a .n) (a .file .now) 4 in
     let tw = twin (r .records .i) (getD cs (r .records .i) black) in
-    sym (inner-no tw (a .file .now) _ (named cs (a .n) (a .file .now) (r .records .i)) 5 (l .f) (l .p) (l .inv .1) (call .before .loop-test .taken)
+    sym (inner-no tw (a .file .now) _ (named cs (a .n) (a .file .now) (r .records .i)) 5 (l .f) (l .p) (l .inv .1) (omega (arith, call .before .loop-test .taken))
     (twin-short (a .file .now) (getD cs (r .records .i) black) (r .records .i) (l .f) (l .p) (sym (ap (told16 (l .p)) (c .enum-told .given .1)) ∙ call .u16-at .ensures)))
 
 -- src/lib.rt:174:51
@@ -137,7 +137,7 @@ loop-again c =
     let tw = twin (r .records .i) (getD cs (r .records .i) black) in
     let same = raw-field (a .n) (a .file .now) (r .records .i) (l .f) _ (omega arith) (omega arith) (omega arith) (raw .u16-or-zero .ensures) in (
       omega arith,
-      inner-ok tw (a .file .now) _ (named cs (a .n) (a .file .now) (r .records .i)) 5 (l .f) (l .p) (l .inv .1) (call .before .loop-test .taken) _
+      inner-ok tw (a .file .now) _ (named cs (a .n) (a .file .now) (r .records .i)) 5 (l .f) (l .p) (l .inv .1) (omega (arith, call .before .loop-test .taken)) _
           (twin-same (a .file .now) (getD cs (r .records .i) black) (r .records .i) (l .f) (l .p) _ _ (sym (ap (told16 (l .p)) (v .v .given .1)) ∙ call .u16-at .ensures) (c .if2 .left ∙ same)),
     )
 
