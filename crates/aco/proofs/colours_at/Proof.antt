@@ -1,8 +1,8 @@
-use mathlib.Core.Path.{_≡_, refl, sym, ap, _∙_}
+use mathlib.Core.Path.{_≡_, sym, ap, _∙_}
 use native.Mathlib.Omega.{arith}
 use borrow.Author.Needs.{needs}
-use Prim.Native.Nat.{ℕ, _+_, _-_, _*_, _≤_, _<_}
-use Rattle.fields.specs.Answer.{told16, toldStep, toldName}
+use Prim.Native.Nat.{_-_, _≤_}
+use Rattle.fields.specs.Answer.{toldStep}
 use Rattle.fields.specs.Reader.{done, each}
 use Rattle.aco.specs.Reading.{colour}
 use lib.ListN.{length}
@@ -11,9 +11,6 @@ use Rattle.aco.proofs.Raw.{colour-moves}
 use Rattle.fields.proofs.Laws.{turn-start, turn-ok, turn-no, turn-end}
 use Rattle.aco.proofs.colours_at.Statement.{statement}
 use Rattle.aco.proofs.colours_at.Tie as tie
-use Rattle.aco.proofs.colours_at.Reads as reads
-use Rattle.aco.proofs.colours_at.Lts as lts
-use Rattle.aco.proofs.colour_at.Reads as colour-at-reads
 
 abbrev Inv-loop : tie.InvT-loop
 Inv-loop file at n i₀ p₀ i p = (i ≤ n) × (done (each n 0 (λ k. colour) file at) ≡ done (each (n - i) i (λ k. colour) file p)) × (p ≤ length file)
@@ -21,23 +18,18 @@ Inv-loop file at n i₀ p₀ i p = (i ≤ n) × (done (each n 0 (λ k. colour) f
 abbrev μ-loop : tie.MeasureT-loop
 μ-loop file at n i₀ p₀ i p = n - i
 
--- src/lib.rt:88:5
 loop-holds : tie.Need-loop-holds Inv-loop μ-loop
 loop-holds c = (omega arith, turn-start (λ k. colour) _ _ _, c .before .pre)
 
--- src/lib.rt:89:15
 colour-at-requires : tie.Need-colour-at-requires Inv-loop μ-loop
 colour-at-requires c κs = search needs
 
--- src/lib.rt:90:24
 enum-known-next : tie.Need-enum-known-next Inv-loop μ-loop
 enum-known-next c = search needs
 
--- src/lib.rt:93:27
 enum-known-x : tie.Need-enum-known-x Inv-loop μ-loop
 enum-known-x c = search needs
 
--- src/lib.rt:94:17
 returns : tie.Need-returns Inv-loop μ-loop
 returns c =
     let x = c .before in
@@ -46,15 +38,12 @@ returns c =
     let a = call .before .before .before .before .args in
     sym (turn-no (λ k. colour) (a .file .now) _ (a .n) (l .i) (l .p) (l .inv .1) (call .before .loop-test .taken) (sym (call .colour-at .ensures) ∙ ap toldStep (x .x .given .1)))
 
--- src/lib.rt:97:9
 add-i : tie.Need-add-i Inv-loop μ-loop
 add-i c = search needs
 
--- src/lib.rt:88:5
 loop-less : tie.Need-loop-less Inv-loop μ-loop
 loop-less c = search needs
 
--- src/lib.rt:88:5
 loop-again : tie.Need-loop-again Inv-loop μ-loop
 loop-again c =
     let x = c .before in
@@ -67,7 +56,6 @@ loop-again c =
       colour-moves (a .file .now) (l .p) (done-inv (colour (a .file .now) (l .p)) e .1) .1,
     )
 
--- src/lib.rt:83:1
 returns-2 : tie.Need-returns-2 Inv-loop μ-loop
 returns-2 c =
     let l = c .before .loop in

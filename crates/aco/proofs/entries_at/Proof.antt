@@ -1,23 +1,18 @@
-use mathlib.Core.Path.{_≡_, refl, sym, ap, _∙_}
+use mathlib.Core.Path.{_≡_, sym, ap, _∙_}
 use native.Mathlib.Omega.{arith}
 use borrow.Author.Needs.{needs}
-use Prim.Native.Nat.{ℕ, _+_, _-_, _*_, _≤_, _<_}
-use Rattle.fields.specs.Answer.{told16, toldStep, toldName}
+use Prim.Native.Nat.{_-_, _≤_}
+use Rattle.fields.specs.Answer.{told16, toldName}
 use mathlib.Core.Logic.{⊎-elim}
 use lib.ListN.{getD}
-use Rattle.fields.specs.Reader.{Res, done, each, then}
+use Rattle.fields.specs.Reader.{done, each, then}
 use Rattle.aco.specs.Reading.{twin, black}
 use Rattle.aco.specs.Raw.{rawColours}
 use Rattle.aco.proofs.Judging.{entryOf, named, entry-start, entry-named, entry-refused, twin-short, twin-differs, twin-same, twins-same, raw-field}
 use Rattle.aco.proofs.Raw.{fields-raw}
-use Rattle.fields.proofs.Laws.{turn-start, turn-ok, turn-no, turn-end, inner-ok, inner-no, inner-end}
+use Rattle.fields.proofs.Laws.{turn-start, turn-end, inner-ok, inner-no, inner-end}
 use Rattle.aco.proofs.entries_at.Statement.{statement}
 use Rattle.aco.proofs.entries_at.Tie as tie
-use Rattle.aco.proofs.entries_at.Reads as reads
-use Rattle.aco.proofs.entries_at.Lts as lts
-use Rattle.fields.proofs.u16_at.Reads as u16-at-reads
-use Rattle.fields.proofs.u16_or_zero.Reads as u16-or-zero-reads
-use Rattle.fields.proofs.name32_at.Reads as name32-at-reads
 
 abbrev Inv-loop : tie.InvT-loop
 Inv-loop file at n count i f₀ p₀ f p = (f ≤ 5) × (done (each n 0 (entryOf (rawColours n file 4)) file at) ≡ then (done (each (5 - f) f (twin i (getD (rawColours n file 4) i black)) file p)) (λ u q. named (rawColours n file 4) n file i q))
@@ -31,27 +26,21 @@ Inv-records file at n count i₀ f₀ p₀ i f p = (i ≤ n) × (done (each n 0 
 abbrev μ-records : tie.MeasureT-records
 μ-records file at n count i₀ f₀ p₀ i f p = n - i
 
--- src/lib.rt:164:5
 records-holds : tie.Need-records-holds Inv-loop μ-loop Inv-records μ-records
 records-holds c = (omega arith, turn-start (entryOf (rawColours (c .before .args .n) (c .before .args .file .now) 4)) _ _ _)
 
--- src/lib.rt:166:33
 mul-is-same : tie.Need-mul-is-same Inv-loop μ-loop Inv-records μ-records
 mul-is-same c = search needs
 
--- src/lib.rt:166:29
 add-is-same : tie.Need-add-is-same Inv-loop μ-loop Inv-records μ-records
 add-is-same c = search needs
 
--- src/lib.rt:166:12
 is-same-requires : tie.Need-is-same-requires Inv-loop μ-loop Inv-records μ-records
 is-same-requires c κs = search needs
 
--- src/lib.rt:168:13
 add-p : tie.Need-add-p Inv-loop μ-loop Inv-records μ-records
 add-p c = let h = c .before .is-same .ensures (c .if1 .taken) .0 in omega arith
 
--- src/lib.rt:170:9
 loop-holds : tie.Need-loop-holds Inv-loop μ-loop Inv-records μ-records
 loop-holds c =
     let t = c .before .before in
@@ -72,19 +61,15 @@ loop-holds c =
     (λ w. rw (w .1, w .2) (omega arith, start))
     (c .if1 .came)
 
--- src/lib.rt:171:41
 u16-at-requires : tie.Need-u16-at-requires Inv-loop μ-loop Inv-records μ-records
 u16-at-requires c κs = search needs
 
--- src/lib.rt:171:30
 enum-known-v : tie.Need-enum-known-v Inv-loop μ-loop Inv-records μ-records
 enum-known-v c = search needs
 
--- src/lib.rt:172:17
 enum-told : tie.Need-enum-told Inv-loop μ-loop Inv-records μ-records
 enum-told c = search needs
 
--- src/lib.rt:172:17
 returns : tie.Need-returns Inv-loop μ-loop Inv-records μ-records
 returns c =
     let call = c .before .before in
@@ -96,35 +81,27 @@ returns c =
     sym (inner-no tw (a .file .now) _ (named cs (a .n) (a .file .now) (r .records .i)) 5 (l .f) (l .p) (l .inv .1) (omega (arith, call .before .loop-test .taken))
     (twin-short (a .file .now) (getD cs (r .records .i) black) (r .records .i) (l .f) (l .p) (sym (ap (told16 (l .p)) (c .enum-told .given .1)) ∙ call .u16-at .ensures)))
 
--- src/lib.rt:174:51
 mul-u16-or-zero : tie.Need-mul-u16-or-zero Inv-loop μ-loop Inv-records μ-records
 mul-u16-or-zero c = search needs
 
--- src/lib.rt:174:47
 add-u16-or-zero : tie.Need-add-u16-or-zero Inv-loop μ-loop Inv-records μ-records
 add-u16-or-zero c = search needs
 
--- src/lib.rt:174:60
 mul-u16-or-zero-2 : tie.Need-mul-u16-or-zero-2 Inv-loop μ-loop Inv-records μ-records
 mul-u16-or-zero-2 c = search needs
 
--- src/lib.rt:174:47
 add-u16-or-zero-2 : tie.Need-add-u16-or-zero-2 Inv-loop μ-loop Inv-records μ-records
 add-u16-or-zero-2 c = search needs
 
--- src/lib.rt:174:21
 u16-or-zero-requires : tie.Need-u16-or-zero-requires Inv-loop μ-loop Inv-records μ-records
 u16-or-zero-requires c κs = search needs
 
--- src/lib.rt:178:13
 add-f : tie.Need-add-f Inv-loop μ-loop Inv-records μ-records
 add-f c = search needs
 
--- src/lib.rt:170:9
 loop-less : tie.Need-loop-less Inv-loop μ-loop Inv-records μ-records
 loop-less c = search needs
 
--- src/lib.rt:170:9
 loop-again : tie.Need-loop-again Inv-loop μ-loop Inv-records μ-records
 loop-again c =
     let raw = c .before in
@@ -141,19 +118,15 @@ loop-again c =
           (twin-same (a .file .now) (getD cs (r .records .i) black) (r .records .i) (l .f) (l .p) _ _ (sym (ap (told16 (l .p)) (v .v .given .1)) ∙ call .u16-at .ensures) (c .if2 .left ∙ same)),
     )
 
--- src/lib.rt:180:15
 name32-at-requires : tie.Need-name32-at-requires Inv-loop μ-loop Inv-records μ-records
 name32-at-requires c κs = search needs
 
--- src/lib.rt:181:30
 enum-known-next : tie.Need-enum-known-next Inv-loop μ-loop Inv-records μ-records
 enum-known-next c = search needs
 
--- src/lib.rt:184:29
 enum-known-x : tie.Need-enum-known-x Inv-loop μ-loop Inv-records μ-records
 enum-known-x c = search needs
 
--- src/lib.rt:185:17
 returns-2 : tie.Need-returns-2 Inv-loop μ-loop Inv-records μ-records
 returns-2 c =
     let x = c .before in
@@ -166,15 +139,12 @@ returns-2 c =
     sym (entry-refused (a .file .now) cs _ (a .n) (r .records .i) (l .p) (inner-end tw (a .file .now) _ (named cs (a .n) (a .file .now) (r .records .i)) 5 (l .f) (l .p) (l .inv .1) (nm .before .loop-test .left))
     (sym (nm .name32-at .ensures) ∙ ap toldName (x .x .given .1)))
 
--- src/lib.rt:188:9
 add-i : tie.Need-add-i Inv-loop μ-loop Inv-records μ-records
 add-i c = search needs
 
--- src/lib.rt:164:5
 records-less : tie.Need-records-less Inv-loop μ-loop Inv-records μ-records
 records-less c = search needs
 
--- src/lib.rt:164:5
 records-again : tie.Need-records-again Inv-loop μ-loop Inv-records μ-records
 records-again c =
     let x = c .before in
@@ -189,7 +159,6 @@ records-again c =
           (sym (nm .name32-at .ensures) ∙ ap toldName (x .next .given .1)),
     )
 
--- src/lib.rt:191:9
 returns-3 : tie.Need-returns-3 Inv-loop μ-loop Inv-records μ-records
 returns-3 c =
     let r = c .before .before in
@@ -202,7 +171,6 @@ returns-3 c =
     (λ e. w .11 .taken (e ∙ sym (raw-field (a .n) (a .file .now) (r .records .i) (w .3 .f) _ (omega arith) (omega arith) (omega (arith, w .4 .taken)) (w .10 .ensures))))))))
     (c .before .records-test .came)
 
--- src/lib.rt:156:1
 returns-4 : tie.Need-returns-4 Inv-loop μ-loop Inv-records μ-records
 returns-4 c =
     let r = c .before .before in

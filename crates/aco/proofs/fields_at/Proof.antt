@@ -1,40 +1,29 @@
-use mathlib.Core.Path.{_≡_, refl, sym, ap, _∙_}
-use Rattle.fields.specs.Answer.{told16, toldStep, toldName}
+use mathlib.Core.Path.{sym, ap, _∙_}
+use Rattle.fields.specs.Answer.{told16}
 use borrow.Author.Tests.{not-true, not-false}
 use Rattle.aco.proofs.Judging.{colour-short, colour-unknown, colour-known}
 use borrow.Author.Needs.{needs}
 use Rattle.aco.proofs.fields_at.Statement.{statement}
 use Rattle.aco.proofs.fields_at.Tie as tie
-use Rattle.aco.proofs.fields_at.Reads as reads
-use Rattle.aco.proofs.fields_at.Lts as lts
-use Rattle.aco.proofs.samples_at.Reads as samples-at-reads
-use Rattle.colour.proofs.is_known.Reads as is-known-reads
-use Rattle.fields.proofs.u16_at.Reads as u16-at-reads
 
--- src/lib.rt:73:37
 u16-at-requires : tie.Need-u16-at-requires
 u16-at-requires c κs = search needs
 
--- src/lib.rt:73:22
 enum-known-space : tie.Need-enum-known-space
 enum-known-space c = search needs
 
--- src/lib.rt:74:9
 enum-told : tie.Need-enum-told
 enum-told c = search needs
 
--- src/lib.rt:74:9
 returns : tie.Need-returns
 returns c =
     let call = c .before .before in
     let a = call .before .before .args in
     sym (colour-short (a .file .now) (a .at) (sym (ap (told16 (a .at)) (c .enum-told .given .1)) ∙ call .u16-at .ensures))
 
--- src/lib.rt:76:9
 is-known-requires : tie.Need-is-known-requires
 is-known-requires c κs = search needs
 
--- src/lib.rt:77:9
 returns-2 : tie.Need-returns-2
 returns-2 c =
     let v = c .before .before .before in
@@ -43,11 +32,9 @@ returns-2 c =
     let e = sym (ap (told16 (a .at)) (v .space .given .1)) ∙ call .u16-at .ensures in
     sym (colour-unknown (a .file .now) (a .at) _ _ e (sym (c .before .is-known .ensures) ∙ not-true _ (c .if1 .taken)))
 
--- src/lib.rt:79:5
 samples-at-requires : tie.Need-samples-at-requires
 samples-at-requires c κs = search needs
 
--- src/lib.rt:70:1
 returns-3 : tie.Need-returns-3
 returns-3 c =
     let v = c .before .before .before .before in

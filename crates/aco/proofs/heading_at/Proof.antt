@@ -1,52 +1,37 @@
-use mathlib.Core.Path.{_≡_, refl, sym, ap, _∙_}
-use Rattle.fields.specs.Answer.{told16, toldStep, toldName}
-use Rattle.fields.specs.Reader.{then, judged, done, field}
-use Rattle.aco.specs.Raw.{headed}
+use mathlib.Core.Path.{sym, ap, _∙_}
+use Rattle.fields.specs.Answer.{told16, toldStep}
 use Rattle.aco.proofs.Judging.{headed-refused, headed-is}
 use borrow.Author.Needs.{needs}
 use Rattle.aco.proofs.heading_at.Statement.{statement}
 use Rattle.aco.proofs.heading_at.Tie as tie
-use Rattle.aco.proofs.heading_at.Reads as reads
-use Rattle.aco.proofs.heading_at.Lts as lts
-use Rattle.fields.proofs.u16_at.Reads as u16-at-reads
-use Rattle.fields.proofs.u16_is.Reads as u16-is-reads
 
--- src/lib.rt:143:11
 u16-is-requires : tie.Need-u16-is-requires
 u16-is-requires c κs = search needs
 
--- src/lib.rt:144:23
 enum-known-x : tie.Need-enum-known-x
 enum-known-x c = search needs
 
--- src/lib.rt:145:20
 enum-known-b : tie.Need-enum-known-b
 enum-known-b c = search needs
 
--- src/lib.rt:145:32
 u16-at-requires : tie.Need-u16-at-requires
 u16-at-requires c κs = search needs
 
--- src/lib.rt:146:26
 enum-known-n : tie.Need-enum-known-n
 enum-known-n c = search needs
 
--- src/lib.rt:147:32
 enum-told : tie.Need-enum-told
 enum-told c = search needs
 
--- src/lib.rt:140:1
 returns : tie.Need-returns
 returns c = sym (headed-refused _ _ _ (sym (c .before .before .before .u16-is .ensures) ∙ ap toldStep (c .before .x .given .1)))
 
--- src/lib.rt:140:1
 returns-2 : tie.Need-returns-2
 returns-2 c =
     let u = c .before .before .before in
     let v = u .before .before in
     sym (ap (told16 _) (c .before .n .given .1)) ∙ u .u16-at .ensures ∙ sym (headed-is _ _ _ (sym (v .before .before .u16-is .ensures) ∙ ap toldStep (v .b .given .1)))
 
--- src/lib.rt:140:1
 returns-3 : tie.Need-returns-3
 returns-3 c =
     let u = c .before .before in

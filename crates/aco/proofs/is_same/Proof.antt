@@ -1,5 +1,5 @@
-use Prim.Native.Nat.{ℕ, _+_, _-_, _*_, _≤_, _<_}
-use mathlib.Core.Path.{_≡_, refl, sym, ap, _∙_}
+use Prim.Native.Nat.{_+_, _-_}
+use mathlib.Core.Path.{sym, ap, _∙_}
 use mathlib.Core.Bool.{true≢false}
 use native.Mathlib.Omega.{arith}
 use native.Mathlib.Nat.{add-zero}
@@ -9,72 +9,52 @@ use Rattle.fields.proofs.Places.{load-part, ten-same}
 use borrow.Author.Needs.{needs}
 use Rattle.aco.proofs.is_same.Statement.{statement}
 use Rattle.aco.proofs.is_same.Tie as tie
-use Rattle.aco.proofs.is_same.Reads as reads
-use Rattle.aco.proofs.is_same.Lts as lts
-use Rattle.fields.proofs.u16_or_zero.Reads as u16-or-zero-reads
-use Rattle.fields.proofs.u64_or_zero.Reads as u64-or-zero-reads
 
--- src/lib.rt:141:8
 sub-if1 : tie.Need-sub-if1
 sub-if1 c = search needs
 
--- src/lib.rt:142:9
 returns : tie.Need-returns
 returns c = λ e. absurd (true≢false (sym e))
 
--- src/lib.rt:144:15
 add-end : tie.Need-add-end
 add-end c = search needs
 
--- src/lib.rt:145:16
 add-last : tie.Need-add-last
 add-last c = search needs
 
--- src/lib.rt:146:13
 sub-a : tie.Need-sub-a
 sub-a c = search needs
 
--- src/lib.rt:146:13
 part-a-start : tie.Need-part-a-start
 part-a-start c = search needs
 
--- src/lib.rt:146:13
 part-a-end : tie.Need-part-a-end
 part-a-end c = search needs
 
--- src/lib.rt:147:13
 sub-b : tie.Need-sub-b
 sub-b c = search needs
 
--- src/lib.rt:147:13
 part-b-start : tie.Need-part-b-start
 part-b-start c = search needs
 
--- src/lib.rt:147:13
 part-b-end : tie.Need-part-b-end
 part-b-end c = search needs
 
--- src/lib.rt:148:8
 u64-or-zero-requires : tie.Need-u64-or-zero-requires
 u64-or-zero-requires c κs = search needs
 
--- src/lib.rt:148:37
 u64-or-zero-requires-2 : tie.Need-u64-or-zero-requires-2
 u64-or-zero-requires-2 c κs = search needs
 
--- src/lib.rt:149:9
 returns-2 : tie.Need-returns-2
 returns-2 c = λ e. absurd (true≢false (sym e))
 
--- src/lib.rt:151:5
 u16-or-zero-requires : tie.Need-u16-or-zero-requires
 u16-or-zero-requires c κs = search needs
 
--- src/lib.rt:151:34
 u16-or-zero-requires-2 : tie.Need-u16-or-zero-requires-2
 u16-or-zero-requires-2 c κs = search needs
 
--- src/lib.rt:136:1
 returns-3 : tie.Need-returns-3
 returns-3 c =
     let w = c .before .before .before .before in

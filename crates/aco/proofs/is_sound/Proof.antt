@@ -1,5 +1,5 @@
-use Prim.Native.Nat.{ℕ, _+_, _-_, _*_, _≤_, _<_}
-use mathlib.Core.Path.{_≡_, refl, sym, ap, _∙_}
+use Prim.Native.Nat.{_+_, _-_}
+use mathlib.Core.Path.{sym, ap, _∙_}
 use mathlib.Core.Bool.{true≢false}
 use native.Mathlib.Omega.{arith}
 use native.Mathlib.Nat.{add-zero}
@@ -9,60 +9,43 @@ use Rattle.aco.proofs.Judging.{colour-sound}
 use borrow.Author.Needs.{needs}
 use Rattle.aco.proofs.is_sound.Statement.{statement}
 use Rattle.aco.proofs.is_sound.Tie as tie
-use Rattle.aco.proofs.is_sound.Reads as reads
-use Rattle.aco.proofs.is_sound.Lts as lts
-use Rattle.colour.proofs.is_sound.Reads as is-sound-reads
-use Rattle.fields.proofs.u16_or_zero.Reads as u16-or-zero-reads
 
--- src/lib.rt:89:8
 sub-if1 : tie.Need-sub-if1
 sub-if1 c = search needs
 
--- src/lib.rt:90:9
 returns : tie.Need-returns
 returns c = λ e. absurd (true≢false (sym e))
 
--- src/lib.rt:92:15
 add-end : tie.Need-add-end
 add-end c = search needs
 
--- src/lib.rt:93:16
 sub-part : tie.Need-sub-part
 sub-part c = search needs
 
--- src/lib.rt:93:16
 part-part-start : tie.Need-part-part-start
 part-part-start c = search needs
 
--- src/lib.rt:93:16
 part-part-end : tie.Need-part-part-end
 part-part-end c = search needs
 
--- src/lib.rt:94:9
 u16-or-zero-requires : tie.Need-u16-or-zero-requires
 u16-or-zero-requires c κs = search needs
 
--- src/lib.rt:95:9
 u16-or-zero-requires-2 : tie.Need-u16-or-zero-requires-2
 u16-or-zero-requires-2 c κs = search needs
 
--- src/lib.rt:96:9
 u16-or-zero-requires-3 : tie.Need-u16-or-zero-requires-3
 u16-or-zero-requires-3 c κs = search needs
 
--- src/lib.rt:97:9
 u16-or-zero-requires-4 : tie.Need-u16-or-zero-requires-4
 u16-or-zero-requires-4 c κs = search needs
 
--- src/lib.rt:98:9
 u16-or-zero-requires-5 : tie.Need-u16-or-zero-requires-5
 u16-or-zero-requires-5 c κs = search needs
 
--- src/lib.rt:99:5
 is-sound-requires : tie.Need-is-sound-requires
 is-sound-requires c κs = search needs
 
--- src/lib.rt:85:1
 returns-2 : tie.Need-returns-2
 returns-2 c =
     let u = c .before .before .before .before .before in

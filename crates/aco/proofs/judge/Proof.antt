@@ -1,33 +1,24 @@
-use mathlib.Core.Path.{_≡_, refl, sym, ap, _∙_}
+use mathlib.Core.Path.{sym, ap, _∙_}
 use native.Mathlib.Omega.{arith}
-use Rattle.aco.specs.Answer.{told, toldHeading, toldWalk, verdict}
+use Rattle.aco.specs.Answer.{toldHeading, verdict}
 use Rattle.aco.proofs.Judging.{heading-is, aco-long, aco-heading, aco-count, aco-lists}
 use Rattle.fields.specs.Reader.{fine}
 use borrow.Author.Needs.{needs}
 use Rattle.aco.proofs.judge.Statement.{statement}
 use Rattle.aco.proofs.judge.Tie as tie
-use Rattle.aco.proofs.judge.Reads as reads
-use Rattle.aco.proofs.judge.Lts as lts
-use Rattle.aco.proofs.heading_at.Reads as heading-at-reads
-use Rattle.aco.proofs.lists_at.Reads as lists-at-reads
 
--- src/lib.rt:218:9
 returns : tie.Need-returns
 returns c = sym (ap verdict (aco-long (c .before .before .args .file .now) (c .if1 .taken)))
 
--- src/lib.rt:223:11
 heading-at-requires : tie.Need-heading-at-requires
 heading-at-requires c κs = search needs
 
--- src/lib.rt:224:26
 enum-known-x : tie.Need-enum-known-x
 enum-known-x c = search needs
 
--- src/lib.rt:228:21
 enum-known-n : tie.Need-enum-known-n
 enum-known-n c = search needs
 
--- src/lib.rt:230:17
 returns-2 : tie.Need-returns-2
 returns-2 c =
     let v = c .before .before in
@@ -36,7 +27,6 @@ returns-2 c =
     let e = sym (call .heading-at .ensures) ∙ ap toldHeading (v .n .given .1) in
     sym (ap verdict (aco-count (a .file .now) (call .before .if1 .left) e (c .if2 .taken)))
 
--- src/lib.rt:235:13
 lists-at-requires : tie.Need-lists-at-requires
 lists-at-requires c κs =
     let v = c .before .before in
@@ -45,7 +35,6 @@ lists-at-requires c κs =
     let e = sym (call .heading-at .ensures) ∙ ap toldHeading (v .n .given .1) in
     let i = heading-is 1 (a .file .now) 0 (λ n. fine) e in omega (arith, i .1, i .2)
 
--- src/lib.rt:214:1
 returns-3 : tie.Need-returns-3
 returns-3 c =
     let x = c .before in
@@ -53,7 +42,6 @@ returns-3 c =
     let a = call .before .before .before .args in
     sym (ap verdict (aco-heading (a .file .now) (call .before .if1 .left) (sym (call .heading-at .ensures) ∙ ap toldHeading (x .x .given .1))))
 
--- src/lib.rt:214:1
 returns-4 : tie.Need-returns-4
 returns-4 c =
     let v = c .before .before .before in

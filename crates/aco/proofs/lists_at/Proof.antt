@@ -1,29 +1,21 @@
-use mathlib.Core.Path.{_≡_, refl, sym, ap, _∙_}
+use mathlib.Core.Path.{sym, ap, _∙_}
 use native.Mathlib.Omega.{arith}
 use Rattle.fields.specs.Answer.{toldStep}
-use Rattle.aco.specs.Answer.{told, toldHeading, toldWalk, verdict}
+use Rattle.aco.specs.Answer.{toldWalk}
 use Rattle.aco.proofs.Judging.{colours-refused, colours-end, colours-within, lists-one, lists-two, lists-refused}
 use borrow.Author.Needs.{needs}
 use Rattle.aco.proofs.lists_at.Statement.{statement}
 use Rattle.aco.proofs.lists_at.Tie as tie
-use Rattle.aco.proofs.lists_at.Reads as reads
-use Rattle.aco.proofs.lists_at.Lts as lts
-use Rattle.aco.proofs.colours_at.Reads as colours-at-reads
-use Rattle.aco.proofs.second_at.Reads as second-at-reads
 
--- src/lib.rt:182:11
 colours-at-requires : tie.Need-colours-at-requires
 colours-at-requires c κs = search needs
 
--- src/lib.rt:183:23
 enum-known-x : tie.Need-enum-known-x
 enum-known-x c = search needs
 
--- src/lib.rt:187:20
 enum-known-end : tie.Need-enum-known-end
 enum-known-end c = search needs
 
--- src/lib.rt:189:17
 returns : tie.Need-returns
 returns c =
     let v = c .before .before in
@@ -32,7 +24,6 @@ returns c =
     let e = sym (call .colours-at .ensures) ∙ ap toldStep (v .end .given .1) in
     sym (lists-one (a .file .now) (a .n) _ e (c .if1 .taken))
 
--- src/lib.rt:194:19
 second-at-requires : tie.Need-second-at-requires
 second-at-requires c κs =
     let v = c .before .before in
@@ -41,19 +32,15 @@ second-at-requires c κs =
     let e = sym (call .colours-at .ensures) ∙ ap toldStep (v .end .given .1) in
     (omega (arith, colours-end (a .file .now) (a .n) _ e), colours-within (a .file .now) (a .n) _ e (call .before .before .pre))
 
--- src/lib.rt:196:30
 enum-told : tie.Need-enum-told
 enum-told c = search needs
 
--- src/lib.rt:199:31
 enum-known-x-2 : tie.Need-enum-known-x-2
 enum-known-x-2 c = search needs
 
--- src/lib.rt:203:30
 enum-known-q : tie.Need-enum-known-q
 enum-known-q c = search needs
 
--- src/lib.rt:178:1
 returns-2 : tie.Need-returns-2
 returns-2 c =
     let x = c .before in
@@ -61,7 +48,6 @@ returns-2 c =
     let a = call .before .before .args in
     sym (colours-refused (a .file .now) (a .n) (sym (call .colours-at .ensures) ∙ ap toldStep (x .x .given .1)))
 
--- src/lib.rt:178:1
 returns-3 : tie.Need-returns-3
 returns-3 c =
     let w = c .before .before in
@@ -71,7 +57,6 @@ returns-3 c =
     let e = sym (call .colours-at .ensures) ∙ ap toldStep (v .end .given .1) in
     sym (lists-two (a .file .now) (a .n) _ e (w .before .if1 .left) (sym (w .second-at .ensures) ∙ ap toldWalk (c .enum-told .given .1)))
 
--- src/lib.rt:178:1
 returns-4 : tie.Need-returns-4
 returns-4 c =
     let x = c .before in
@@ -82,7 +67,6 @@ returns-4 c =
     let e = sym (call .colours-at .ensures) ∙ ap toldStep (v .end .given .1) in
     sym (lists-refused (a .file .now) (a .n) _ e (w .before .if1 .left) (sym (w .second-at .ensures) ∙ ap toldWalk (x .x2 .given .1)))
 
--- src/lib.rt:178:1
 returns-5 : tie.Need-returns-5
 returns-5 c =
     let x = c .before in

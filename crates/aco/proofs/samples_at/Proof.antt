@@ -2,17 +2,13 @@ use borrow.Author.Tests.{not-true, not-false}
 use mathlib.Core.Path.{_≡_, refl, sym, ap, _∙_}
 use native.Mathlib.Omega.{arith}
 use borrow.Author.Needs.{needs}
-use Prim.Native.Nat.{ℕ, _+_, _-_, _*_, _≤_, _<_}
-use Rattle.fields.specs.Answer.{told16, toldStep, toldName}
+use Prim.Native.Nat.{_-_, _≤_}
+use Rattle.fields.specs.Answer.{told16}
 use Rattle.fields.specs.Reader.{done, each, judged}
 use Rattle.aco.specs.Reading.{samples, sample}
 use Rattle.fields.proofs.Laws.{turn-ok, turn-no, turn-end, judged-short, judged-bad, judged-ok}
 use Rattle.aco.proofs.samples_at.Statement.{statement}
 use Rattle.aco.proofs.samples_at.Tie as tie
-use Rattle.aco.proofs.samples_at.Reads as reads
-use Rattle.aco.proofs.samples_at.Lts as lts
-use Rattle.colour.proofs.is_allowed.Reads as is-allowed-reads
-use Rattle.fields.proofs.u16_at.Reads as u16-at-reads
 
 abbrev Inv-loop : tie.InvT-loop
 Inv-loop file at space k₀ p₀ k p = (k ≤ 4) × (done (samples space file at) ≡ done (each (4 - k) k (λ j. judged 2 (sample space j)) file p))
@@ -20,24 +16,19 @@ Inv-loop file at space k₀ p₀ k p = (k ≤ 4) × (done (samples space file at
 abbrev μ-loop : tie.MeasureT-loop
 μ-loop file at space k₀ p₀ k p = 4 - k
 
--- src/lib.rt:56:5
 loop-holds : tie.Need-loop-holds Inv-loop μ-loop
 unfolding samples
 loop-holds c = (omega arith, refl)
 
--- src/lib.rt:57:37
 u16-at-requires : tie.Need-u16-at-requires Inv-loop μ-loop
 u16-at-requires c κs = search needs
 
--- src/lib.rt:57:26
 enum-known-v : tie.Need-enum-known-v Inv-loop μ-loop
 enum-known-v c = search needs
 
--- src/lib.rt:58:13
 enum-told : tie.Need-enum-told Inv-loop μ-loop
 enum-told c = search needs
 
--- src/lib.rt:58:13
 returns : tie.Need-returns Inv-loop μ-loop
 unfolding samples
 returns c =
@@ -47,11 +38,9 @@ returns c =
     sym (turn-no (λ j. judged 2 (sample (a .space) j)) (a .file .now) _ 4 (l .k) (l .p) (l .inv .1) (call .before .loop-test .taken)
     (ap done (judged-short 2 _ _ (sample (a .space) (l .k)) (sym (ap (told16 (l .p)) (c .enum-told .given .1)) ∙ call .u16-at .ensures))))
 
--- src/lib.rt:60:13
 is-allowed-requires : tie.Need-is-allowed-requires Inv-loop μ-loop
 is-allowed-requires c κs = search needs
 
--- src/lib.rt:61:13
 returns-2 : tie.Need-returns-2 Inv-loop μ-loop
 unfolding samples
 returns-2 c =
@@ -62,15 +51,12 @@ returns-2 c =
     sym (turn-no (λ j. judged 2 (sample (a .space) j)) (a .file .now) _ 4 (l .k) (l .p) (l .inv .1) (call .before .loop-test .taken)
     (ap done (judged-bad 2 _ _ (sample (a .space) (l .k)) 5 0 0 (sym (ap (told16 (l .p)) (v .v .given .1)) ∙ call .u16-at .ensures) (rw (sym (c .before .is-allowed .ensures) ∙ not-true _ (c .if1 .taken))))))
 
--- src/lib.rt:64:9
 add-k : tie.Need-add-k Inv-loop μ-loop
 add-k c = search needs
 
--- src/lib.rt:56:5
 loop-less : tie.Need-loop-less Inv-loop μ-loop
 loop-less c = search needs
 
--- src/lib.rt:56:5
 loop-again : tie.Need-loop-again Inv-loop μ-loop
 unfolding samples
 loop-again c =
@@ -83,7 +69,6 @@ loop-again c =
           (ap done (judged-ok 2 _ _ (sample (a .space) (l .k)) (sym (ap (told16 (l .p)) (v .v .given .1)) ∙ call .u16-at .ensures) (rw (sym (c .before .is-allowed .ensures) ∙ not-false _ (c .if1 .left))))),
     )
 
--- src/lib.rt:51:1
 returns-3 : tie.Need-returns-3 Inv-loop μ-loop
 unfolding samples
 returns-3 c =

@@ -1,33 +1,23 @@
-use mathlib.Core.Path.{_≡_, refl, sym, ap, _∙_}
-use Rattle.fields.specs.Answer.{told16, toldStep, toldName}
+use mathlib.Core.Path.{sym, ap, _∙_}
 use Rattle.aco.specs.Answer.{toldHeading, toldWalk}
 use borrow.Author.Tests.{eq-eqb, ne-eqb}
 use Rattle.aco.proofs.Judging.{second-refused, second-differs, second-from}
 use borrow.Author.Needs.{needs}
 use Rattle.aco.proofs.second_at.Statement.{statement}
 use Rattle.aco.proofs.second_at.Tie as tie
-use Rattle.aco.proofs.second_at.Reads as reads
-use Rattle.aco.proofs.second_at.Lts as lts
-use Rattle.aco.proofs.entries_at.Reads as entries-at-reads
-use Rattle.aco.proofs.heading_at.Reads as heading-at-reads
 
--- src/lib.rt:157:11
 heading-at-requires : tie.Need-heading-at-requires
 heading-at-requires c κs = search needs
 
--- src/lib.rt:158:26
 enum-known-x : tie.Need-enum-known-x
 enum-known-x c = search needs
 
--- src/lib.rt:159:21
 enum-known-m : tie.Need-enum-known-m
 enum-known-m c = search needs
 
--- src/lib.rt:161:37
 add-t17 : tie.Need-add-t17
 add-t17 c = search needs
 
--- src/lib.rt:161:17
 returns : tie.Need-returns
 returns c =
     let v = c .before .before in
@@ -36,15 +26,12 @@ returns c =
     let e = sym (call .heading-at .ensures) ∙ ap toldHeading (v .m .given .1) in
     sym (second-differs (a .file .now) (a .at) (a .n) _ _ e (c .if1 .taken))
 
--- src/lib.rt:163:19
 entries-at-requires : tie.Need-entries-at-requires
 entries-at-requires c κs = search needs
 
--- src/lib.rt:164:28
 enum-known-end : tie.Need-enum-known-end
 enum-known-end c = search needs
 
--- src/lib.rt:166:25
 returns-2 : tie.Need-returns-2
 returns-2 c =
     let x = c .before .before in
@@ -56,22 +43,18 @@ returns-2 c =
     let k = sym (ap toldWalk (x .end .given .1)) ∙ w .entries-at .ensures in
     sym (second-from (a .file .now) (a .at) (a .n) _ _ e (w .before .if1 .left) _ k ∙ simp (eq-eqb _ _ (c .if2 .taken)))
 
--- src/lib.rt:170:31
 enum-known-x-2 : tie.Need-enum-known-x-2
 enum-known-x-2 c = search needs
 
--- src/lib.rt:171:30
 enum-known-q : tie.Need-enum-known-q
 enum-known-q c = search needs
 
--- src/lib.rt:153:1
 returns-3 : tie.Need-returns-3
 returns-3 c =
     let x = c .before in
     let call = x .before .before in
     sym (second-refused _ _ _ (sym (call .heading-at .ensures) ∙ ap toldHeading (x .x .given .1)))
 
--- src/lib.rt:153:1
 returns-4 : tie.Need-returns-4
 returns-4 c =
     let x = c .before .before in
@@ -83,7 +66,6 @@ returns-4 c =
     let k = sym (ap toldWalk (x .end .given .1)) ∙ w .entries-at .ensures in
     sym (second-from (a .file .now) (a .at) (a .n) _ _ e (w .before .if1 .left) _ k ∙ simp (ne-eqb _ _ (c .if2 .left)))
 
--- src/lib.rt:153:1
 returns-5 : tie.Need-returns-5
 returns-5 c =
     let x = c .before in
@@ -95,7 +77,6 @@ returns-5 c =
     let k = sym (ap toldWalk (x .x2 .given .1)) ∙ w .entries-at .ensures in
     sym (second-from (a .file .now) (a .at) (a .n) _ _ e (w .before .if1 .left) _ k)
 
--- src/lib.rt:153:1
 returns-6 : tie.Need-returns-6
 returns-6 c =
     let x = c .before in

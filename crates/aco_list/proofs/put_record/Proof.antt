@@ -1,16 +1,10 @@
 use borrow.Author.Needs.{needs}
-use Prim.Native.Nat.{ℕ, _+_, _-_, _*_, _≤_, _<_}
+use Prim.Native.Nat.{_-_, _≤_}
 use lib.ListN.{length}
-use mathlib.Core.Path.{_≡_, refl, sym, ap, _∙_}
+use mathlib.Core.Path.{_≡_}
 use native.Mathlib.Omega.{arith}
 use Rattle.aco_list.proofs.put_record.Statement.{statement}
 use Rattle.aco_list.proofs.put_record.Tie as tie
-use Rattle.aco_list.proofs.put_record.Reads as reads
-use Rattle.aco_list.proofs.put_record.Lts as lts
-use Rattle.aco_list.proofs.put.Reads as put-reads
-use Rattle.aco_list.proofs.put_name.Reads as put-name-reads
-use Rattle.aco_list.proofs.put_number.Reads as put-number-reads
-use Rattle.aco_list.proofs.units_of.Reads as units-of-reads
 
 abbrev Inv-loop : tie.InvT-loop
 Inv-loop out₀ n file row i at₀ k₀ out at k = (k ≤ 5) × (length out ≡ length out₀)
@@ -18,79 +12,60 @@ Inv-loop out₀ n file row i at₀ k₀ out at k = (k ≤ 5) × (length out ≡ 
 abbrev μ-loop : tie.MeasureT-loop
 μ-loop out₀ n file row i at₀ k₀ out at k = 5 - k
 
--- src/main.rt:80:9
 returns : tie.Need-returns Inv-loop μ-loop
 returns c = search needs
 
--- src/main.rt:82:9
 put-number-requires : tie.Need-put-number-requires Inv-loop μ-loop
 put-number-requires c κs = search needs
 
--- src/main.rt:84:5
 loop-holds : tie.Need-loop-holds Inv-loop μ-loop
 loop-holds c = search needs
 
--- src/main.rt:85:9
 put-requires : tie.Need-put-requires Inv-loop μ-loop
 put-requires c κs = search needs
 
--- src/main.rt:86:34
 mul-put-number : tie.Need-mul-put-number Inv-loop μ-loop
 mul-put-number c = search needs
 
--- src/main.rt:86:34
 shared-slice-read-put-number : tie.Need-shared-slice-read-put-number Inv-loop μ-loop
 shared-slice-read-put-number c = search needs
 
--- src/main.rt:86:34
 cast-put-number : tie.Need-cast-put-number Inv-loop μ-loop
 cast-put-number c = omega (arith, c .shared-slice-known3 .given (c .before .before .before .before .before .before .before .loop .k))
 
--- src/main.rt:86:9
 put-number-requires-2 : tie.Need-put-number-requires-2 Inv-loop μ-loop
 put-number-requires-2 c κs = search needs
 
--- src/main.rt:87:9
 add-k : tie.Need-add-k Inv-loop μ-loop
 add-k c = search needs
 
--- src/main.rt:84:5
 loop-less : tie.Need-loop-less Inv-loop μ-loop
 loop-less c = search needs
 
--- src/main.rt:84:5
 loop-again : tie.Need-loop-again Inv-loop μ-loop
 loop-again c = search needs
 
--- src/main.rt:89:5
 put-requires-2 : tie.Need-put-requires-2 Inv-loop μ-loop
 put-requires-2 c κs = search needs
 
--- src/main.rt:90:43
 shared-slice-read-units-of : tie.Need-shared-slice-read-units-of Inv-loop μ-loop
 shared-slice-read-units-of c = search needs
 
--- src/main.rt:90:51
 shared-slice-read-units-of-2 : tie.Need-shared-slice-read-units-of-2 Inv-loop μ-loop
 shared-slice-read-units-of-2 c = search needs
 
--- src/main.rt:90:28
 units-of-requires : tie.Need-units-of-requires Inv-loop μ-loop
 units-of-requires c κs = search needs
 
--- src/main.rt:90:5
 put-name-requires : tie.Need-put-name-requires Inv-loop μ-loop
 put-name-requires c κs = search needs
 
--- src/main.rt:91:5
 put-requires-3 : tie.Need-put-requires-3 Inv-loop μ-loop
 put-requires-3 c κs = search needs
 
--- src/main.rt:78:1
 same-length : tie.Need-same-length Inv-loop μ-loop
 same-length c = search needs
 
--- src/main.rt:78:1
 returns-2 : tie.Need-returns-2 Inv-loop μ-loop
 returns-2 c = search needs
 

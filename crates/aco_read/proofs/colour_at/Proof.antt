@@ -1,5 +1,5 @@
-use Prim.Native.Nat.{ℕ, _+_, _-_, _*_, _≤_, _<_}
-use mathlib.Core.Path.{_≡_, refl, sym, ap, _∙_}
+use Prim.Native.Nat.{_+_, _-_}
+use mathlib.Core.Path.{ap, _∙_}
 use native.Mathlib.Omega.{arith}
 use native.Mathlib.Nat.{add-zero}
 use Rattle.fields.specs.Numbers.{num}
@@ -8,47 +8,34 @@ use Rattle.aco_read.proofs.Filling.{five}
 use borrow.Author.Needs.{needs}
 use Rattle.aco_read.proofs.colour_at.Statement.{statement}
 use Rattle.aco_read.proofs.colour_at.Tie as tie
-use Rattle.aco_read.proofs.colour_at.Reads as reads
-use Rattle.aco_read.proofs.colour_at.Lts as lts
-use Rattle.fields.proofs.u16_or_zero.Reads as u16-or-zero-reads
 
--- src/lib.rt:49:15
 add-end : tie.Need-add-end
 add-end c = search needs
 
--- src/lib.rt:50:16
 sub-part : tie.Need-sub-part
 sub-part c = search needs
 
--- src/lib.rt:50:16
 part-part-start : tie.Need-part-part-start
 part-part-start c = search needs
 
--- src/lib.rt:50:16
 part-part-end : tie.Need-part-part-end
 part-part-end c = search needs
 
--- src/lib.rt:51:9
 u16-or-zero-requires : tie.Need-u16-or-zero-requires
 u16-or-zero-requires c κs = search needs
 
--- src/lib.rt:52:9
 u16-or-zero-requires-2 : tie.Need-u16-or-zero-requires-2
 u16-or-zero-requires-2 c κs = search needs
 
--- src/lib.rt:53:9
 u16-or-zero-requires-3 : tie.Need-u16-or-zero-requires-3
 u16-or-zero-requires-3 c κs = search needs
 
--- src/lib.rt:54:9
 u16-or-zero-requires-4 : tie.Need-u16-or-zero-requires-4
 u16-or-zero-requires-4 c κs = search needs
 
--- src/lib.rt:55:9
 u16-or-zero-requires-5 : tie.Need-u16-or-zero-requires-5
 u16-or-zero-requires-5 c κs = search needs
 
--- src/lib.rt:45:1
 returns : tie.Need-returns
 returns c =
     let u = c .before .before .before .before in

@@ -1,16 +1,13 @@
 use mathlib.Core.Path.{_≡_, refl, sym, ap, _∙_}
 use native.Mathlib.Omega.{arith}
 use borrow.Author.Needs.{needs}
-use Prim.Native.Nat.{ℕ, _+_, _-_, _*_, _≤_, _<_}
+use Prim.Native.Nat.{_+_, _-_, _≤_}
 use Rattle.fields.specs.Reader.{limit}
 use lib.ListN.{length}
 use Rattle.aco.specs.Places.{entryPlace}
 use Rattle.aco_read.proofs.Filling.{count-small, entry-first, Counted, counted-in, counted}
 use Rattle.aco_read.proofs.entry_place.Statement.{statement}
 use Rattle.aco_read.proofs.entry_place.Tie as tie
-use Rattle.aco_read.proofs.entry_place.Reads as reads
-use Rattle.aco_read.proofs.entry_place.Lts as lts
-use Rattle.fields.proofs.u32_or_zero.Reads as u32-or-zero-reads
 
 abbrev Inv-loop : tie.InvT-loop
 Inv-loop file n i k₀ place₀ k place = (k ≤ i) × (place ≡ entryPlace file n k)
@@ -31,55 +28,42 @@ loaded u =
     let st = c .before .before .before in
     counted (st .args .file .now) 2 (st .args .n) (st .pre .0) refl (c .before .loop .k) (omega (arith, c .loop-test .taken, st .pre .1)) (c .before .loop .place) (c .before .loop .inv .1) _ (u .u32-or-zero .ensures)
 
--- src/lib.rt:133:21
 mul-place : tie.Need-mul-place Inv-loop μ-loop
 mul-place c = let st = c .before in let few = count-small (st .args .file .now) 2 (st .args .n) (st .pre .0) in omega arith
 
--- src/lib.rt:133:17
 add-place : tie.Need-add-place Inv-loop μ-loop
 add-place c = let st = c .before in let few = count-small (st .args .file .now) 2 (st .args .n) (st .pre .0) in omega arith
 
--- src/lib.rt:134:5
 loop-holds : tie.Need-loop-holds Inv-loop μ-loop
 loop-holds c = (omega arith, sym (entry-first _ _))
 
--- src/lib.rt:135:47
 add-u32-or-zero : tie.Need-add-u32-or-zero Inv-loop μ-loop
 add-u32-or-zero c = omega (arith, here c)
 
--- src/lib.rt:135:13
 u32-or-zero-requires : tie.Need-u32-or-zero-requires Inv-loop μ-loop
 u32-or-zero-requires c κs = search needs
 
--- src/lib.rt:136:24
 cast-place : tie.Need-cast-place Inv-loop μ-loop
 cast-place c = omega (arith, loaded c)
 
--- src/lib.rt:136:19
 mul-place-2 : tie.Need-mul-place-2 Inv-loop μ-loop
 mul-place-2 c = omega (arith, loaded c)
 
--- src/lib.rt:136:14
 add-place-2 : tie.Need-add-place-2 Inv-loop μ-loop
 add-place-2 c = omega (arith, loaded c)
 
--- src/lib.rt:136:9
 add-place-3 : tie.Need-add-place-3 Inv-loop μ-loop
 add-place-3 c = omega (arith, loaded c)
 
--- src/lib.rt:137:9
 add-k : tie.Need-add-k Inv-loop μ-loop
 add-k c = search needs
 
--- src/lib.rt:134:5
 loop-less : tie.Need-loop-less Inv-loop μ-loop
 loop-less c = search needs
 
--- src/lib.rt:134:5
 loop-again : tie.Need-loop-again Inv-loop μ-loop
 loop-again c = let k = loaded c in (omega arith, omega (arith, k .next))
 
--- src/lib.rt:128:1
 returns : tie.Need-returns Inv-loop μ-loop
 returns c = let l = c .before .loop in let e : l .k ≡ c .before .before .before .args .i = omega arith in l .inv .1 ∙ ap (entryPlace _ _) e
 

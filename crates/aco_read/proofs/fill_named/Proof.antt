@@ -1,23 +1,17 @@
 use borrow.Author.Needs.{needs}
 use Rattle.fields.specs.Reader.{limit}
-use mathlib.Core.Path.{_≡_, refl, sym, ap, ap₂, _∙_}
+use mathlib.Core.Path.{_≡_, refl, sym, _∙_}
 use native.Mathlib.Omega.{arith}
-use Prim.Native.Nat.{ℕ, _+_, _-_, _*_, _≤_, _<_}
+use Prim.Native.Nat.{_+_, _-_, _*_, _≤_}
 use lib.ListN.{length, drop}
 use lib.Seq.{sets}
-use Rattle.fields.specs.Numbers.{num, joined}
+use Rattle.fields.specs.Numbers.{joined}
 use Rattle.aco.specs.Reading.{aco, unnamed, black}
 use Rattle.aco.specs.Places.{entryPlace}
-use Rattle.aco.specs.Raw.{rawColour}
-use Rattle.colour.specs.declared.Colour.{Colour}
-use Rattle.aco_read.specs.Table.{row, numbers, recordsOf}
+use Rattle.aco_read.specs.Table.{row, recordsOf}
 use Rattle.aco_read.proofs.Filling.{named-colour, count-small, entry-first, length-records, Counted, counted-in, counted, fill-turn, fill-end}
 use Rattle.aco_read.proofs.fill_named.Statement.{statement}
 use Rattle.aco_read.proofs.fill_named.Tie as tie
-use Rattle.aco_read.proofs.fill_named.Reads as reads
-use Rattle.aco_read.proofs.fill_named.Lts as lts
-use Rattle.aco_read.proofs.put_row.Reads as put-row-reads
-use Rattle.fields.proofs.u32_or_zero.Reads as u32-or-zero-reads
 
 abbrev Inv-loop : tie.InvT-loop
 Inv-loop file n table₀ i₀ p₀ table i p = (i ≤ n) × (sets table₀ 0 (joined row (recordsOf (aco file))) ≡ sets table (7 * i) (joined row (drop i (recordsOf (aco file))))) × (length table ≡ length table₀) × (p ≡ entryPlace file n i)
@@ -38,82 +32,63 @@ loaded u =
     let st = c .before .before .before .before in
     counted (st .args .file .now) 2 (st .args .n) (st .pre .0) refl (c .before .loop .i) (c .loop-test .taken) (c .before .loop .p) (c .before .loop .inv .3) _ (u .u32-or-zero .ensures)
 
--- src/lib.rt:103:21
 mul-p : tie.Need-mul-p Inv-loop μ-loop
 mul-p c = let st = c .before .before in let few = count-small (st .args .file .now) 2 (st .args .n) (st .pre .0) in omega arith
 
--- src/lib.rt:103:17
 add-p : tie.Need-add-p Inv-loop μ-loop
 add-p c = let st = c .before .before in let few = count-small (st .args .file .now) 2 (st .args .n) (st .pre .0) in omega arith
 
--- src/lib.rt:104:5
 loop-holds : tie.Need-loop-holds Inv-loop μ-loop
 loop-holds c = (omega arith, refl, refl, sym (entry-first _ _))
 
--- src/lib.rt:105:47
 add-u32-or-zero : tie.Need-add-u32-or-zero Inv-loop μ-loop
 add-u32-or-zero c = omega (arith, here c)
 
--- src/lib.rt:105:13
 u32-or-zero-requires : tie.Need-u32-or-zero-requires Inv-loop μ-loop
 u32-or-zero-requires c κs = search needs
 
--- src/lib.rt:106:27
 mul-put-row : tie.Need-mul-put-row Inv-loop μ-loop
 mul-put-row c = search needs
 
--- src/lib.rt:106:23
 add-put-row : tie.Need-add-put-row Inv-loop μ-loop
 add-put-row c = search needs
 
--- src/lib.rt:106:42
 mul-put-row-2 : tie.Need-mul-put-row-2 Inv-loop μ-loop
 mul-put-row-2 c = search needs
 
--- src/lib.rt:106:54
 add-put-row-2 : tie.Need-add-put-row-2 Inv-loop μ-loop
 add-put-row-2 c = omega (arith, loaded (c .before))
 
--- src/lib.rt:106:53
 cast-put-row : tie.Need-cast-put-row Inv-loop μ-loop
 cast-put-row c = omega (arith, loaded (c .before))
 
--- src/lib.rt:106:70
 sub-put-row : tie.Need-sub-put-row Inv-loop μ-loop
 sub-put-row c = omega (arith, loaded (c .before))
 
--- src/lib.rt:106:9
 put-row-requires : tie.Need-put-row-requires Inv-loop μ-loop
 put-row-requires c κs =
     let tn = c .before .before in
     let st = tn .before .before .before .before in
     (named-colour (st .args .file .now) 2 (st .args .n) (st .pre .0) refl (tn .before .loop .i) (tn .loop-test .taken), omega (arith, tn .before .loop .inv .2, st .pre .1))
 
--- src/lib.rt:107:24
 cast-p : tie.Need-cast-p Inv-loop μ-loop
 cast-p c = omega (arith, loaded (c .before .before .before .before))
 
--- src/lib.rt:107:19
 mul-p-2 : tie.Need-mul-p-2 Inv-loop μ-loop
 mul-p-2 c = omega (arith, loaded (c .before .before .before .before))
 
--- src/lib.rt:107:14
 add-p-2 : tie.Need-add-p-2 Inv-loop μ-loop
 add-p-2 c = omega (arith, loaded (c .before .before .before .before))
 
--- src/lib.rt:107:9
 add-p-3 : tie.Need-add-p-3 Inv-loop μ-loop
 add-p-3 c = omega (arith, loaded (c .before .before .before .before))
 
--- src/lib.rt:108:9
 add-i : tie.Need-add-i Inv-loop μ-loop
 add-i c = search needs
 
--- src/lib.rt:104:5
 loop-less : tie.Need-loop-less Inv-loop μ-loop
 loop-less c = search needs
 
--- src/lib.rt:104:5
 loop-again : tie.Need-loop-again Inv-loop μ-loop
 loop-again c =
     let pr = c .before .before in
@@ -129,11 +104,9 @@ loop-again c =
       omega (arith, k .next),
     )
 
--- src/lib.rt:98:1
 same-length : tie.Need-same-length Inv-loop μ-loop
 same-length c = c .before .loop .inv .2
 
--- src/lib.rt:98:1
 returns : tie.Need-returns Inv-loop μ-loop
 returns c =
     let l = c .before .loop in

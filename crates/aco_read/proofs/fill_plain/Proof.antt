@@ -1,21 +1,15 @@
 use borrow.Author.Needs.{needs}
-use mathlib.Core.Path.{_≡_, refl, sym, ap, _∙_}
+use mathlib.Core.Path.{_≡_, refl, sym, _∙_}
 use native.Mathlib.Omega.{arith}
-use Prim.Native.Nat.{ℕ, _+_, _-_, _*_, _≤_, _<_}
+use Prim.Native.Nat.{_-_, _*_, _≤_}
 use lib.ListN.{length, drop}
 use lib.Seq.{sets}
-use Rattle.fields.specs.Numbers.{num, joined}
+use Rattle.fields.specs.Numbers.{joined}
 use Rattle.aco.specs.Reading.{aco, unnamed, black}
-use Rattle.aco.specs.Places.{entryPlace}
-use Rattle.aco.specs.Raw.{rawColour}
-use Rattle.colour.specs.declared.Colour.{Colour}
-use Rattle.aco_read.specs.Table.{row, numbers, recordsOf}
+use Rattle.aco_read.specs.Table.{row, recordsOf}
 use Rattle.aco_read.proofs.Filling.{plain-in, plain-row, length-records, fill-turn, fill-end}
 use Rattle.aco_read.proofs.fill_plain.Statement.{statement}
 use Rattle.aco_read.proofs.fill_plain.Tie as tie
-use Rattle.aco_read.proofs.fill_plain.Reads as reads
-use Rattle.aco_read.proofs.fill_plain.Lts as lts
-use Rattle.aco_read.proofs.put_row.Reads as put-row-reads
 
 abbrev Inv-loop : tie.InvT-loop
 Inv-loop file n table₀ i₀ table i = (i ≤ n) × (sets table₀ 0 (joined row (recordsOf (aco file))) ≡ sets table (7 * i) (joined row (drop i (recordsOf (aco file))))) × (length table ≡ length table₀)
@@ -23,23 +17,18 @@ Inv-loop file n table₀ i₀ table i = (i ≤ n) × (sets table₀ 0 (joined ro
 abbrev μ-loop : tie.MeasureT-loop
 μ-loop file n table₀ i₀ table i = n - i
 
--- src/lib.rt:90:5
 loop-holds : tie.Need-loop-holds Inv-loop μ-loop
 loop-holds c = (omega arith, refl, refl)
 
--- src/lib.rt:91:27
 mul-put-row : tie.Need-mul-put-row Inv-loop μ-loop
 mul-put-row c = search needs
 
--- src/lib.rt:91:23
 add-put-row : tie.Need-add-put-row Inv-loop μ-loop
 add-put-row c = search needs
 
--- src/lib.rt:91:42
 mul-put-row-2 : tie.Need-mul-put-row-2 Inv-loop μ-loop
 mul-put-row-2 c = search needs
 
--- src/lib.rt:91:9
 put-row-requires : tie.Need-put-row-requires Inv-loop μ-loop
 put-row-requires c κs =
     let tn = c .before in
@@ -47,15 +36,12 @@ put-row-requires c κs =
     let l = tn .before .loop in
     (plain-in (st .args .file .now) 1 (st .args .n) (st .pre .0) refl (l .i) (tn .loop-test .taken), omega arith)
 
--- src/lib.rt:92:9
 add-i : tie.Need-add-i Inv-loop μ-loop
 add-i c = search needs
 
--- src/lib.rt:90:5
 loop-less : tie.Need-loop-less Inv-loop μ-loop
 loop-less c = search needs
 
--- src/lib.rt:90:5
 loop-again : tie.Need-loop-again Inv-loop μ-loop
 loop-again c =
     let pr = c .before .before in
@@ -70,11 +56,9 @@ loop-again c =
       pr .put-row .kept .1 .1 .0 ∙ l .inv .2,
     )
 
--- src/lib.rt:85:1
 same-length : tie.Need-same-length Inv-loop μ-loop
 same-length c = c .before .loop .inv .2
 
--- src/lib.rt:85:1
 returns : tie.Need-returns Inv-loop μ-loop
 returns c =
     let l = c .before .loop in

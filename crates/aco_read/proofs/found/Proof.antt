@@ -1,19 +1,14 @@
-use mathlib.Core.Path.{_≡_, refl, sym, ap, ap₂, _∙_, subst}
+use mathlib.Core.Path.{sym, ap, _∙_, subst}
 use native.Mathlib.Omega.{arith}
-use Prim.Native.Nat.{ℕ, _+_, _-_, _*_, _≤_, _<_}
+use Prim.Native.Nat.{ℕ, _+_, _-_}
 use Rattle.colour.specs.declared.Colour.{Colour}
 use Rattle.aco.specs.Reading.{aco}
-use Rattle.aco_read.specs.Table.{Accepted, Where, lies}
+use Rattle.aco_read.specs.Table.{Accepted, lies}
 use Rattle.aco_read.proofs.Filling.{count-small, plain-swatch, Counted, counted-in, counted}
 use Rattle.aco_read.proofs.Answers.{not-one, colour-in, record-is}
 use borrow.Author.Needs.{needs}
 use Rattle.aco_read.proofs.found.Statement.{statement}
 use Rattle.aco_read.proofs.found.Tie as tie
-use Rattle.aco_read.proofs.found.Reads as reads
-use Rattle.aco_read.proofs.found.Lts as lts
-use Rattle.aco_read.proofs.colour_at.Reads as colour-at-reads
-use Rattle.aco_read.proofs.entry_place.Reads as entry-place-reads
-use Rattle.fields.proofs.u32_or_zero.Reads as u32-or-zero-reads
 
 -- what is known of record i once its count is loaded
 loaded : (u : tie.After-u32-or-zero)
@@ -23,19 +18,15 @@ loaded u =
     let s = st .args .file .now in
     counted s _ _ (st .pre .0) (not-one s _ _ (st .pre .0) (u .before .before .if1 .left)) (st .args .i) (st .pre .1) _ (u .before .entry-place .ensures) _ (u .u32-or-zero .ensures)
 
--- src/lib.rt:167:38
 mul-colour-at : tie.Need-mul-colour-at
 mul-colour-at c = let st = c .before in let few = count-small (st .args .file .now) _ _ (st .pre .0) in omega (arith, st .pre .1)
 
--- src/lib.rt:167:34
 add-colour-at : tie.Need-add-colour-at
 add-colour-at c = let st = c .before in let few = count-small (st .args .file .now) _ _ (st .pre .0) in omega (arith, st .pre .1)
 
--- src/lib.rt:167:9
 colour-at-requires : tie.Need-colour-at-requires
 colour-at-requires c κs = let st = c .before in colour-in (st .args .file .now) _ _ (st .pre .0) (st .args .i) (st .pre .1)
 
--- src/lib.rt:170:9
 returns : tie.Need-returns
 returns c =
     let co = c .before in
@@ -43,14 +34,12 @@ returns c =
     let s = st .args .file .now in
     record-is (aco s) _ _ (st .pre .0) (st .args .i) (st .pre .1) _ (ap (λ (b : Colour). (b, lies 0 0)) (co .colour-at .ensures) ∙ sym (plain-swatch s _ _ (st .pre .0) (c .if1 .taken) (st .args .i) (st .pre .1)))
 
--- src/lib.rt:172:9
 entry-place-requires : tie.Need-entry-place-requires
 entry-place-requires c κs =
     let st = c .before .before .before in
     let s = st .args .file .now in
     (subst (λ (l : ℕ). Accepted (aco s) l (st .args .colours)) (not-one s _ _ (st .pre .0) (c .if1 .left)) (st .pre .0), st .pre .1)
 
--- src/lib.rt:173:43
 add-u32-or-zero : tie.Need-add-u32-or-zero
 add-u32-or-zero c =
     let st = c .before .before .before .before in
@@ -58,19 +47,15 @@ add-u32-or-zero c =
     let k = counted-in s _ _ (st .pre .0) (not-one s _ _ (st .pre .0) (c .before .if1 .left)) (st .args .i) (st .pre .1) _ (c .entry-place .ensures) in
     omega arith
 
--- src/lib.rt:173:9
 u32-or-zero-requires : tie.Need-u32-or-zero-requires
 u32-or-zero-requires c κs = search needs
 
--- src/lib.rt:175:16
 add-t11 : tie.Need-add-t11
 add-t11 c = omega (arith, loaded c)
 
--- src/lib.rt:176:16
 sub-t13 : tie.Need-sub-t13
 sub-t13 c = omega (arith, loaded c)
 
--- src/lib.rt:163:1
 returns-2 : tie.Need-returns-2
 returns-2 c =
     let co = c .before .before .before in

@@ -1,5 +1,5 @@
-use Prim.Native.Nat.{ℕ, _+_, _-_}
-use mathlib.Core.Path.{_≡_, refl, sym, ap, _∙_}
+use Prim.Native.Nat.{_+_, _-_}
+use mathlib.Core.Path.{ap, _∙_}
 use lib.ListN.{length-set}
 use lib.Seq.{sets}
 use native.Mathlib.Omega.{arith}
@@ -13,151 +13,112 @@ use Rattle.aco_read.proofs.Filling.{five}
 use borrow.Author.Needs.{needs}
 use Rattle.aco_read.proofs.put_row.Statement.{statement}
 use Rattle.aco_read.proofs.put_row.Tie as tie
-use Rattle.aco_read.proofs.put_row.Reads as reads
-use Rattle.aco_read.proofs.put_row.Lts as lts
-use Rattle.fields.proofs.u16_or_zero.Reads as u16-or-zero-reads
 
--- src/lib.rt:68:15
 add-end : tie.Need-add-end
 add-end c = search needs
 
--- src/lib.rt:69:16
 sub-part : tie.Need-sub-part
 sub-part c = search needs
 
--- src/lib.rt:69:16
 part-part-start : tie.Need-part-part-start
 part-part-start c = search needs
 
--- src/lib.rt:69:16
 part-part-end : tie.Need-part-part-end
 part-part-end c = search needs
 
--- src/lib.rt:70:9
 u16-or-zero-requires : tie.Need-u16-or-zero-requires
 u16-or-zero-requires c κs = search needs
 
--- src/lib.rt:71:9
 u16-or-zero-requires-2 : tie.Need-u16-or-zero-requires-2
 u16-or-zero-requires-2 c κs = search needs
 
--- src/lib.rt:72:9
 u16-or-zero-requires-3 : tie.Need-u16-or-zero-requires-3
 u16-or-zero-requires-3 c κs = search needs
 
--- src/lib.rt:73:9
 u16-or-zero-requires-4 : tie.Need-u16-or-zero-requires-4
 u16-or-zero-requires-4 c κs = search needs
 
--- src/lib.rt:74:9
 u16-or-zero-requires-5 : tie.Need-u16-or-zero-requires-5
 u16-or-zero-requires-5 c κs = search needs
 
--- src/lib.rt:75:17
 cast-table : tie.Need-cast-table
 cast-table c = search needs
 
--- src/lib.rt:75:5
 mul-table : tie.Need-mul-table
 mul-table c = search needs
 
--- src/lib.rt:75:5
 slice-write-table : tie.Need-slice-write-table
 slice-write-table c = search needs
 
--- src/lib.rt:76:21
 cast-table-2 : tie.Need-cast-table-2
 cast-table-2 c = search needs
 
--- src/lib.rt:76:11
 add-table : tie.Need-add-table
 add-table c = search needs
 
--- src/lib.rt:76:5
 mul-table-2 : tie.Need-mul-table-2
 mul-table-2 c = search needs
 
--- src/lib.rt:76:5
 slice-write-table-2 : tie.Need-slice-write-table-2
 slice-write-table-2 c = simp length-set (omega arith)
 
--- src/lib.rt:77:21
 cast-table-3 : tie.Need-cast-table-3
 cast-table-3 c = search needs
 
--- src/lib.rt:77:11
 add-table-2 : tie.Need-add-table-2
 add-table-2 c = search needs
 
--- src/lib.rt:77:5
 mul-table-3 : tie.Need-mul-table-3
 mul-table-3 c = search needs
 
--- src/lib.rt:77:5
 slice-write-table-3 : tie.Need-slice-write-table-3
 slice-write-table-3 c = simp length-set (omega arith)
 
--- src/lib.rt:78:21
 cast-table-4 : tie.Need-cast-table-4
 cast-table-4 c = search needs
 
--- src/lib.rt:78:11
 add-table-3 : tie.Need-add-table-3
 add-table-3 c = search needs
 
--- src/lib.rt:78:5
 mul-table-4 : tie.Need-mul-table-4
 mul-table-4 c = search needs
 
--- src/lib.rt:78:5
 slice-write-table-4 : tie.Need-slice-write-table-4
 slice-write-table-4 c = simp length-set (omega arith)
 
--- src/lib.rt:79:21
 cast-table-5 : tie.Need-cast-table-5
 cast-table-5 c = search needs
 
--- src/lib.rt:79:11
 add-table-4 : tie.Need-add-table-4
 add-table-4 c = search needs
 
--- src/lib.rt:79:5
 mul-table-5 : tie.Need-mul-table-5
 mul-table-5 c = search needs
 
--- src/lib.rt:79:5
 slice-write-table-5 : tie.Need-slice-write-table-5
 slice-write-table-5 c = simp length-set (omega arith)
 
--- src/lib.rt:80:11
 add-table-5 : tie.Need-add-table-5
 add-table-5 c = search needs
 
--- src/lib.rt:80:5
 mul-table-6 : tie.Need-mul-table-6
 mul-table-6 c = search needs
 
--- src/lib.rt:80:5
 slice-write-table-6 : tie.Need-slice-write-table-6
 slice-write-table-6 c = simp length-set (omega arith)
 
--- src/lib.rt:81:11
 add-table-6 : tie.Need-add-table-6
 add-table-6 c = search needs
 
--- src/lib.rt:81:5
 mul-table-7 : tie.Need-mul-table-7
 mul-table-7 c = search needs
 
--- src/lib.rt:81:5
 slice-write-table-7 : tie.Need-slice-write-table-7
 slice-write-table-7 c = simp length-set (omega arith)
 
--- src/lib.rt:64:1
 same-length : tie.Need-same-length
 same-length c = simp length-set
 
--- src/lib.rt:64:1
 returns : tie.Need-returns
 returns c =
     let u = c .before .before .before .before in

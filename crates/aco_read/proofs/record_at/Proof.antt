@@ -1,4 +1,4 @@
-use mathlib.Core.Path.{_≡_, refl, sym, ap, _∙_}
+use mathlib.Core.Path.{sym, ap, _∙_}
 use native.Mathlib.Omega.{arith}
 use Rattle.aco.specs.Answer.{told}
 use Rattle.aco.specs.Reading.{aco}
@@ -6,41 +6,28 @@ use Rattle.aco_read.proofs.Answers.{accepted-of, record-refused, record
 use borrow.Author.Needs.{needs}
 use Rattle.aco_read.proofs.record_at.Statement.{statement}
 use Rattle.aco_read.proofs.record_at.Tie as tie
-use Rattle.aco_read.proofs.record_at.Reads as reads
-use Rattle.aco_read.proofs.record_at.Lts as lts
-use Rattle.aco.proofs.judge.Reads as judge-reads
-use Rattle.aco_read.proofs.found.Reads as found-reads
-use Rattle.aco_read.proofs.none.Reads as none-reads
 
--- src/lib.rt:185:11
 judge-requires : tie.Need-judge-requires
 judge-requires c κs = search needs
 
--- src/lib.rt:186:27
 enum-known-number : tie.Need-enum-known-number
 enum-known-number c = search needs
 
--- src/lib.rt:186:46
 none-requires : tie.Need-none-requires
 none-requires c κs = search needs
 
--- src/lib.rt:187:26
 enum-known-place : tie.Need-enum-known-place
 enum-known-place c = search needs
 
--- src/lib.rt:188:13
 none-requires-2 : tie.Need-none-requires-2
 none-requires-2 c κs = search needs
 
--- src/lib.rt:190:28
 enum-known-colours : tie.Need-enum-known-colours
 enum-known-colours c = search needs
 
--- src/lib.rt:193:17
 none-requires-3 : tie.Need-none-requires-3
 none-requires-3 c κs = search needs
 
--- src/lib.rt:193:17
 returns : tie.Need-returns
 returns c =
     let v = c .before .before .before in
@@ -49,7 +36,6 @@ returns c =
     let k = accepted-of (aco (a .file .now)) (sym (ap told (v .colours .given .1)) ∙ j .judge .ensures) in
     c .none3 .ensures ∙ record-none (aco (a .file .now)) _ _ k (a .i) (omega (arith, c .before .if1 .taken))
 
--- src/lib.rt:195:13
 found-requires : tie.Need-found-requires
 found-requires c κs =
     let v = c .before .before in
@@ -58,21 +44,18 @@ found-requires c κs =
     let k = accepted-of (aco (a .file .now)) (sym (ap told (v .colours .given .1)) ∙ j .judge .ensures) in
     (k, omega (arith, c .if1 .left))
 
--- src/lib.rt:182:1
 returns-2 : tie.Need-returns-2
 returns-2 c =
     let x = c .before .before in
     let j = x .before .before in
     c .none .ensures ∙ record-refused (j .before .before .args .i) (aco (j .before .before .args .file .now)) (sym (ap told (x .number .given .1)) ∙ j .judge .ensures)
 
--- src/lib.rt:182:1
 returns-3 : tie.Need-returns-3
 returns-3 c =
     let x = c .before .before in
     let j = x .before .before in
     c .none2 .ensures ∙ record-refused (j .before .before .args .i) (aco (j .before .before .args .file .now)) (sym (ap told (x .place .given .1)) ∙ j .judge .ensures)
 
--- src/lib.rt:182:1
 returns-4 : tie.Need-returns-4
 returns-4 c = search needs
 

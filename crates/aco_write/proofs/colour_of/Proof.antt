@@ -1,107 +1,79 @@
 use borrow.Author.Needs.{needs}
 use Rattle.aco_write.proofs.colour_of.Statement.{statement}
 use Rattle.aco_write.proofs.colour_of.Tie as tie
-use Rattle.aco_write.proofs.colour_of.Reads as reads
-use Rattle.aco_write.proofs.colour_of.Lts as lts
-use Rattle.aco_write.proofs.low.Reads as low-reads
 
--- src/lib.rt:183:25
 mul-low : tie.Need-mul-low
 mul-low c = search needs
 
--- src/lib.rt:183:21
 mul-low-2 : tie.Need-mul-low-2
 mul-low-2 c = search needs
 
--- src/lib.rt:183:21
 shared-slice-read-low : tie.Need-shared-slice-read-low
 shared-slice-read-low c = search needs
 
--- src/lib.rt:183:9
 low-requires : tie.Need-low-requires
 low-requires c κs = search needs
 
--- src/lib.rt:184:21
 mul-low-3 : tie.Need-mul-low-3
 mul-low-3 c = search needs
 
--- src/lib.rt:184:21
 add-low : tie.Need-add-low
 add-low c = search needs
 
--- src/lib.rt:184:17
 mul-low-4 : tie.Need-mul-low-4
 mul-low-4 c = search needs
 
--- src/lib.rt:184:17
 shared-slice-read-low-2 : tie.Need-shared-slice-read-low-2
 shared-slice-read-low-2 c = search needs
 
--- src/lib.rt:184:9
 low-requires-2 : tie.Need-low-requires-2
 low-requires-2 c κs = search needs
 
--- src/lib.rt:185:21
 mul-low-5 : tie.Need-mul-low-5
 mul-low-5 c = search needs
 
--- src/lib.rt:185:21
 add-low-2 : tie.Need-add-low-2
 add-low-2 c = search needs
 
--- src/lib.rt:185:17
 mul-low-6 : tie.Need-mul-low-6
 mul-low-6 c = search needs
 
--- src/lib.rt:185:17
 shared-slice-read-low-3 : tie.Need-shared-slice-read-low-3
 shared-slice-read-low-3 c = search needs
 
--- src/lib.rt:185:9
 low-requires-3 : tie.Need-low-requires-3
 low-requires-3 c κs = search needs
 
--- src/lib.rt:186:21
 mul-low-7 : tie.Need-mul-low-7
 mul-low-7 c = search needs
 
--- src/lib.rt:186:21
 add-low-3 : tie.Need-add-low-3
 add-low-3 c = search needs
 
--- src/lib.rt:186:17
 mul-low-8 : tie.Need-mul-low-8
 mul-low-8 c = search needs
 
--- src/lib.rt:186:17
 shared-slice-read-low-4 : tie.Need-shared-slice-read-low-4
 shared-slice-read-low-4 c = search needs
 
--- src/lib.rt:186:9
 low-requires-4 : tie.Need-low-requires-4
 low-requires-4 c κs = search needs
 
--- src/lib.rt:187:21
 mul-low-9 : tie.Need-mul-low-9
 mul-low-9 c = search needs
 
--- src/lib.rt:187:21
 add-low-4 : tie.Need-add-low-4
 add-low-4 c = search needs
 
--- src/lib.rt:187:17
 mul-low-10 : tie.Need-mul-low-10
 mul-low-10 c = search needs
 
--- src/lib.rt:187:17
 shared-slice-read-low-5 : tie.Need-shared-slice-read-low-5
 shared-slice-read-low-5 c = search needs
 
--- src/lib.rt:187:9
 low-requires-5 : tie.Need-low-requires-5
 low-requires-5 c κs = search needs
 
--- src/lib.rt:179:1
 returns : tie.Need-returns
 returns c = rw (c .low5 .ensures, c .before .before .low4 .ensures, c .before .before .before .before .low3 .ensures, c .before .before .before .before .before .before .low2 .ensures, c .before .before .before .before .before .before .before .before .low .ensures)
 

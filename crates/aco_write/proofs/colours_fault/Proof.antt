@@ -7,9 +7,6 @@ use Rattle.fields.specs.Faults.{faults}
 use Rattle.aco_write.specs.Writing.{givens, colourFault}
 use Rattle.aco_write.proofs.colours_fault.Statement.{statement}
 use Rattle.aco_write.proofs.colours_fault.Tie as tie
-use Rattle.aco_write.proofs.colours_fault.Reads as reads
-use Rattle.aco_write.proofs.colours_fault.Lts as lts
-use Rattle.aco_write.proofs.colour_fault.Reads as colour-fault-reads
 
 abbrev Inv-loop : tie.InvT-loop
 Inv-loop run n i₀ i = (i ≤ n) × (faults colourFault (givens run n 0) ≡ faults colourFault (givens run (n - i) i))
@@ -17,37 +14,30 @@ Inv-loop run n i₀ i = (i ≤ n) × (faults colourFault (givens run n 0) ≡ fa
 abbrev μ-loop : tie.MeasureT-loop
 μ-loop run n i₀ i = n - i
 
--- src/lib.rt:93:5
 loop-holds : tie.Need-loop-holds Inv-loop μ-loop
 loop-holds c = let a = c .before .args in (omega arith, faults-start colourFault (a .run .now) (a .n))
 
--- src/lib.rt:94:13
 colour-fault-requires : tie.Need-colour-fault-requires Inv-loop μ-loop
 colour-fault-requires c κs = search needs
 
--- src/lib.rt:96:13
 returns : tie.Need-returns Inv-loop μ-loop
 returns c =
     let l = c .before .before .before .loop in
     let a = c .before .before .before .before .before .args in
     faults-found colourFault (a .run .now) _ (a .n) (l .i) (l .inv .1) (c .before .before .loop-test .taken) _ (c .before .colour-fault .ensures) (c .if1 .taken)
 
--- src/lib.rt:98:9
 add-i : tie.Need-add-i Inv-loop μ-loop
 add-i c = search needs
 
--- src/lib.rt:93:5
 loop-less : tie.Need-loop-less Inv-loop μ-loop
 loop-less c = search needs
 
--- src/lib.rt:93:5
 loop-again : tie.Need-loop-again Inv-loop μ-loop
 loop-again c =
     let l = c .before .before .before .loop in
     let a = c .before .before .before .before .before .args in
     (omega arith, faults-more colourFault (a .run .now) _ (a .n) (l .i) (l .inv .1) (c .before .before .loop-test .taken) _ (c .before .colour-fault .ensures) (c .if1 .left))
 
--- src/lib.rt:88:1
 returns-2 : tie.Need-returns-2 Inv-loop μ-loop
 returns-2 c =
     let l = c .before .loop in

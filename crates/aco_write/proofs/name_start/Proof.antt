@@ -3,51 +3,37 @@ use borrow.Author.Tests.{eq-eqb, ne-eqb}
 use borrow.Author.Needs.{needs}
 use Rattle.aco_write.proofs.name_start.Statement.{statement}
 use Rattle.aco_write.proofs.name_start.Tie as tie
-use Rattle.aco_write.proofs.name_start.Reads as reads
-use Rattle.aco_write.proofs.name_start.Lts as lts
-use Rattle.aco_write.proofs.wide.Reads as wide-reads
 
--- src/lib.rt:222:12
 mul-if1 : tie.Need-mul-if1
 mul-if1 c = search needs
 
--- src/lib.rt:222:12
 add-if1 : tie.Need-add-if1
 add-if1 c = search needs
 
--- src/lib.rt:222:8
 mul-if1-2 : tie.Need-mul-if1-2
 mul-if1-2 c = search needs
 
--- src/lib.rt:222:8
 shared-slice-read-if1 : tie.Need-shared-slice-read-if1
 shared-slice-read-if1 c = search needs
 
--- src/lib.rt:223:9
 returns : tie.Need-returns
 returns c = simp (eq-eqb _ 0 (c .if1 .taken))
 
--- src/lib.rt:225:14
 mul-wide : tie.Need-mul-wide
 mul-wide c = search needs
 
--- src/lib.rt:225:14
 add-wide : tie.Need-add-wide
 add-wide c = search needs
 
--- src/lib.rt:225:10
 mul-wide-2 : tie.Need-mul-wide-2
 mul-wide-2 c = search needs
 
--- src/lib.rt:225:10
 shared-slice-read-wide : tie.Need-shared-slice-read-wide
 shared-slice-read-wide c = search needs
 
--- src/lib.rt:225:5
 wide-requires : tie.Need-wide-requires
 wide-requires c κs = search needs
 
--- src/lib.rt:218:1
 returns-2 : tie.Need-returns-2
 returns-2 c = c .wide .ensures .0 ∙ sym (simp (ne-eqb _ 0 (c .before .before .if1 .left)))
 

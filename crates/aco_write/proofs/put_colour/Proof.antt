@@ -1,5 +1,4 @@
 use Prim.Native.Nat.{ℕ, _+_, _-_}
-use mathlib.Core.Path.{_≡_, refl, sym, ap, _∙_}
 use native.Mathlib.Omega.{arith}
 use Rattle.aco.specs.Grammar.{colourBytes}
 use Rattle.aco.proofs.Whole.{length-colour}
@@ -8,35 +7,25 @@ use Rattle.aco_write.proofs.Puts.{put-part}
 use borrow.Author.Needs.{needs, length-unmapped}
 use Rattle.aco_write.proofs.put_colour.Statement.{statement}
 use Rattle.aco_write.proofs.put_colour.Tie as tie
-use Rattle.aco_write.proofs.put_colour.Reads as reads
-use Rattle.aco_write.proofs.put_colour.Lts as lts
-use Rattle.aco_write.proofs.put_fields.Reads as put-fields-reads
 
--- src/lib.rt:251:15
 add-end : tie.Need-add-end
 add-end c = search needs
 
--- src/lib.rt:252:16
 sub-put-fields : tie.Need-sub-put-fields
 sub-put-fields c = search needs
 
--- src/lib.rt:252:16
 part-put-fields-start : tie.Need-part-put-fields-start
 part-put-fields-start c = search needs
 
--- src/lib.rt:252:16
 part-put-fields-end : tie.Need-part-put-fields-end
 part-put-fields-end c = search needs
 
--- src/lib.rt:252:5
 put-fields-requires : tie.Need-put-fields-requires
 put-fields-requires c κs = search needs
 
--- src/lib.rt:247:1
 same-length : tie.Need-same-length
 same-length c = search needs
 
--- src/lib.rt:247:1
 returns : tie.Need-returns
 returns c =
     let s = c .before .before .before .before .before in

@@ -13,10 +13,6 @@ use Rattle.aco.specs.Grammar.{colourBytes}
 use Rattle.aco_write.specs.Writing.{givenAt, givens, swatchIn}
 use Rattle.aco_write.proofs.put_colours.Statement.{statement}
 use Rattle.aco_write.proofs.put_colours.Tie as tie
-use Rattle.aco_write.proofs.put_colours.Reads as reads
-use Rattle.aco_write.proofs.put_colours.Lts as lts
-use Rattle.aco_write.proofs.colour_of.Reads as colour-of-reads
-use Rattle.aco_write.proofs.put_colour.Reads as put-colour-reads
 
 abbrev Inv-loop : tie.InvT-loop
 Inv-loop out₀ at run n p₀ i₀ out p i = (i ≤ n) × (p ≡ at + 10 * i) × (sets out₀ at (joined colourBytes (map (swatchIn []) (givens run n 0))) ≡ sets out p (joined colourBytes (map (swatchIn []) (givens run (n - i) i)))) × (length out ≡ length out₀)
@@ -24,31 +20,24 @@ Inv-loop out₀ at run n p₀ i₀ out p i = (i ≤ n) × (p ≡ at + 10 * i) ×
 abbrev μ-loop : tie.MeasureT-loop
 μ-loop out₀ at run n p₀ i₀ out p i = n - i
 
--- src/lib.rt:210:5
 loop-holds : tie.Need-loop-holds Inv-loop μ-loop
 loop-holds c = let a = c .before .before .args in (omega arith, omega arith, puts-start (a .run .now) (swatchIn []) colourBytes _ (a .out .now) (a .n) 0 (a .at) refl, refl)
 
--- src/lib.rt:211:28
 colour-of-requires : tie.Need-colour-of-requires Inv-loop μ-loop
 colour-of-requires c κs = search needs
 
--- src/lib.rt:211:9
 put-colour-requires : tie.Need-put-colour-requires Inv-loop μ-loop
 put-colour-requires c κs = search needs
 
--- src/lib.rt:212:9
 add-p : tie.Need-add-p Inv-loop μ-loop
 add-p c = search needs
 
--- src/lib.rt:213:9
 add-i : tie.Need-add-i Inv-loop μ-loop
 add-i c = search needs
 
--- src/lib.rt:210:5
 loop-less : tie.Need-loop-less Inv-loop μ-loop
 loop-less c = search needs
 
--- src/lib.rt:210:5
 loop-again : tie.Need-loop-again Inv-loop μ-loop
 loop-again c =
     let l = c .before .before .before .before .before .before .loop in
@@ -61,11 +50,9 @@ loop-again c =
       c .before .before .put-colour .kept .0 ∙ l .inv .3,
     )
 
--- src/lib.rt:204:1
 same-length : tie.Need-same-length Inv-loop μ-loop
 same-length c = c .before .loop .inv .3
 
--- src/lib.rt:204:1
 returns : tie.Need-returns Inv-loop μ-loop
 returns c =
     let l = c .before .loop in

@@ -13,10 +13,6 @@ use Rattle.aco.specs.Grammar.{entryBytes}
 use Rattle.aco_write.specs.Writing.{givenAt, givens, swatchIn}
 use Rattle.aco_write.proofs.put_entries.Statement.{statement}
 use Rattle.aco_write.proofs.put_entries.Tie as tie
-use Rattle.aco_write.proofs.put_entries.Reads as reads
-use Rattle.aco_write.proofs.put_entries.Lts as lts
-use Rattle.aco_write.proofs.put_entry.Reads as put-entry-reads
-use Rattle.aco_write.proofs.wide.Reads as wide-reads
 
 abbrev Inv-loop : tie.InvT-loop
 Inv-loop out₀ at run text n p₀ i₀ out p i =
@@ -26,14 +22,12 @@ Inv-loop out₀ at run text n p₀ i₀ out p i =
 abbrev μ-loop : tie.MeasureT-loop
 μ-loop out₀ at run text n p₀ i₀ out p i = n - i
 
--- src/lib.rt:247:5
 loop-holds : tie.Need-loop-holds Inv-loop μ-loop
 loop-holds c =
     let s = c .before .before .before in
     let a = s .args in
     (omega arith, puts-start (a .run .now) (swatchIn (a .text .now)) entryBytes _ (a .out .now) (a .n) 0 (a .at) refl, fit-start (a .text .now) (a .run .now) (a .n) (a .at) _ (s .pre .1), refl)
 
--- src/lib.rt:248:9
 put-entry-requires : tie.Need-put-entry-requires Inv-loop μ-loop
 put-entry-requires c κs =
     let l = c .before .before .loop in
@@ -41,50 +35,39 @@ put-entry-requires c κs =
     let f = fit-next (a .text .now) (a .run .now) (a .n) (l .i) (l .p) (length (a .out .now)) (c .before .loop-test .taken) (l .inv .2) in
     (omega (arith, c .before .loop-test .taken, c .before .before .before .before .before .before .pre .0), subst (EntryFits (a .text .now) (givenAt (a .run .now) (l .i)) (l .p)) (sym (l .inv .3)) f)
 
--- src/lib.rt:249:32
 mul-wide : tie.Need-mul-wide Inv-loop μ-loop
 mul-wide c = search needs
 
--- src/lib.rt:249:32
 add-wide : tie.Need-add-wide Inv-loop μ-loop
 add-wide c = search needs
 
--- src/lib.rt:249:28
 mul-wide-2 : tie.Need-mul-wide-2 Inv-loop μ-loop
 mul-wide-2 c = search needs
 
--- src/lib.rt:249:28
 shared-slice-read-wide : tie.Need-shared-slice-read-wide Inv-loop μ-loop
 shared-slice-read-wide c = search needs
 
--- src/lib.rt:249:23
 wide-requires : tie.Need-wide-requires Inv-loop μ-loop
 wide-requires c κs = search needs
 
--- src/lib.rt:249:19
 mul-p : tie.Need-mul-p Inv-loop μ-loop
 mul-p c = search needs
 
--- src/lib.rt:249:14
 add-p : tie.Need-add-p Inv-loop μ-loop
 add-p c = search needs
 
--- src/lib.rt:249:9
 add-p-2 : tie.Need-add-p-2 Inv-loop μ-loop
 add-p-2 c =
     let l = c .before .before .before .before .before .before .before .loop in
     let a = c .before .before .before .before .before .before .before .before .before .before .before .args in
     omega (arith, fit-next (a .text .now) (a .run .now) (a .n) (l .i) (l .p) (length (a .out .now)) (c .before .before .before .before .before .before .loop-test .taken) (l .inv .2), c .wide .ensures .0, c .before .before .before .before .before .before .before .before .before .before .before .good .0 .0)
 
--- src/lib.rt:250:9
 add-i : tie.Need-add-i Inv-loop μ-loop
 add-i c = search needs
 
--- src/lib.rt:247:5
 loop-less : tie.Need-loop-less Inv-loop μ-loop
 loop-less c = search needs
 
--- src/lib.rt:247:5
 loop-again : tie.Need-loop-again Inv-loop μ-loop
 loop-again c =
     let l = c .before .before .before .before .before .before .before .loop in
@@ -97,11 +80,9 @@ loop-again c =
       c .before .before .before .before .put-entry .kept .0 ∙ l .inv .3,
     )
 
--- src/lib.rt:241:1
 same-length : tie.Need-same-length Inv-loop μ-loop
 same-length c = c .before .loop .inv .3
 
--- src/lib.rt:241:1
 returns : tie.Need-returns Inv-loop μ-loop
 returns c =
     let l = c .before .loop in

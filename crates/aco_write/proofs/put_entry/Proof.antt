@@ -12,87 +12,62 @@ use Rattle.aco_write.proofs.Puts.{put-record}
 use borrow.Author.Needs.{needs}
 use Rattle.aco_write.proofs.put_entry.Statement.{statement}
 use Rattle.aco_write.proofs.put_entry.Tie as tie
-use Rattle.aco_write.proofs.put_entry.Reads as reads
-use Rattle.aco_write.proofs.put_entry.Lts as lts
-use Rattle.aco_write.proofs.colour_of.Reads as colour-of-reads
-use Rattle.aco_write.proofs.name_start.Reads as name-start-reads
-use Rattle.aco_write.proofs.put_colour.Reads as put-colour-reads
-use Rattle.aco_write.proofs.wide.Reads as wide-reads
-use Rattle.fields.proofs.put_name.Reads as put-name-reads
 
--- src/lib.rt:233:25
 colour-of-requires : tie.Need-colour-of-requires
 colour-of-requires c κs = search needs
 
--- src/lib.rt:233:5
 put-colour-requires : tie.Need-put-colour-requires
 put-colour-requires c κs = search needs
 
--- src/lib.rt:234:21
 mul-units : tie.Need-mul-units
 mul-units c = search needs
 
--- src/lib.rt:234:21
 add-units : tie.Need-add-units
 add-units c = search needs
 
--- src/lib.rt:234:17
 mul-units-2 : tie.Need-mul-units-2
 mul-units-2 c = search needs
 
--- src/lib.rt:234:17
 shared-slice-read-units : tie.Need-shared-slice-read-units
 shared-slice-read-units c = search needs
 
--- src/lib.rt:235:9
 name-start-requires : tie.Need-name-start-requires
 name-start-requires c κs = search needs
 
--- src/lib.rt:236:27
 wide-requires : tie.Need-wide-requires
 wide-requires c κs = search needs
 
--- src/lib.rt:236:23
 mul-end : tie.Need-mul-end
 mul-end c = search needs
 
--- src/lib.rt:236:15
 add-end : tie.Need-add-end
 add-end c =
     let s = c .before .before .before .before .before .before .before .before .before .before .before in
     omega (arith, name-inside (s .args .text .now) (givenAt (s .args .run .now) (s .args .k)) (s .pre .1 .name), c .wide .ensures .0, c .before .name-start .ensures, s .good)
 
--- src/lib.rt:237:27
 add-put-name : tie.Need-add-put-name
 add-put-name c = search needs
 
--- src/lib.rt:237:36
 add-put-name-2 : tie.Need-add-put-name-2
 add-put-name-2 c = search needs
 
--- src/lib.rt:237:47
 sub-put-name : tie.Need-sub-put-name
 sub-put-name c = search needs
 
--- src/lib.rt:237:47
 part-put-name-start : tie.Need-part-put-name-start
 part-put-name-start c = search needs
 
--- src/lib.rt:237:47
 part-put-name-end : tie.Need-part-put-name-end
 part-put-name-end c =
     let s = c .before .before .before .before .before .before .before .before .before .before .before .before in
     omega (arith, name-inside (s .args .text .now) (givenAt (s .args .run .now) (s .args .k)) (s .pre .1 .name), c .before .wide .ensures .0, c .before .before .name-start .ensures)
 
--- src/lib.rt:237:5
 put-name-requires : tie.Need-put-name-requires
 put-name-requires c κs = search needs
 
--- src/lib.rt:229:1
 same-length : tie.Need-same-length
 same-length c = search needs
 
--- src/lib.rt:229:1
 returns : tie.Need-returns
 returns c =
     let s = c .before .before .before .before .before .before .before .before .before .before .before .before .before .before .before .before in

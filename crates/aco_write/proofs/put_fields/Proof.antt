@@ -3,67 +3,49 @@ use borrow.Author.Needs.{needs, length-unmapped}
 use Rattle.aco_write.proofs.Puts.{put-five}
 use Rattle.aco_write.proofs.put_fields.Statement.{statement}
 use Rattle.aco_write.proofs.put_fields.Tie as tie
-use Rattle.aco_write.proofs.put_fields.Reads as reads
-use Rattle.aco_write.proofs.put_fields.Lts as lts
-use Rattle.fields.proofs.put_u16.Reads as put-u16-reads
 
--- src/lib.rt:196:5
 put-u16-requires : tie.Need-put-u16-requires
 put-u16-requires c κs = search needs
 
--- src/lib.rt:197:26
 add-put-u16 : tie.Need-add-put-u16
 add-put-u16 c = search needs
 
--- src/lib.rt:197:34
 element-copy-out-put-u16 : tie.Need-element-copy-out-put-u16
 element-copy-out-put-u16 c = search needs
 
--- src/lib.rt:197:5
 put-u16-requires-2 : tie.Need-put-u16-requires-2
 put-u16-requires-2 c κs = search needs
 
--- src/lib.rt:198:26
 add-put-u16-2 : tie.Need-add-put-u16-2
 add-put-u16-2 c = search needs
 
--- src/lib.rt:198:34
 element-copy-out-put-u16-2 : tie.Need-element-copy-out-put-u16-2
 element-copy-out-put-u16-2 c = search needs
 
--- src/lib.rt:198:5
 put-u16-requires-3 : tie.Need-put-u16-requires-3
 put-u16-requires-3 c κs = search needs
 
--- src/lib.rt:199:26
 add-put-u16-3 : tie.Need-add-put-u16-3
 add-put-u16-3 c = search needs
 
--- src/lib.rt:199:34
 element-copy-out-put-u16-3 : tie.Need-element-copy-out-put-u16-3
 element-copy-out-put-u16-3 c = search needs
 
--- src/lib.rt:199:5
 put-u16-requires-4 : tie.Need-put-u16-requires-4
 put-u16-requires-4 c κs = search needs
 
--- src/lib.rt:200:26
 add-put-u16-4 : tie.Need-add-put-u16-4
 add-put-u16-4 c = search needs
 
--- src/lib.rt:200:34
 element-copy-out-put-u16-4 : tie.Need-element-copy-out-put-u16-4
 element-copy-out-put-u16-4 c = search needs
 
--- src/lib.rt:200:5
 put-u16-requires-5 : tie.Need-put-u16-requires-5
 put-u16-requires-5 c κs = search needs
 
--- src/lib.rt:192:1
 same-length : tie.Need-same-length
 same-length c = search needs
 
--- src/lib.rt:192:1
 returns : tie.Need-returns
 returns c =
     let p₅ = c .before .before in

@@ -4,73 +4,52 @@ use Rattle.aco_write.proofs.Puts.{put-file}
 use borrow.Author.Needs.{needs}
 use Rattle.aco_write.proofs.put_lists.Statement.{statement}
 use Rattle.aco_write.proofs.put_lists.Tie as tie
-use Rattle.aco_write.proofs.put_lists.Reads as reads
-use Rattle.aco_write.proofs.put_lists.Lts as lts
-use Rattle.aco_write.proofs.put_colours.Reads as put-colours-reads
-use Rattle.aco_write.proofs.put_entries.Reads as put-entries-reads
-use Rattle.fields.proofs.put_u16.Reads as put-u16-reads
 
--- src/lib.rt:259:5
 put-u16-requires : tie.Need-put-u16-requires
 put-u16-requires c κs = search needs
 
--- src/lib.rt:260:29
 cast-put-u16 : tie.Need-cast-put-u16
 cast-put-u16 c = search needs
 
--- src/lib.rt:260:5
 put-u16-requires-2 : tie.Need-put-u16-requires-2
 put-u16-requires-2 c κs = search needs
 
--- src/lib.rt:261:5
 put-colours-requires : tie.Need-put-colours-requires
 put-colours-requires c κs = let s = c .before .before .before .before .before .before .before .before .before .before .before .before in let h = sizes-all (s .args .run .now) (s .args .n) 0 in let m = length-givens (s .args .run .now) (s .args .n) 0 in (omega (arith, h, m, s .pre .2 .inside), omega (arith, s .pre .0))
 
--- src/lib.rt:262:30
 mul-put-u16 : tie.Need-mul-put-u16
 mul-put-u16 c = search needs
 
--- src/lib.rt:262:26
 add-put-u16 : tie.Need-add-put-u16
 add-put-u16 c = search needs
 
--- src/lib.rt:262:5
 put-u16-requires-3 : tie.Need-put-u16-requires-3
 put-u16-requires-3 c κs = search needs
 
--- src/lib.rt:263:30
 mul-put-u16-2 : tie.Need-mul-put-u16-2
 mul-put-u16-2 c = search needs
 
--- src/lib.rt:263:26
 add-put-u16-2 : tie.Need-add-put-u16-2
 add-put-u16-2 c = search needs
 
--- src/lib.rt:263:38
 cast-put-u16-2 : tie.Need-cast-put-u16-2
 cast-put-u16-2 c = search needs
 
--- src/lib.rt:263:5
 put-u16-requires-4 : tie.Need-put-u16-requires-4
 put-u16-requires-4 c κs = search needs
 
--- src/lib.rt:264:26
 mul-put-entries : tie.Need-mul-put-entries
 mul-put-entries c = search needs
 
--- src/lib.rt:264:22
 add-put-entries : tie.Need-add-put-entries
 add-put-entries c = search needs
 
--- src/lib.rt:264:5
 put-entries-requires : tie.Need-put-entries-requires
 put-entries-requires c κs = search needs
 
--- src/lib.rt:255:1
 same-length : tie.Need-same-length
 same-length c = search needs
 
--- src/lib.rt:255:1
 returns : tie.Need-returns
 returns c =
     let p₆ = c .before .before in

@@ -4,31 +4,22 @@ use Rattle.aco_write.proofs.Judging.{sample-large, sample-is}
 use borrow.Author.Needs.{needs}
 use Rattle.aco_write.proofs.sample_fault.Statement.{statement}
 use Rattle.aco_write.proofs.sample_fault.Tie as tie
-use Rattle.aco_write.proofs.sample_fault.Reads as reads
-use Rattle.aco_write.proofs.sample_fault.Lts as lts
-use Rattle.colour.proofs.is_allowed.Reads as is-allowed-reads
 
--- src/lib.rt:54:9
 returns : tie.Need-returns
 returns c = sym (sample-large _ _ _ (omega arith))
 
--- src/lib.rt:56:27
 cast-is-allowed : tie.Need-cast-is-allowed
 cast-is-allowed c = search needs
 
--- src/lib.rt:56:40
 cast-is-allowed-2 : tie.Need-cast-is-allowed-2
 cast-is-allowed-2 c = search needs
 
--- src/lib.rt:56:8
 is-allowed-requires : tie.Need-is-allowed-requires
 is-allowed-requires c κs = search needs
 
--- src/lib.rt:57:9
 returns-2 : tie.Need-returns-2
 returns-2 c = sym (sample-is _ _ _ _ (c .before .before .if1 .left) (sym (c .if2 .taken) ∙ c .before .is-allowed .ensures))
 
--- src/lib.rt:49:1
 returns-3 : tie.Need-returns-3
 returns-3 c = sym (sample-is _ _ _ _ (c .before .before .if1 .left) (sym (c .if2 .left) ∙ c .before .is-allowed .ensures))
 

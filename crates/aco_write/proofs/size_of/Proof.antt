@@ -7,9 +7,6 @@ use mathlib.Core.Path.{_≡_, sym, ap}
 use Rattle.aco_write.specs.Writing.{givens, sizes}
 use Rattle.aco_write.proofs.size_of.Statement.{statement}
 use Rattle.aco_write.proofs.size_of.Tie as tie
-use Rattle.aco_write.proofs.size_of.Reads as reads
-use Rattle.aco_write.proofs.size_of.Lts as lts
-use Rattle.aco_write.proofs.wide.Reads as wide-reads
 
 abbrev Inv-loop : tie.InvT-loop
 Inv-loop run n total₀ i₀ total i = (i ≤ n) × (total ≤ 16777216) × (total + sizes (givens run (n - i) i) ≡ 8 + sizes (givens run n 0))
@@ -17,65 +14,51 @@ Inv-loop run n total₀ i₀ total i = (i ≤ n) × (total ≤ 16777216) × (tot
 abbrev μ-loop : tie.MeasureT-loop
 μ-loop run n total₀ i₀ total i = n - i
 
--- src/lib.rt:137:5
 loop-holds : tie.Need-loop-holds Inv-loop μ-loop
 loop-holds c = let a = c .before .args in (omega arith, omega arith, ap (λ gs. 8 + sizes gs) (sym (givens-start (a .run .now) (a .n))))
 
--- src/lib.rt:138:36
 mul-wide : tie.Need-mul-wide Inv-loop μ-loop
 mul-wide c = search needs
 
--- src/lib.rt:138:36
 add-wide : tie.Need-add-wide Inv-loop μ-loop
 add-wide c = search needs
 
--- src/lib.rt:138:32
 mul-wide-2 : tie.Need-mul-wide-2 Inv-loop μ-loop
 mul-wide-2 c = search needs
 
--- src/lib.rt:138:32
 shared-slice-read-wide : tie.Need-shared-slice-read-wide Inv-loop μ-loop
 shared-slice-read-wide c = search needs
 
--- src/lib.rt:138:27
 wide-requires : tie.Need-wide-requires Inv-loop μ-loop
 wide-requires c κs = search needs
 
--- src/lib.rt:138:23
 mul-total : tie.Need-mul-total Inv-loop μ-loop
 mul-total c = search needs
 
--- src/lib.rt:138:18
 add-total : tie.Need-add-total Inv-loop μ-loop
 add-total c = search needs
 
--- src/lib.rt:138:9
 add-total-2 : tie.Need-add-total-2 Inv-loop μ-loop
 add-total-2 c = search needs
 
--- src/lib.rt:140:13
 returns : tie.Need-returns Inv-loop μ-loop
 returns c =
     let l = c .before .before .before .before .loop in
     let a = c .before .before .before .before .before .before .args in
     size-over (8 + sizes (givens (a .run .now) (a .n) 0)) (omega (arith, sizes-turn (a .run .now) (a .n) (l .i) (c .before .before .before .loop-test .taken), l .inv .2, c .before .wide .ensures .0, c .if1 .taken))
 
--- src/lib.rt:142:9
 add-i : tie.Need-add-i Inv-loop μ-loop
 add-i c = search needs
 
--- src/lib.rt:137:5
 loop-less : tie.Need-loop-less Inv-loop μ-loop
 loop-less c = search needs
 
--- src/lib.rt:137:5
 loop-again : tie.Need-loop-again Inv-loop μ-loop
 loop-again c =
     let l = c .before .before .before .before .loop in
     let a = c .before .before .before .before .before .before .args in
     (omega arith, omega arith, omega (arith, sizes-turn (a .run .now) (a .n) (l .i) (c .before .before .before .loop-test .taken), l .inv .2, c .before .wide .ensures .0))
 
--- src/lib.rt:131:1
 returns-2 : tie.Need-returns-2 Inv-loop μ-loop
 returns-2 c =
     let l = c .before .loop in

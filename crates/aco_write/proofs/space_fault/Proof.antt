@@ -3,27 +3,19 @@ use Rattle.aco_write.proofs.Judging.{space-large, space-is}
 use borrow.Author.Needs.{needs}
 use Rattle.aco_write.proofs.space_fault.Statement.{statement}
 use Rattle.aco_write.proofs.space_fault.Tie as tie
-use Rattle.aco_write.proofs.space_fault.Reads as reads
-use Rattle.aco_write.proofs.space_fault.Lts as lts
-use Rattle.colour.proofs.is_known.Reads as is-known-reads
 
--- src/lib.rt:40:9
 returns : tie.Need-returns
 returns c = sym (space-large _ (c .if1 .taken))
 
--- src/lib.rt:42:25
 cast-is-known : tie.Need-cast-is-known
 cast-is-known c = search needs
 
--- src/lib.rt:42:8
 is-known-requires : tie.Need-is-known-requires
 is-known-requires c κs = search needs
 
--- src/lib.rt:43:9
 returns-2 : tie.Need-returns-2
 returns-2 c = sym (space-is _ _ (sym (c .if2 .taken) ∙ c .before .is-known .ensures))
 
--- src/lib.rt:36:1
 returns-3 : tie.Need-returns-3
 returns-3 c = sym (space-is _ _ (sym (c .if2 .left) ∙ c .before .is-known .ensures))
 

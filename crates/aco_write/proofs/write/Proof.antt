@@ -10,24 +10,16 @@ use Rattle.aco_write.proofs.Outcomes.{needed-bytes, no-fault, refuses, 
 use borrow.Author.Needs.{needs}
 use Rattle.aco_write.proofs.write.Statement.{statement}
 use Rattle.aco_write.proofs.write.Tie as tie
-use Rattle.aco_write.proofs.write.Reads as reads
-use Rattle.aco_write.proofs.write.Lts as lts
-use Rattle.aco_write.proofs.put_lists.Reads as put-lists-reads
-use Rattle.aco_write.proofs.write_length.Reads as write-length-reads
 
--- src/lib.rt:271:11
 write-length-requires : tie.Need-write-length-requires
 write-length-requires c κs = search needs
 
--- src/lib.rt:272:26
 enum-known-x : tie.Need-enum-known-x
 enum-known-x c = search needs
 
--- src/lib.rt:273:24
 enum-known-size : tie.Need-enum-known-size
 enum-known-size c = search needs
 
--- src/lib.rt:275:17
 returns : tie.Need-returns
 returns c =
     let a = c .before .before .before .before .before .before .before .before .args in
@@ -35,7 +27,6 @@ returns c =
     let gs = givens (a .records .now) n 0 in
     no-room (a .text .now) gs (a .out .now) _ (sym (ap told (c .before .before .size .given .1)) ∙ c .before .before .before .before .write-length .ensures) (c .if1 .taken)
 
--- src/lib.rt:277:13
 put-lists-requires : tie.Need-put-lists-requires
 put-lists-requires c κs =
     let a = c .before .before .before .before .before .before .before .before .before .args in
@@ -46,7 +37,6 @@ put-lists-requires c κs =
     let len = length-givens (a .records .now) n 0 in
     (omega arith, omega (arith, len, f .1), record { inside = omega (arith, len, w .1, c .before .if1 .left); short = omega (arith, f .0); name = f .2 })
 
--- src/lib.rt:268:1
 returns-2 : tie.Need-returns-2
 returns-2 c =
     let a = c .before .before .before .before .before .before .before .args in
@@ -54,11 +44,9 @@ returns-2 c =
     let gs = givens (a .records .now) n 0 in
     refuses (a .text .now) gs (a .out .now) _ (sym (ap told (c .before .x .given .1)) ∙ c .before .before .before .write-length .ensures)
 
--- src/lib.rt:268:1
 same-length : tie.Need-same-length
 same-length c = search needs
 
--- src/lib.rt:268:1
 returns-3 : tie.Need-returns-3
 returns-3 c =
     let a = c .before .before .before .before .before .before .before .before .before .before .before .before .args in

@@ -9,25 +9,16 @@ use Rattle.aco_write.proofs.Outcomes.{size-is, size-passes, too-long, t
 use borrow.Author.Needs.{needs}
 use Rattle.aco_write.proofs.write_length.Statement.{statement}
 use Rattle.aco_write.proofs.write_length.Tie as tie
-use Rattle.aco_write.proofs.write_length.Reads as reads
-use Rattle.aco_write.proofs.write_length.Lts as lts
-use Rattle.aco_write.proofs.colours_fault.Reads as colours-fault-reads
-use Rattle.aco_write.proofs.names_fault.Reads as names-fault-reads
-use Rattle.aco_write.proofs.size_of.Reads as size-of-reads
 
--- src/lib.rt:152:32
 size-of-requires : tie.Need-size-of-requires
 size-of-requires c κs = search needs
 
--- src/lib.rt:152:24
 enum-known-size : tie.Need-enum-known-size
 enum-known-size c = search needs
 
--- src/lib.rt:153:9
 enum-told : tie.Need-enum-told
 enum-told c = search needs
 
--- src/lib.rt:153:9
 returns : tie.Need-returns
 returns c =
     let a = c .before .before .before .before .before .args in
@@ -36,11 +27,9 @@ returns c =
     let len = length-givens (a .records .now) n 0 in
     too-long (a .text .now) gs (size-passes (8 + sizes gs) _ (sym (ap told (c .enum-told .given .1)) ∙ c .before .before .size-of .ensures))
 
--- src/lib.rt:155:9
 cast-if1 : tie.Need-cast-if1
 cast-if1 c = search needs
 
--- src/lib.rt:156:9
 returns-2 : tie.Need-returns-2
 returns-2 c =
     let a = c .before .before .before .before .before .before .before .args in
@@ -50,11 +39,9 @@ returns-2 c =
     let s = size-is (8 + sizes gs) _ (sym (ap told (c .before .before .size .given .1)) ∙ c .before .before .before .before .size-of .ensures) in
     too-many (a .text .now) gs (s .0) (omega (arith, len, c .if1 .taken))
 
--- src/lib.rt:158:9
 colours-fault-requires : tie.Need-colours-fault-requires
 colours-fault-requires c κs = search needs
 
--- src/lib.rt:160:9
 returns-3 : tie.Need-returns-3
 returns-3 c =
     let a = c .before .before .before .before .before .before .before .before .before .args in
@@ -64,11 +51,9 @@ returns-3 c =
     let s = size-is (8 + sizes gs) _ (sym (ap told (c .before .before .before .before .size .given .1)) ∙ c .before .before .before .before .before .before .size-of .ensures) in
     bad-colour (a .text .now) gs (s .0) (omega (arith, len, c .before .before .if1 .left)) _ (c .before .colours-fault .ensures) (c .if2 .taken)
 
--- src/lib.rt:162:9
 names-fault-requires : tie.Need-names-fault-requires
 names-fault-requires c κs = search needs
 
--- src/lib.rt:164:9
 returns-4 : tie.Need-returns-4
 returns-4 c =
     let a = c .before .before .before .before .before .before .before .before .before .before .before .args in
@@ -78,7 +63,6 @@ returns-4 c =
     let s = size-is (8 + sizes gs) _ (sym (ap told (c .before .before .before .before .before .before .size .given .1)) ∙ c .before .before .before .before .before .before .before .before .size-of .ensures) in
     bad-name (a .text .now) gs (s .0) (omega (arith, len, c .before .before .before .before .if1 .left)) _ (c .before .before .before .colours-fault .ensures) (c .before .before .if2 .left) _ (c .before .names-fault .ensures) (c .if3 .taken)
 
--- src/lib.rt:148:1
 returns-5 : tie.Need-returns-5
 returns-5 c =
     let a = c .before .before .before .before .before .before .before .before .before .before .before .args in

@@ -1,28 +1,20 @@
-use mathlib.Core.Path.{_≡_, refl, sym, ap, _∙_}
+use mathlib.Core.Path.{sym, _∙_}
 use native.Mathlib.Omega.{arith}
 use borrow.Author.Tests.{not-true, not-false}
 use Rattle.colour.proofs.Laws.{sample-by, sound-unknown, sound-known, pick-same}
 use borrow.Author.Needs.{needs}
 use Rattle.colour.proofs.is_sound.Statement.{statement}
 use Rattle.colour.proofs.is_sound.Tie as tie
-use Rattle.colour.proofs.is_sound.Reads as reads
-use Rattle.colour.proofs.is_sound.Lts as lts
-use Rattle.colour.proofs.is_free.Reads as is-free-reads
-use Rattle.colour.proofs.samples_used.Reads as samples-used-reads
 
--- src/lib.rt:66:9
 samples-used-requires : tie.Need-samples-used-requires
 samples-used-requires c κs = search needs
 
--- src/lib.rt:68:9
 returns : tie.Need-returns
 returns c = sym (sound-unknown _ _ (sym (c .before .samples-used .ensures) ∙ c .if1 .taken))
 
--- src/lib.rt:70:9
 is-free-requires : tie.Need-is-free-requires
 is-free-requires c κs = search needs
 
--- src/lib.rt:71:9
 returns-2 : tie.Need-returns-2
 returns-2 c =
     let u = c .before .before .before .samples-used in
@@ -30,11 +22,9 @@ returns-2 c =
     let b = sym (sample-by (a .space) (u .result) 1 (a .b) (u .ensures)) ∙ sym (c .before .is-free .ensures) ∙ not-true _ (c .if2 .taken) in
     sym (sound-known (a .space) (a .a) (a .b) (a .c) (a .d) (omega arith) ∙ rw b)
 
--- src/lib.rt:73:9
 is-free-requires-2 : tie.Need-is-free-requires-2
 is-free-requires-2 c κs = search needs
 
--- src/lib.rt:74:9
 returns-3 : tie.Need-returns-3
 returns-3 c =
     let u = c .before .before .before .before .before .samples-used in
@@ -43,11 +33,9 @@ returns-3 c =
     let d = sym (sample-by (a .space) (u .result) 2 (a .c) (u .ensures)) ∙ sym (c .before .is-free2 .ensures) ∙ not-true _ (c .if3 .taken) in
     sym (sound-known (a .space) (a .a) (a .b) (a .c) (a .d) (omega arith) ∙ rw (b, d))
 
--- src/lib.rt:76:5
 is-free-requires-3 : tie.Need-is-free-requires-3
 is-free-requires-3 c κs = search needs
 
--- src/lib.rt:63:1
 returns-4 : tie.Need-returns-4
 returns-4 c =
     let u = c .before .before .before .before .before .before .samples-used in

@@ -1,36 +1,28 @@
 use borrow.Author.Tests.{ne-eqb}
-use Rattle.colour.specs.Spaces.{uses, known, allowed}
+use Rattle.colour.specs.Spaces.{uses}
 use Rattle.colour.proofs.samples_used.Statement.{statement}
 use Rattle.colour.proofs.samples_used.Tie as tie
-use Rattle.colour.proofs.samples_used.Reads as reads
-use Rattle.colour.proofs.samples_used.Lts as lts
 
--- src/lib.rt:22:1
 returns : tie.Need-returns
 unfolding uses
 returns c = rw (c .match .keys1)
 
--- src/lib.rt:22:1
 returns-2 : tie.Need-returns-2
 unfolding uses
 returns-2 c = rw (c .match .keys2)
 
--- src/lib.rt:22:1
 returns-3 : tie.Need-returns-3
 unfolding uses
 returns-3 c = rw (c .match .keys3)
 
--- src/lib.rt:22:1
 returns-4 : tie.Need-returns-4
 unfolding uses
 returns-4 c = rw (c .match .keys4)
 
--- src/lib.rt:22:1
 returns-5 : tie.Need-returns-5
 unfolding uses
 returns-5 c = rw (c .match .keys5)
 
--- src/lib.rt:22:1
 returns-6 : tie.Need-returns-6
 unfolding uses
 returns-6 c =

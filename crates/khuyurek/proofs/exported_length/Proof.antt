@@ -1,25 +1,19 @@
-use mathlib.Core.Path.{_≡_, refl, sym, ap, ap₂, _∙_}
-use Rattle.khuyurek.specs.Exported.{answerOf, recordOf, writtenOf, readOf, wroteOf}
+use mathlib.Core.Path.{sym, ap}
+use Rattle.khuyurek.specs.Exported.{writtenOf}
 use Rattle.aco_write.specs.Answer.{told as toldWritten}
 use borrow.Author.Needs.{needs}
 use Rattle.khuyurek.proofs.exported_length.Statement.{statement}
 use Rattle.khuyurek.proofs.exported_length.Tie as tie
-use Rattle.khuyurek.proofs.exported_length.Reads as reads
-use Rattle.khuyurek.proofs.exported_length.Lts as lts
 
--- src/lib.rt:82:24
 enum-known-w : tie.Need-enum-known-w
 enum-known-w c = search needs
 
--- src/lib.rt:83:26
 enum-known-w-2 : tie.Need-enum-known-w-2
 enum-known-w-2 c = search needs
 
--- src/lib.rt:78:1
 returns : tie.Need-returns
 returns c = sym (ap (λ (v : _). writtenOf (toldWritten v)) (c .before .w .given .1))
 
--- src/lib.rt:78:1
 returns-2 : tie.Need-returns-2
 returns-2 c = sym (ap (λ (v : _). writtenOf (toldWritten v)) (c .before .w2 .given .1))
 

@@ -1,57 +1,42 @@
-use mathlib.Core.Path.{_≡_, refl, sym, ap, _∙_}
+use mathlib.Core.Path.{sym, ap, _∙_}
 use Rattle.khuyurek.specs.Exported.{placed, recordOf}
 use Rattle.aco_read.specs.Answer.{toldPlace}
 use Rattle.aco_read.specs.declared.NamePlace.{NamePlace}
 use borrow.Author.Needs.{needs}
 use Rattle.khuyurek.proofs.khuyurek_aco_record_at.Statement.{statement}
 use Rattle.khuyurek.proofs.khuyurek_aco_record_at.Tie as tie
-use Rattle.khuyurek.proofs.khuyurek_aco_record_at.Reads as reads
-use Rattle.khuyurek.proofs.khuyurek_aco_record_at.Lts as lts
-use Rattle.aco_read.proofs.record_at.Reads as record-at-reads
-use Rattle.khuyurek.proofs.found.Reads as found-reads
-use Rattle.khuyurek.proofs.missing.Reads as missing-reads
 
--- src/lib.rt:145:9
 record-at-requires : tie.Need-record-at-requires
 record-at-requires c κs = search needs
 
--- src/lib.rt:149:25
 enum-known-name : tie.Need-enum-known-name
 enum-known-name c = search needs
 
--- src/lib.rt:149:43
 found-requires : tie.Need-found-requires
 found-requires c κs = search needs
 
--- src/lib.rt:150:30
 enum-known-name-2 : tie.Need-enum-known-name-2
 enum-known-name-2 c = search needs
 
--- src/lib.rt:150:49
 missing-requires : tie.Need-missing-requires
 missing-requires c κs = search needs
 
--- src/lib.rt:151:29
 enum-known-name-3 : tie.Need-enum-known-name-3
 enum-known-name-3 c = search needs
 
--- src/lib.rt:151:55
 missing-requires-2 : tie.Need-missing-requires-2
 missing-requires-2 c κs = search needs
 
--- src/lib.rt:141:1
 returns : tie.Need-returns
 returns c =
     let r = c .before .before .before .before .before in
     c .found .ensures ∙ sym (ap (λ (v : NamePlace). placed (r .record-at .result .colour) (toldPlace v)) (c .before .before .name .given .1)) ∙ ap recordOf (r .record-at .ensures)
 
--- src/lib.rt:141:1
 returns-2 : tie.Need-returns-2
 returns-2 c =
     let r = c .before .before .before .before .before in
     c .missing .ensures ∙ sym (ap (λ (v : NamePlace). placed (r .record-at .result .colour) (toldPlace v)) (c .before .before .name2 .given .1)) ∙ ap recordOf (r .record-at .ensures)
 
--- src/lib.rt:141:1
 returns-3 : tie.Need-returns-3
 returns-3 c =
     let r = c .before .before .before .before .before in

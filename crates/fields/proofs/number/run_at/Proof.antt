@@ -1,32 +1,23 @@
-use Prim.Native.Nat.{ℕ, _+_, _*_}
-use mathlib.Core.Path.{_≡_, refl, sym, ap, _∙_}
+use mathlib.Core.Path.{sym, ap}
 use native.Mathlib.Omega.{arith}
-use denote.Ref.{now}
 use Rattle.fields.specs.Reader.{done}
 use Rattle.fields.proofs.Laws.{body-done, body-short}
 use borrow.Author.Needs.{needs}
 use Rattle.fields.proofs.number.run_at.Statement.{statement}
 use Rattle.fields.proofs.number.run_at.Tie as tie
-use Rattle.fields.proofs.number.run_at.Reads as reads
-use Rattle.fields.proofs.number.run_at.Lts as lts
 
--- src/number.rt:138:9
 returns : tie.Need-returns
 returns c = sym (body-done 1 _ _ _ _ (omega arith) (omega arith))
 
--- src/number.rt:142:9
 returns-2 : tie.Need-returns-2
 returns-2 c = sym (ap done (body-short 1 _ _ _ (omega arith)))
 
--- src/number.rt:145:9
 returns-3 : tie.Need-returns-3
 returns-3 c = sym (ap done (body-short 1 _ _ _ (omega arith)))
 
--- src/number.rt:147:16
 add-t6 : tie.Need-add-t6
 add-t6 c = search needs
 
--- src/number.rt:134:1
 returns-4 : tie.Need-returns-4
 returns-4 c = sym (body-done 1 _ _ _ _ (omega arith) (omega arith))
 

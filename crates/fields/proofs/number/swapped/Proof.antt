@@ -1,44 +1,31 @@
-use Prim.Native.Nat.{ℕ, _+_, _*_, _/_, _%_}
-use mathlib.Core.Path.{_≡_, refl, sym, ap, _∙_}
 use native.Mathlib.Omega.{arith}
 use denote.Ref.{now}
 use Rattle.fields.proofs.Laws.{num-2}
 use borrow.Author.Needs.{needs}
 use Rattle.fields.proofs.number.swapped.Statement.{statement}
 use Rattle.fields.proofs.number.swapped.Tie as tie
-use Rattle.fields.proofs.number.swapped.Reads as reads
-use Rattle.fields.proofs.number.swapped.Lts as lts
-use Rattle.fields.proofs.number.wide16.Reads as wide16-reads
 
--- src/number.rt:52:20
 shared-slice-read-wide16 : tie.Need-shared-slice-read-wide16
 shared-slice-read-wide16 c = search needs
 
--- src/number.rt:52:9
 wide16-requires : tie.Need-wide16-requires
 wide16-requires c κs = search needs
 
--- src/number.rt:53:22
 add-wide16 : tie.Need-add-wide16
 add-wide16 c = search needs
 
--- src/number.rt:53:20
 shared-slice-read-wide16-2 : tie.Need-shared-slice-read-wide16-2
 shared-slice-read-wide16-2 c = search needs
 
--- src/number.rt:53:9
 wide16-requires-2 : tie.Need-wide16-requires-2
 wide16-requires-2 c κs = search needs
 
--- src/number.rt:54:9
 mul-result : tie.Need-mul-result
 mul-result c = search needs
 
--- src/number.rt:54:5
 add-result : tie.Need-add-result
 add-result c = search needs
 
--- src/number.rt:48:1
 returns : tie.Need-returns
 returns c =
     let a = c .before .before .before .before .before .args in

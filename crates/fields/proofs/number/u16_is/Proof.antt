@@ -1,38 +1,29 @@
-use mathlib.Core.Path.{_≡_, refl, sym, ap, _∙_}
+use mathlib.Core.Path.{sym, ap, _∙_}
 use borrow.Author.Tests.{eq-eqb, ne-eqb}
-use Rattle.fields.specs.Answer.{told16, told32}
+use Rattle.fields.specs.Answer.{told16}
 use borrow.Author.Needs.{needs}
 use Rattle.fields.proofs.number.u16_is.Statement.{statement}
 use Rattle.fields.proofs.number.u16_is.Tie as tie
-use Rattle.fields.proofs.number.u16_is.Reads as reads
-use Rattle.fields.proofs.number.u16_is.Lts as lts
-use Rattle.fields.proofs.number.u16_at.Reads as u16-at-reads
 
--- src/number.rt:154:33
 u16-at-requires : tie.Need-u16-at-requires
 u16-at-requires c κs = search needs
 
--- src/number.rt:154:22
 enum-known-v : tie.Need-enum-known-v
 enum-known-v c = search needs
 
--- src/number.rt:155:9
 enum-told : tie.Need-enum-told
 enum-told c = search needs
 
--- src/number.rt:155:9
 returns : tie.Need-returns
 returns c =
     let call = c .before .before in
     rw (← (sym (ap (told16 _) (c .enum-told .given .1)) ∙ call .u16-at .ensures))
 
--- src/number.rt:158:9
 returns-2 : tie.Need-returns-2
 returns-2 c =
     let v = c .before .before in
     rw (← (sym (ap (told16 _) (v .v .given .1)) ∙ v .before .before .u16-at .ensures)) (simp (ne-eqb _ _ (c .if1 .taken)))
 
--- src/number.rt:151:1
 returns-3 : tie.Need-returns-3
 returns-3 c =
     let v = c .before .before in

@@ -1,30 +1,22 @@
-use mathlib.Core.Path.{_≡_, refl, sym, ap, _∙_}
-use Rattle.fields.specs.Answer.{told16, told32}
+use mathlib.Core.Path.{sym, ap, _∙_}
+use Rattle.fields.specs.Answer.{told16}
 use Rattle.fields.specs.Reader.{orZero}
 use borrow.Author.Needs.{needs}
 use Rattle.fields.proofs.number.u16_or_zero.Statement.{statement}
 use Rattle.fields.proofs.number.u16_or_zero.Tie as tie
-use Rattle.fields.proofs.number.u16_or_zero.Reads as reads
-use Rattle.fields.proofs.number.u16_or_zero.Lts as lts
-use Rattle.fields.proofs.number.u16_at.Reads as u16-at-reads
 
--- src/number.rt:117:11
 u16-at-requires : tie.Need-u16-at-requires
 u16-at-requires c κs = search needs
 
--- src/number.rt:118:22
 enum-known-v : tie.Need-enum-known-v
 enum-known-v c = search needs
 
--- src/number.rt:119:28
 enum-told : tie.Need-enum-told
 enum-told c = search needs
 
--- src/number.rt:114:1
 returns : tie.Need-returns
 returns c = ap orZero (sym (ap (told16 _) (c .before .v .given .1)) ∙ c .before .before .before .u16-at .ensures)
 
--- src/number.rt:114:1
 returns-2 : tie.Need-returns-2
 returns-2 c = ap orZero (sym (ap (told16 _) (c .enum-told .given .1)) ∙ c .before .before .u16-at .ensures)
 

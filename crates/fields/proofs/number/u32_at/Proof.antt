@@ -1,95 +1,71 @@
-use mathlib.Core.Path.{_≡_, refl, sym, ap, _∙_}
+use mathlib.Core.Path.{sym}
 use native.Mathlib.Omega.{arith}
 use denote.Ref.{now}
 use Rattle.fields.proofs.Laws.{field-in, field-short, num-4}
 use borrow.Author.Needs.{needs}
 use Rattle.fields.proofs.number.u32_at.Statement.{statement}
 use Rattle.fields.proofs.number.u32_at.Tie as tie
-use Rattle.fields.proofs.number.u32_at.Reads as reads
-use Rattle.fields.proofs.number.u32_at.Lts as lts
-use Rattle.fields.proofs.number.wide32.Reads as wide32-reads
 
--- src/number.rt:85:9
 returns : tie.Need-returns
 returns c = sym (field-short 4 _ _ (omega arith))
 
--- src/number.rt:88:9
 returns-2 : tie.Need-returns-2
 returns-2 c = sym (field-short 4 _ _ (omega arith))
 
--- src/number.rt:90:20
 shared-slice-read-wide32 : tie.Need-shared-slice-read-wide32
 shared-slice-read-wide32 c = search needs
 
--- src/number.rt:90:9
 wide32-requires : tie.Need-wide32-requires
 wide32-requires c κs = search needs
 
--- src/number.rt:91:22
 add-wide32 : tie.Need-add-wide32
 add-wide32 c = search needs
 
--- src/number.rt:91:20
 shared-slice-read-wide32-2 : tie.Need-shared-slice-read-wide32-2
 shared-slice-read-wide32-2 c = search needs
 
--- src/number.rt:91:9
 wide32-requires-2 : tie.Need-wide32-requires-2
 wide32-requires-2 c κs = search needs
 
--- src/number.rt:92:22
 add-wide32-2 : tie.Need-add-wide32-2
 add-wide32-2 c = search needs
 
--- src/number.rt:92:20
 shared-slice-read-wide32-3 : tie.Need-shared-slice-read-wide32-3
 shared-slice-read-wide32-3 c = search needs
 
--- src/number.rt:92:9
 wide32-requires-3 : tie.Need-wide32-requires-3
 wide32-requires-3 c κs = search needs
 
--- src/number.rt:93:22
 add-wide32-3 : tie.Need-add-wide32-3
 add-wide32-3 c = search needs
 
--- src/number.rt:93:20
 shared-slice-read-wide32-4 : tie.Need-shared-slice-read-wide32-4
 shared-slice-read-wide32-4 c = search needs
 
--- src/number.rt:93:9
 wide32-requires-4 : tie.Need-wide32-requires-4
 wide32-requires-4 c κs = search needs
 
--- src/number.rt:94:20
 mul-t15 : tie.Need-mul-t15
 mul-t15 c = search needs
 
--- src/number.rt:94:20
 add-t16 : tie.Need-add-t16
 add-t16 c = search needs
 
--- src/number.rt:94:19
 mul-t17 : tie.Need-mul-t17
 mul-t17 c = search needs
 
--- src/number.rt:94:19
 add-t18 : tie.Need-add-t18
 add-t18 c = search needs
 
--- src/number.rt:94:18
 mul-t19 : tie.Need-mul-t19
 mul-t19 c = search needs
 
--- src/number.rt:94:18
 add-t20 : tie.Need-add-t20
 add-t20 c = search needs
 
--- src/number.rt:94:55
 add-t9 : tie.Need-add-t9
 add-t9 c = search needs
 
--- src/number.rt:80:1
 returns-3 : tie.Need-returns-3
 returns-3 c =
     let a = c .before .before .before .before .before .before .before .before .before .before .before .args in

@@ -1,30 +1,22 @@
-use mathlib.Core.Path.{_≡_, refl, sym, ap, _∙_}
-use Rattle.fields.specs.Answer.{told16, told32}
+use mathlib.Core.Path.{sym, ap, _∙_}
+use Rattle.fields.specs.Answer.{told32}
 use Rattle.fields.specs.Reader.{orZero}
 use borrow.Author.Needs.{needs}
 use Rattle.fields.proofs.number.u32_or_zero.Statement.{statement}
 use Rattle.fields.proofs.number.u32_or_zero.Tie as tie
-use Rattle.fields.proofs.number.u32_or_zero.Reads as reads
-use Rattle.fields.proofs.number.u32_or_zero.Lts as lts
-use Rattle.fields.proofs.number.u32_at.Reads as u32-at-reads
 
--- src/number.rt:127:11
 u32-at-requires : tie.Need-u32-at-requires
 u32-at-requires c κs = search needs
 
--- src/number.rt:128:22
 enum-known-v : tie.Need-enum-known-v
 enum-known-v c = search needs
 
--- src/number.rt:129:28
 enum-told : tie.Need-enum-told
 enum-told c = search needs
 
--- src/number.rt:124:1
 returns : tie.Need-returns
 returns c = ap orZero (sym (ap (told32 _) (c .before .v .given .1)) ∙ c .before .before .before .u32-at .ensures)
 
--- src/number.rt:124:1
 returns-2 : tie.Need-returns-2
 returns-2 c = ap orZero (sym (ap (told32 _) (c .enum-told .given .1)) ∙ c .before .before .u32-at .ensures)
 

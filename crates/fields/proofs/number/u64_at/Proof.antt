@@ -1,58 +1,43 @@
-use Prim.Native.Nat.{ℕ, _+_, _*_}
+use Prim.Native.Nat.{_+_}
 use Rattle.fields.specs.Reader.{orZero}
-use mathlib.Core.Path.{_≡_, refl, sym, ap, _∙_}
+use mathlib.Core.Path.{sym, ap, _∙_}
 use native.Mathlib.Omega.{arith}
 use denote.Ref.{now}
 use Rattle.fields.proofs.Laws.{field-in, field-short, num-split}
 use borrow.Author.Needs.{needs}
 use Rattle.fields.proofs.number.u64_at.Statement.{statement}
 use Rattle.fields.proofs.number.u64_at.Tie as tie
-use Rattle.fields.proofs.number.u64_at.Reads as reads
-use Rattle.fields.proofs.number.u64_at.Lts as lts
-use Rattle.fields.proofs.number.u32_or_zero.Reads as u32-or-zero-reads
-use Rattle.fields.proofs.number.wide64.Reads as wide64-reads
 
--- src/number.rt:103:9
 returns : tie.Need-returns
 returns c = sym (field-short 8 _ _ (omega arith))
 
--- src/number.rt:106:9
 returns-2 : tie.Need-returns-2
 returns-2 c = sym (field-short 8 _ _ (omega arith))
 
--- src/number.rt:108:23
 u32-or-zero-requires : tie.Need-u32-or-zero-requires
 u32-or-zero-requires c κs = search needs
 
--- src/number.rt:108:9
 wide64-requires : tie.Need-wide64-requires
 wide64-requires c κs = search needs
 
--- src/number.rt:109:37
 add-u32-or-zero : tie.Need-add-u32-or-zero
 add-u32-or-zero c = search needs
 
--- src/number.rt:109:22
 u32-or-zero-requires-2 : tie.Need-u32-or-zero-requires-2
 u32-or-zero-requires-2 c κs = search needs
 
--- src/number.rt:109:9
 wide64-requires-2 : tie.Need-wide64-requires-2
 wide64-requires-2 c κs = search needs
 
--- src/number.rt:110:18
 mul-t9 : tie.Need-mul-t9
 mul-t9 c = search needs
 
--- src/number.rt:110:18
 add-t10 : tie.Need-add-t10
 add-t10 c = search needs
 
--- src/number.rt:110:43
 add-t7 : tie.Need-add-t7
 add-t7 c = search needs
 
--- src/number.rt:98:1
 returns-3 : tie.Need-returns-3
 returns-3 c =
     let a = c .before .before .before .before .before .before .before .args in

@@ -1,30 +1,22 @@
-use mathlib.Core.Path.{_≡_, refl, sym, ap, _∙_}
+use mathlib.Core.Path.{sym, ap, _∙_}
 use Rattle.fields.specs.Answer.{told64}
 use Rattle.fields.specs.Reader.{orZero}
 use borrow.Author.Needs.{needs}
 use Rattle.fields.proofs.number.u64_or_zero.Statement.{statement}
 use Rattle.fields.proofs.number.u64_or_zero.Tie as tie
-use Rattle.fields.proofs.number.u64_or_zero.Reads as reads
-use Rattle.fields.proofs.number.u64_or_zero.Lts as lts
-use Rattle.fields.proofs.number.u64_at.Reads as u64-at-reads
 
--- src/number.rt:149:11
 u64-at-requires : tie.Need-u64-at-requires
 u64-at-requires c κs = search needs
 
--- src/number.rt:150:22
 enum-known-v : tie.Need-enum-known-v
 enum-known-v c = search needs
 
--- src/number.rt:151:28
 enum-told : tie.Need-enum-told
 enum-told c = search needs
 
--- src/number.rt:146:1
 returns : tie.Need-returns
 returns c = ap orZero (sym (ap (told64 _) (c .before .v .given .1)) ∙ c .before .before .before .u64-at .ensures)
 
--- src/number.rt:146:1
 returns-2 : tie.Need-returns-2
 returns-2 c = ap orZero (sym (ap (told64 _) (c .enum-told .given .1)) ∙ c .before .before .u64-at .ensures)
 

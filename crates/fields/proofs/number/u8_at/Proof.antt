@@ -1,26 +1,20 @@
-use mathlib.Core.Path.{_≡_, refl, sym, ap, _∙_}
+use mathlib.Core.Path.{sym}
 use native.Mathlib.Omega.{arith}
 use denote.Ref.{now}
 use Rattle.fields.proofs.Laws.{field-in, field-short, num-1}
 use borrow.Author.Needs.{needs}
 use Rattle.fields.proofs.number.u8_at.Statement.{statement}
 use Rattle.fields.proofs.number.u8_at.Tie as tie
-use Rattle.fields.proofs.number.u8_at.Reads as reads
-use Rattle.fields.proofs.number.u8_at.Lts as lts
 
--- src/number.rt:60:9
 returns : tie.Need-returns
 returns c = sym (field-short 1 _ _ (omega arith))
 
--- src/number.rt:62:17
 shared-slice-read-t6 : tie.Need-shared-slice-read-t6
 shared-slice-read-t6 c = search needs
 
--- src/number.rt:62:24
 add-t3 : tie.Need-add-t3
 add-t3 c = search needs
 
--- src/number.rt:56:1
 returns-2 : tie.Need-returns-2
 returns-2 c =
     let a = c .before .before .args in

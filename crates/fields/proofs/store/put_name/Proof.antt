@@ -1,60 +1,43 @@
-use mathlib.Core.Path.{_≡_, refl, sym, ap, _∙_}
+use mathlib.Core.Path.{sym}
 use native.Mathlib.Omega.{arith}
 use Rattle.fields.proofs.Stores.{stored-out, length-counted, put-counted}
 use borrow.Author.Needs.{needs}
 use Rattle.fields.proofs.store.put_name.Statement.{statement}
 use Rattle.fields.proofs.store.put_name.Tie as tie
-use Rattle.fields.proofs.store.put_name.Reads as reads
-use Rattle.fields.proofs.store.put_name.Lts as lts
-use Rattle.fields.proofs.store.put_run.Reads as put-run-reads
-use Rattle.fields.proofs.store.put_u16.Reads as put-u16-reads
-use Rattle.fields.proofs.store.put_u32.Reads as put-u32-reads
 
--- src/store.rt:64:9
 returns : tie.Need-returns
 returns c = let a = c .before .before .before .args in sym (stored-out _ _ _ (omega (arith, length-counted (a .out .now) (a .at) (a .count) (a .units .now))))
 
--- src/store.rt:67:9
 returns-2 : tie.Need-returns-2
 returns-2 c = let a = c .before .before .before .before .args in sym (stored-out _ _ _ (omega (arith, length-counted (a .out .now) (a .at) (a .count) (a .units .now))))
 
--- src/store.rt:69:8
 sub-if3 : tie.Need-sub-if3
 sub-if3 c = search needs
 
--- src/store.rt:70:9
 returns-3 : tie.Need-returns-3
 returns-3 c = let a = c .before .before .before .before .before .args in sym (stored-out _ _ _ (omega (arith, length-counted (a .out .now) (a .at) (a .count) (a .units .now))))
 
--- src/store.rt:72:5
 put-u32-requires : tie.Need-put-u32-requires
 put-u32-requires c κs = search needs
 
--- src/store.rt:73:18
 add-put-run : tie.Need-add-put-run
 add-put-run c = search needs
 
--- src/store.rt:73:5
 put-run-requires : tie.Need-put-run-requires
 put-run-requires c κs = search needs
 
--- src/store.rt:74:18
 add-put-u16 : tie.Need-add-put-u16
 add-put-u16 c = search needs
 
--- src/store.rt:74:18
 add-put-u16-2 : tie.Need-add-put-u16-2
 add-put-u16-2 c = search needs
 
--- src/store.rt:74:5
 put-u16-requires : tie.Need-put-u16-requires
 put-u16-requires c κs = search needs
 
--- src/store.rt:58:1
 same-length : tie.Need-same-length
 same-length c = search needs
 
--- src/store.rt:58:1
 returns-4 : tie.Need-returns-4
 returns-4 c =
     let p16 = c .before .before in

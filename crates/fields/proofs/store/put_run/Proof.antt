@@ -1,14 +1,12 @@
 use borrow.Author.Needs.{needs}
-use Prim.Native.Nat.{ℕ, _+_, _-_, _≤_}
-use mathlib.Core.Path.{_≡_, refl, sym, ap, _∙_}
+use Prim.Native.Nat.{_+_, _-_, _≤_}
+use mathlib.Core.Path.{_≡_, refl, sym, _∙_}
 use native.Mathlib.Omega.{arith}
 use lib.ListN.{length, length-set, drop}
 use lib.Seq.{sets}
 use Rattle.fields.proofs.Stores.{stored-in, stored-out, copy-start, copy-turn, copy-end}
 use Rattle.fields.proofs.store.put_run.Statement.{statement}
 use Rattle.fields.proofs.store.put_run.Tie as tie
-use Rattle.fields.proofs.store.put_run.Reads as reads
-use Rattle.fields.proofs.store.put_run.Lts as lts
 
 abbrev Inv-loop : tie.InvT-loop
 Inv-loop out₀ at run k n i₀ out i = (i ≤ k) × (sets out₀ at run ≡ sets out (at + i) (drop i run)) × (length out ≡ length out₀)
@@ -16,39 +14,30 @@ Inv-loop out₀ at run k n i₀ out i = (i ≤ k) × (sets out₀ at run ≡ set
 abbrev μ-loop : tie.MeasureT-loop
 μ-loop out₀ at run k n i₀ out i = k - i
 
--- src/store.rt:45:9
 returns : tie.Need-returns Inv-loop μ-loop
 returns c = sym (stored-out _ _ _ (omega arith))
 
--- src/store.rt:48:9
 returns-2 : tie.Need-returns-2 Inv-loop μ-loop
 returns-2 c = sym (stored-out _ _ _ (omega arith))
 
--- src/store.rt:51:5
 loop-holds : tie.Need-loop-holds Inv-loop μ-loop
 loop-holds c = (omega arith, copy-start _ (c .before .before .args .run .now) (c .before .before .args .out .now) (c .before .before .args .at) 0 refl, refl)
 
--- src/store.rt:52:23
 shared-slice-read-out : tie.Need-shared-slice-read-out Inv-loop μ-loop
 shared-slice-read-out c = search needs
 
--- src/store.rt:52:13
 add-out : tie.Need-add-out Inv-loop μ-loop
 add-out c = search needs
 
--- src/store.rt:52:9
 slice-write-out : tie.Need-slice-write-out Inv-loop μ-loop
 slice-write-out c = search needs
 
--- src/store.rt:53:9
 add-i : tie.Need-add-i Inv-loop μ-loop
 add-i c = search needs
 
--- src/store.rt:51:5
 loop-less : tie.Need-loop-less Inv-loop μ-loop
 loop-less c = search needs
 
--- src/store.rt:51:5
 loop-again : tie.Need-loop-again Inv-loop μ-loop
 loop-again c =
     let l = c .before .before .loop in
@@ -58,11 +47,9 @@ loop-again c =
       length-set (l .out) (a .at + l .i) _ ∙ l .inv .2,
     )
 
--- src/store.rt:39:1
 same-length : tie.Need-same-length Inv-loop μ-loop
 same-length c = c .before .loop .inv .2
 
--- src/store.rt:39:1
 returns-3 : tie.Need-returns-3 Inv-loop μ-loop
 returns-3 c =
     let l = c .before .loop in

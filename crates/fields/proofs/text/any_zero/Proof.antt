@@ -2,18 +2,15 @@ use borrow.Author.Tests.{eq-eqb, ne-eqb}
 use mathlib.Core.Logic.{⊎-elim}
 use Rattle.fields.proofs.Texts.{any-start, any-found, any-on, any-end}
 use borrow.Author.Needs.{needs}
-use Prim.Native.Nat.{ℕ, _+_, _-_, _*_, _≤_}
-use mathlib.Core.Bool.{Bool, true, false}
-use mathlib.Core.Path.{_≡_, refl, sym, ap, _∙_}
+use Prim.Native.Nat.{_+_, _-_, _*_, _≤_}
+use mathlib.Core.Bool.{true}
+use mathlib.Core.Path.{_≡_, sym, _∙_}
 use native.Mathlib.Omega.{arith}
-use Rattle.fields.specs.Numbers.{num, nums}
+use Rattle.fields.specs.Numbers.{nums}
 use Rattle.fields.specs.Reader.{pick}
 use Rattle.fields.specs.Text.{anyZero}
 use Rattle.fields.proofs.text.any_zero.Statement.{statement}
 use Rattle.fields.proofs.text.any_zero.Tie as tie
-use Rattle.fields.proofs.text.any_zero.Reads as reads
-use Rattle.fields.proofs.text.any_zero.Lts as lts
-use Rattle.fields.proofs.text.swapped.Reads as swapped-reads
 
 abbrev Inv-loop : tie.InvT-loop
 Inv-loop s at n found₀ i₀ found i = (i ≤ n) × (anyZero (nums 2 n s at) ≡ pick found true (anyZero (nums 2 (n - i) s (at + 2 * i))))
@@ -21,31 +18,24 @@ Inv-loop s at n found₀ i₀ found i = (i ≤ n) × (anyZero (nums 2 n s at) �
 abbrev μ-loop : tie.MeasureT-loop
 μ-loop s at n found₀ i₀ found i = n - i
 
--- src/text.rt:45:5
 loop-holds : tie.Need-loop-holds Inv-loop μ-loop
 loop-holds c = (omega arith, any-start _ _ _)
 
--- src/text.rt:46:28
 mul-swapped : tie.Need-mul-swapped Inv-loop μ-loop
 mul-swapped c = search needs
 
--- src/text.rt:46:23
 add-swapped : tie.Need-add-swapped Inv-loop μ-loop
 add-swapped c = search needs
 
--- src/text.rt:46:12
 swapped-requires : tie.Need-swapped-requires Inv-loop μ-loop
 swapped-requires c κs = search needs
 
--- src/text.rt:49:9
 add-i : tie.Need-add-i Inv-loop μ-loop
 add-i c = search needs
 
--- src/text.rt:45:5
 loop-less : tie.Need-loop-less Inv-loop μ-loop
 loop-less c = search needs
 
--- src/text.rt:45:5
 loop-again : tie.Need-loop-again Inv-loop μ-loop
 loop-again c =
     let l = c .before .before .before .loop in
@@ -58,7 +48,6 @@ loop-again c =
           (c .if1 .came),
     )
 
--- src/text.rt:39:1
 returns : tie.Need-returns Inv-loop μ-loop
 returns c =
     let l = c .before .loop in

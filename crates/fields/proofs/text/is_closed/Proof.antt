@@ -1,47 +1,34 @@
-use mathlib.Core.Path.{_≡_, refl, sym, ap, _∙_}
+use mathlib.Core.Path.{sym, _∙_}
 use native.Mathlib.Omega.{arith}
 use Rattle.fields.proofs.Texts.{closed-none, closed-early, closed-is}
 use borrow.Author.Needs.{needs}
 use Rattle.fields.proofs.text.is_closed.Statement.{statement}
 use Rattle.fields.proofs.text.is_closed.Tie as tie
-use Rattle.fields.proofs.text.is_closed.Reads as reads
-use Rattle.fields.proofs.text.is_closed.Lts as lts
-use Rattle.fields.proofs.text.any_zero.Reads as any-zero-reads
-use Rattle.fields.proofs.text.swapped.Reads as swapped-reads
 
--- src/text.rt:81:9
 returns : tie.Need-returns
 returns c = sym (closed-none _ _ _ (c .if1 .taken))
 
--- src/text.rt:83:24
 sub-any-zero : tie.Need-sub-any-zero
 sub-any-zero c = search needs
 
--- src/text.rt:83:8
 any-zero-requires : tie.Need-any-zero-requires
 any-zero-requires c κs = search needs
 
--- src/text.rt:84:9
 returns-2 : tie.Need-returns-2
 returns-2 c = sym (closed-early _ _ _ (omega arith) (sym (c .before .any-zero .ensures) ∙ c .if2 .taken))
 
--- src/text.rt:86:26
 sub-swapped : tie.Need-sub-swapped
 sub-swapped c = search needs
 
--- src/text.rt:86:21
 mul-swapped : tie.Need-mul-swapped
 mul-swapped c = search needs
 
--- src/text.rt:86:16
 add-swapped : tie.Need-add-swapped
 add-swapped c = search needs
 
--- src/text.rt:86:5
 swapped-requires : tie.Need-swapped-requires
 swapped-requires c κs = search needs
 
--- src/text.rt:76:1
 returns-3 : tie.Need-returns-3
 returns-3 c = c .swapped .ensures ∙ sym (closed-is _ _ _ (omega arith) (sym (c .before .before .any-zero .ensures) ∙ c .before .if2 .left))
 

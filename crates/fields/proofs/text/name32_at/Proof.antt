@@ -1,4 +1,4 @@
-use mathlib.Core.Path.{_≡_, refl, sym, ap, _∙_}
+use mathlib.Core.Path.{sym, ap, _∙_}
 use native.Mathlib.Omega.{arith}
 use denote.Ref.{now}
 use Rattle.fields.specs.Answer.{told32}
@@ -7,31 +7,22 @@ use Rattle.fields.proofs.Texts.{name-short, name-none, name-cut, name-o
 use borrow.Author.Needs.{needs}
 use Rattle.fields.proofs.text.name32_at.Statement.{statement}
 use Rattle.fields.proofs.text.name32_at.Tie as tie
-use Rattle.fields.proofs.text.name32_at.Reads as reads
-use Rattle.fields.proofs.text.name32_at.Lts as lts
-use Rattle.fields.proofs.number.u32_at.Reads as u32-at-reads
-use Rattle.fields.proofs.text.is_closed.Reads as is-closed-reads
 
--- src/text.rt:93:34
 u32-at-requires : tie.Need-u32-at-requires
 u32-at-requires c κs = search needs
 
--- src/text.rt:93:22
 enum-known-n : tie.Need-enum-known-n
 enum-known-n c = search needs
 
--- src/text.rt:94:9
 enum-told : tie.Need-enum-told
 enum-told c = search needs
 
--- src/text.rt:94:9
 returns : tie.Need-returns
 returns c =
     let call = c .before .before in
     let a = call .before .before .args in
     sym (name-short 4 (a .s .now) (a .at) (sym (ap (told32 (a .at)) (c .enum-told .given .1)) ∙ call .u32-at .ensures))
 
--- src/text.rt:97:9
 returns-2 : tie.Need-returns-2
 returns-2 c =
     let nn = c .before .before in
@@ -41,11 +32,9 @@ returns-2 c =
     let f = field-next 4 (a .s .now) (a .at) _ _ e in
     sym (name-none 4 (a .s .now) (a .at) _ _ e (c .if1 .taken))
 
--- src/text.rt:99:13
 cast-k : tie.Need-cast-k
 cast-k c = search needs
 
--- src/text.rt:100:8
 sub-if2 : tie.Need-sub-if2
 sub-if2 c =
     let nn = c .before .before in
@@ -55,11 +44,9 @@ sub-if2 c =
     let f = field-next 4 (a .s .now) (a .at) _ _ e in
     omega arith
 
--- src/text.rt:100:26
 mul-if2 : tie.Need-mul-if2
 mul-if2 c = search needs
 
--- src/text.rt:101:9
 returns-3 : tie.Need-returns-3
 returns-3 c =
     let nn = c .before .before .before in
@@ -69,23 +56,18 @@ returns-3 c =
     let f = field-next 4 (a .s .now) (a .at) _ _ e in
     sym (name-cut 4 (a .s .now) (a .at) _ _ e (omega arith) (omega arith))
 
--- src/text.rt:103:8
 is-closed-requires : tie.Need-is-closed-requires
 is-closed-requires c κs = search needs
 
--- src/text.rt:104:34
 sub-t12 : tie.Need-sub-t12
 sub-t12 c = search needs
 
--- src/text.rt:104:49
 mul-t13 : tie.Need-mul-t13
 mul-t13 c = search needs
 
--- src/text.rt:104:41
 add-t14 : tie.Need-add-t14
 add-t14 c = search needs
 
--- src/text.rt:104:9
 returns-4 : tie.Need-returns-4
 returns-4 c =
     let nn = c .before .before .before .before .before in
@@ -95,7 +77,6 @@ returns-4 c =
     let f = field-next 4 (a .s .now) (a .at) _ _ e in
     sym (name-is 4 (a .s .now) (a .at) _ _ e _ (omega arith) (omega arith) (sym (c .before .is-closed .ensures) ∙ c .if3 .taken) (omega arith))
 
--- src/text.rt:90:1
 returns-5 : tie.Need-returns-5
 returns-5 c =
     let nn = c .before .before .before .before .before in

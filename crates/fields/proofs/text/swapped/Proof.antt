@@ -1,6 +1,6 @@
 use Rattle.fields.specs.Numbers.{num}
 use native.Mathlib.Omega.{arith}
-use mathlib.Core.Path.{_≡_, refl, sym, ap, _∙_}
+use mathlib.Core.Path.{_≡_, ap, _∙_}
 use lib.Dec.{eqb}
 use Prim.Native.Nat.{ℕ, _+_, _*_}
 use denote.Ref.{now}
@@ -9,39 +9,28 @@ use Rattle.fields.proofs.Texts.{swapped-zero}
 use borrow.Author.Needs.{needs}
 use Rattle.fields.proofs.text.swapped.Statement.{statement}
 use Rattle.fields.proofs.text.swapped.Tie as tie
-use Rattle.fields.proofs.text.swapped.Reads as reads
-use Rattle.fields.proofs.text.swapped.Lts as lts
-use Rattle.fields.proofs.text.wide.Reads as wide-reads
 
--- src/text.rt:32:18
 shared-slice-read-wide : tie.Need-shared-slice-read-wide
 shared-slice-read-wide c = search needs
 
--- src/text.rt:32:9
 wide-requires : tie.Need-wide-requires
 wide-requires c κs = search needs
 
--- src/text.rt:33:20
 add-wide : tie.Need-add-wide
 add-wide c = search needs
 
--- src/text.rt:33:18
 shared-slice-read-wide-2 : tie.Need-shared-slice-read-wide-2
 shared-slice-read-wide-2 c = search needs
 
--- src/text.rt:33:9
 wide-requires-2 : tie.Need-wide-requires-2
 wide-requires-2 c κs = search needs
 
--- src/text.rt:34:9
 mul-result : tie.Need-mul-result
 mul-result c = search needs
 
--- src/text.rt:34:5
 add-result : tie.Need-add-result
 add-result c = search needs
 
--- src/text.rt:28:1
 returns : tie.Need-returns
 returns c =
     let a = c .before .before .before .before .before .args in
