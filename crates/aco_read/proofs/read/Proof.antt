@@ -38,7 +38,7 @@ returns c =
     let a = j .before .before .before .args in
     let s = a .file .now in
     let k = accepted-of (aco s) (sym (ap told (v .colours .given .1)) ∙ j .judge .ensures) in
-    filled-short s _ _ k (a .table .now) (c .if1 .taken)
+    filled-short s _ _ k (a .table .now) (omega (arith, c .if1 .taken))
 
 fill-plain-requires : tie.Need-fill-plain-requires
 fill-plain-requires c κs =
@@ -47,7 +47,7 @@ fill-plain-requires c κs =
     let a = j .before .before .before .args in
     let s = a .file .now in
     let k = accepted-of (aco s) (sym (ap told (v .colours .given .1)) ∙ j .judge .ensures) in
-    (subst (λ (l : ℕ). Accepted (aco s) l (v .colours .given .0 .0)) (c .before .if2 .taken) k, c .before .before .if1 .left)
+    (subst (λ (l : ℕ). Accepted (aco s) l (v .colours .given .0 .0)) (c .before .if2 .taken) k, omega (arith, c .before .before .if1 .left))
 
 fill-named-requires : tie.Need-fill-named-requires
 fill-named-requires c κs =
@@ -56,7 +56,7 @@ fill-named-requires c κs =
     let a = j .before .before .before .args in
     let s = a .file .now in
     let k = accepted-of (aco s) (sym (ap told (v .colours .given .1)) ∙ j .judge .ensures) in
-    (subst (λ (l : ℕ). Accepted (aco s) l (v .colours .given .0 .0)) (not-one s _ _ k (c .before .if2 .left)) k, c .before .before .if1 .left)
+    (subst (λ (l : ℕ). Accepted (aco s) l (v .colours .given .0 .0)) (not-one s _ _ k (c .before .if2 .left)) k, omega (arith, c .before .before .if1 .left))
 
 returns-2 : tie.Need-returns-2
 returns-2 c =
