@@ -49,6 +49,19 @@ typedef struct {
     size_t length;
 } khuyurek_aco_written;
 
+/* number 0: given, with the bits of the channel, an IEEE 754 float of 32 bits.
+ * Else the refusal, whose place is 0; bits is 0. */
+typedef struct {
+    uint32_t number;
+    uint32_t bits;
+} khuyurek_channel;
+
+/* number 0: given, with the sample. Else the refusal, whose place is 0; sample is 0. */
+typedef struct {
+    uint32_t number;
+    uint16_t sample;
+} khuyurek_sample;
+
 khuyurek_aco_answer khuyurek_aco_judge(const uint8_t *file, size_t file_len);
 
 /* Needs KHUYUREK_ACO_WIDTH * colours numbers of the table, else 11; the rest of it
@@ -68,6 +81,20 @@ khuyurek_aco_written khuyurek_aco_length(const uint32_t *records, size_t records
 khuyurek_aco_written khuyurek_aco_write(const uint32_t *records, size_t records_len,
                                         const uint8_t *text, size_t text_len,
                                         uint8_t *out, size_t out_len);
+
+/* The colour models of ASE, by their tags. */
+#define KHUYUREK_RGB 0x52474220u
+#define KHUYUREK_CMYK 0x434D594Bu
+#define KHUYUREK_LAB 0x4C414220u
+#define KHUYUREK_GRAY 0x47726179u
+
+/* One sample of an ACO space (0 RGB, 1 HSB, 2 CMYK, 7 Lab, 8 gray) to a channel from
+ * 0 to 1: 4 for an unknown space, 14 for HSB and Lab. */
+khuyurek_channel khuyurek_to_channel(uint16_t space, uint16_t sample);
+
+/* One channel of a model, by its bits, to the nearest sample: 4 for an unknown model,
+ * 5 for a channel that is not finite, or outside 0 to 1 save in Lab, then 14 for Lab. */
+khuyurek_sample khuyurek_to_sample(uint32_t model, uint32_t bits);
 
 #ifdef __cplusplus
 }

@@ -1,5 +1,5 @@
 /* The header and the archive from C: P3 is read, listed by its record and written back; P4 is
- * refused with its record and field. */
+ * refused with its record and field; a few samples and channels are converted. */
 #include <stdio.h>
 #include <string.h>
 
@@ -10,6 +10,12 @@ static const uint8_t P3[36] = {
     0x00, 0x00, 0x00, 0x02, 0x00, 0x01, 0x00, 0x00, 0xFF, 0xFF, 0x00, 0x00,
     0x80, 0x80, 0x00, 0x00, 0x00, 0x00, 0x00, 0x02, 0x00, 0x41, 0x00, 0x00,
 };
+
+/* The tags `RGB ` and `CMYK` as numbers, and the bits of two channels. */
+#define RGB_MODEL 0x52474220u
+#define CMYK_MODEL 0x434D594Bu
+#define HALF 0x3F000000u
+#define ONE 0x3F800000u
 
 #define CHECK(test)                                          \
     do {                                                     \
@@ -46,6 +52,15 @@ int main(void) {
     p4[25] = 0x81;
     khuyurek_aco_answer differs = khuyurek_aco_judge(p4, sizeof p4);
     CHECK(differs.number == 7 && differs.place == 24 && differs.record == 0 && differs.field == 3);
+
+    khuyurek_sample rgb = khuyurek_to_sample(RGB_MODEL, HALF);
+    CHECK(rgb.number == 0 && rgb.sample == 32768);
+    khuyurek_sample cmyk = khuyurek_to_sample(CMYK_MODEL, HALF);
+    CHECK(cmyk.number == 0 && cmyk.sample == 32767);
+    khuyurek_channel gray = khuyurek_to_channel(8, 65535);
+    CHECK(gray.number == 0 && gray.bits == ONE);
+    khuyurek_channel unknown = khuyurek_to_channel(3, 65535);
+    CHECK(unknown.number == 4 && unknown.bits == 0);
     puts("C agrees");
     return 0;
 }

@@ -63,7 +63,7 @@ colour-complete w a =
     let x : ℕ = w .space in
     let f : All (λ k v. sampleFault x k v ≡ 0) 0 (w .samples) =
     all-map (λ k v. (v ≤ 65535) × (a .used ≤ k → v ≡ 0)) (λ k v. sampleFault x k v ≡ 0)
-    (λ k v h. let g = h .1 in ap (λ (b : Bool). pick b 0 5) (unused-allowed x k v (λ l. g (subst (λ (u : ℕ). u ≤ k) (space-uses (a .space)) l)))) 0 (w .samples) (a .samples) in
+    (λ k v h. let g = h .1 in ap (λ (b : Bool). pick b 0 5) (unused-allowed x k v (h .0) (λ l. g (subst (λ (u : ℕ). u ≤ k) (space-uses (a .space)) l)))) 0 (w .samples) (a .samples) in
     first-none (spaceFault x) (faultsFrom (sampleFault x) 0 (w .samples)) (ap (λ (b : Bool). pick b 0 4) (space-known (a .space))) ∙ faults-none (sampleFault x) 0 (w .samples) f
 
 name-complete : (w : Swatch) → Allowed w → nameFault w ≡ 0

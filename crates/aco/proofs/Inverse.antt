@@ -13,7 +13,7 @@ use Rattle.fields.specs.Numbers.{num, nums}
 use Rattle.fields.specs.Reader.{ok, pick, Judged, fine, fault, unless, judged, each}
 use Rattle.fields.specs.Text.{Name, name, front}
 use Rattle.fields.proofs.Inverse.{then-inv, pick-inv, judged-inv, name-inv, front-nums, ended-inv, each-none, each-inv, each-length, fields-inv, fields-fine, unless-fine, pick-fine, ok-value, ok-place}
-use Rattle.colour.specs.declared.Colour.{Colour}
+use Rattle.colour.specs.declared.space.Colour.{Colour}
 use Rattle.aco.specs.Reading.{most, colour, heading, fieldOf, twin, Entry, entry, Contents, black, second, unnamed, after, lists, aco}
 use Rattle.aco.specs.Raw.{rawColours}
 use Rattle.aco.specs.Places.{nextEntry, entryPlace}

@@ -13,7 +13,7 @@ use Rattle.fields.specs.Reader.{Res, ok, refuse, Reader, then, pick, rule, fiel
 use Rattle.fields.specs.Text.{Name, name, place}
 use Rattle.fields.proofs.Laws.{field-in, judged-short, judged-bad, judged-ok, then-ok, done-refuse, done-const, ended-done, each-turn, turn-ok, turn-end, inner-ok}
 use Rattle.fields.proofs.Inverse.{then-inv, field-inv, judged-inv, ended-inv, done-inv, each-length}
-use Rattle.colour.specs.declared.Colour.{Colour}
+use Rattle.colour.specs.declared.space.Colour.{Colour}
 use Rattle.colour.specs.Spaces.{known, allowed, sound}
 use Rattle.colour.proofs.Laws.{sound-inv}
 use Rattle.aco.specs.Reading.{most, space, sample, samples, colour, heading, fieldOf, twin, Entry, entry, Contents, black, second, unnamed, after, lists, aco}

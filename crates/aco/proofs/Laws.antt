@@ -16,8 +16,9 @@ use Rattle.fields.specs.Algebra.{Lawful, Exact}
 use Rattle.fields.proofs.Inverse.{unless-fine, pick-fine}
 use Rattle.fields.proofs.Lawful.{judged-lawful, give-lawful, bind-lawful, each-lawful, name-lawful}
 use Rattle.fields.proofs.Exact.{all-map, all-from, all-at, all-by, map-id, judged-exact, same-exact, one-exact, give-exact, bind-exact, each-exact, name-exact}
-use Rattle.colour.specs.declared.Colour.{Colour}
+use Rattle.colour.specs.declared.space.Colour.{Colour}
 use Rattle.colour.specs.Spaces.{uses, known, allowed}
+use Rattle.colour.proofs.Laws.{sample-by}
 use Rattle.aco.specs.Grammar.{Swatch, Space, rgb, hsb, cmyk, lab, gray, Allowed, colourBytes, entryBytes}
 use Rattle.aco.specs.Reading.{space, sample, samples, colour, heading, fieldOf, twin, Entry, entry, swatch}
 
@@ -54,9 +55,8 @@ pub allowed-unused : (x k v : ℕ) → allowed x k v ≡ true → uses x ≤ k �
 unfolding allowed
 allowed-unused x k v e h = eqb-true v 0 (simp (le-ltb k (uses x) h) at e)
 
-pub unused-allowed : (x k v : ℕ) → (uses x ≤ k → v ≡ 0) → allowed x k v ≡ true
-unfolding allowed
-unused-allowed x k v h = go (ltb k (uses x)) refl
+pub unused-allowed : (x k v : ℕ) → v ≤ 65535 → (uses x ≤ k → v ≡ 0) → allowed x k v ≡ true
+unused-allowed x k v f h = sym (sample-by x (uses x) k v refl (omega arith)) ∙ go (ltb k (uses x)) refl
   where
     go : (b : Bool) → ltb k (uses x) ≡ b → pick b true (eqb v 0) ≡ true
     go true e = refl
@@ -118,7 +118,7 @@ painted-tested c p = (
   (
     p .four,
     all-map (λ k v. (v ≤ 65535) × (p .used ≤ k → v ≡ 0)) (λ k v. (v < 256 ^ 2) × (sample (c .space) k v ≡ fine))
-        (λ k v h. let f = h .1 in (omega (arith, h .0), ap (λ (b : Bool). unless b 5) (unused-allowed (c .space) k v (λ l. f (subst (λ (u : ℕ). u ≤ k) (space-uses (p .of)) l))))) 0 (c .samples) (p .fit),
+        (λ k v h. let f = h .1 in (omega (arith, h .0), ap (λ (b : Bool). unless b 5) (unused-allowed (c .space) k v (h .0) (λ l. f (subst (λ (u : ℕ). u ≤ k) (space-uses (p .of)) l))))) 0 (c .samples) (p .fit),
   ),
 )
 

@@ -10,7 +10,7 @@ use Rattle.fields.specs.Numbers.{num, nums}
 use Rattle.fields.specs.Reader.{ok, fine, judged, each}
 use Rattle.fields.proofs.Places.{getD-nums}
 use Rattle.fields.proofs.Inverse.{then-inv, judged-inv, fields-inv, fields-fine, fields-inside, each-none, each-inv, each-moves, unless-fine, ok-value, ok-place}
-use Rattle.colour.specs.declared.Colour.{Colour}
+use Rattle.colour.specs.declared.space.Colour.{Colour}
 use Rattle.colour.specs.Spaces.{known, allowed}
 use Rattle.aco.specs.Reading.{space, sample, samples, colour, fieldOf, black}
 use Rattle.aco.specs.Raw.{rawColour, rawColours}

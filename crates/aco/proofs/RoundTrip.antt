@@ -13,7 +13,7 @@ use Rattle.fields.proofs.Places.{length-nums, at-whole}
 use Rattle.fields.proofs.Inverse.{each-length, ok-value}
 use Rattle.fields.proofs.Exact.{length-map}
 use Rattle.fields.proofs.Tells.{outcome-number}
-use Rattle.colour.specs.declared.Colour.{Colour}
+use Rattle.colour.specs.declared.space.Colour.{Colour}
 use Rattle.aco.specs.Grammar.{Swatch, File, plain, named, twoLists}
 use Rattle.aco.specs.Reading.{fieldOf, Entry, entry, Contents, black, unnamed, lists, aco, swatch}
 use Rattle.aco.specs.Raw.{rawColour, rawColours}

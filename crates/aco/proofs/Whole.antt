@@ -14,7 +14,7 @@ use Rattle.fields.specs.Reader.{ok, pick, Judged, fine, fault, unless, each, en
 use Rattle.fields.specs.Text.{Named, nameBytes}
 use Rattle.fields.proofs.Places.{length-be, length-bes, joined-map, at-in, at-left, at-after, at-next, at-all, at-whole, bytes-append, bytes-be, bytes-joined}
 use Rattle.fields.proofs.Exact.{all-map, all-at, all-by, length-map, map-id, length-nameBytes, each-exact}
-use Rattle.colour.specs.declared.Colour.{Colour}
+use Rattle.colour.specs.declared.space.Colour.{Colour}
 use Rattle.aco.specs.Grammar.{Swatch, rgb, Allowed, Palette, File, plain, named, colourBytes, entryBytes, listOne, listTwo, twoLists}
 use Rattle.aco.specs.Reading.{most, colour, heading, Entry, entry, Contents, black, second, unnamed, after, lists, aco, swatch}
 use Rattle.aco.proofs.Laws.{hue, paint, label, Painted, painted-sized, allowed-painted, painted-allowed, colour-exact, heading-exact, entry-exact}

@@ -18,7 +18,7 @@ use Rattle.fields.proofs.Places.{length-be, length-bes, at-in, at-left, at-afte
 use Rattle.fields.proofs.Inverse.{rule-inv, ok-value}
 use Rattle.fields.proofs.Exact.{all-at, all-by, length-map, map-id}
 use Rattle.fields.proofs.Tells.{Outcome, good, outcome-fault, outcome-then, outcome-rule, outcome, same-tells, Gives, exact-tells, exact-gives, unless-tells, unless-found, unless-sure, judged-gives, give-tells, bind-tells, each-tells, each-gives, name-tells, name-gives, first-zero, first-none, faults-from, faults-map}
-use Rattle.colour.specs.declared.Colour.{Colour}
+use Rattle.colour.specs.declared.space.Colour.{Colour}
 use Rattle.colour.specs.Spaces.{known, allowed}
 use Rattle.aco.specs.Grammar.{Swatch, colourBytes, entryBytes, listOne, listTwo, twoLists}
 use Rattle.aco.specs.Reading.{most, space, sample, samples, colour, heading, entry, black, second, after, lists}

@@ -6,7 +6,7 @@ use lib.Dec.{eqb}
 use lib.ListN.{length}
 use Rattle.fields.specs.Numbers.{num, nums}
 use Rattle.fields.specs.Reader.{Reader, ok, then, done, judged, unless, field, each}
-use Rattle.colour.specs.declared.Colour.{Colour}
+use Rattle.colour.specs.declared.space.Colour.{Colour}
 use Rattle.aco.specs.Reading.{Contents, colour, after}
 
 -- the ten bytes from `at`

@@ -6,7 +6,7 @@ use lib.Dec.{leb, eqb}
 use lib.ListN.{length, getD}
 use Rattle.fields.specs.Reader.{Res, ok, refuse, Reader, then, pick, field, rule, Judged, fine, fault, unless, judged, give, _>>=_, each, ended, limit}
 use Rattle.fields.specs.Text.{Name, name}
-use Rattle.colour.specs.declared.Colour.{Colour}
+use Rattle.colour.specs.declared.space.Colour.{Colour}
 use Rattle.colour.specs.Spaces.{known, allowed}
 use Rattle.aco.specs.Grammar.{Swatch}
 

@@ -15,7 +15,7 @@ use Rattle.fields.proofs.Laws.{field-in}
 use Rattle.fields.proofs.Places.{length-nums}
 use Rattle.fields.proofs.Inverse.{pick-inv}
 use Rattle.fields.proofs.Stores.{sets-append}
-use Rattle.colour.specs.declared.Colour.{Colour}
+use Rattle.colour.specs.declared.space.Colour.{Colour}
 use Rattle.aco.specs.Reading.{Entry, Contents, black, unnamed, lists, aco}
 use Rattle.aco.specs.Raw.{rawColour}
 use Rattle.aco.specs.Places.{entryPlace}

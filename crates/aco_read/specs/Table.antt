@@ -7,7 +7,7 @@ use lib.Dec.{leb, ltb}
 use Rattle.fields.specs.Numbers.{joined}
 use Rattle.fields.specs.Reader.{Res, ok, refuse, pick}
 use Rattle.fields.specs.Store.{part}
-use Rattle.colour.specs.declared.Colour.{Colour}
+use Rattle.colour.specs.declared.space.Colour.{Colour}
 use Rattle.aco.specs.Reading.{Entry, Contents, black, unnamed}
 use Rattle.aco.specs.Answer.{Verdict, accepted, refused}
 

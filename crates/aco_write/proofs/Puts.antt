@@ -15,7 +15,7 @@ use Rattle.fields.specs.Text.{nameBytes, countedUnits}
 use Rattle.fields.proofs.Stores.{stored-in, sets-append, length-stored}
 use Rattle.fields.proofs.Places.{length-be, length-bes, length-nums, length-part, part-nums}
 use Rattle.fields.proofs.Exact.{length-map, length-nameBytes}
-use Rattle.colour.specs.declared.Colour.{Colour}
+use Rattle.colour.specs.declared.space.Colour.{Colour}
 use Rattle.aco.specs.Grammar.{Swatch, colourBytes, entryBytes, listOne, listTwo, twoLists}
 use Rattle.aco.proofs.Whole.{length-colour}
 use Rattle.aco_write.specs.Writing.{Given, givenAt, givens, swatchIn, sizes, size, nameFault}

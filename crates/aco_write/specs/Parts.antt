@@ -6,7 +6,7 @@ use lib.Dec.{eqb}
 use lib.ListN.{length}
 use Rattle.fields.specs.Reader.{pick, limit}
 use Rattle.fields.specs.Faults.{faults}
-use Rattle.colour.specs.declared.Colour.{Colour}
+use Rattle.colour.specs.declared.space.Colour.{Colour}
 use Rattle.aco.specs.Grammar.{Swatch}
 use Rattle.aco_write.specs.Writing.{Given, sizes, nameFault}
 

@@ -5,7 +5,7 @@ use mathlib.Core.List.{List, [], _∷_, map}
 use Rattle.fields.specs.Numbers.{num, nums}
 use Rattle.fields.specs.Reader.{Res, ok, refuse, field, body, each, ended}
 use Rattle.fields.specs.Text.{Name, anyZero, closed, front, name}
-use Rattle.colour.specs.Spaces.{uses, known, allowed}
+use Rattle.colour.specs.Spaces.{uses, full, known, allowed}
 use Rattle.aco.specs.Reading.{Entry, Contents, samples, colour, heading, entry, second, after, lists, aco}
 
 unfoldable pub p2 : List ℕ
@@ -22,5 +22,5 @@ pub agreed : map aco ([] ∷ p2 ∷ p3 0x80 ∷ p3 0x81 ∷ (0 ∷ 1 ∷ 0 ∷ 0
     ∷ refuse 7 24 0 3
     ∷ ok (record { lists = 2; records = [] }) 8
     ∷ []
-unfolding p2 p3 num nums field body each ended anyZero closed front name uses known allowed samples colour heading entry second after lists aco
+unfolding p2 p3 num nums field body each ended anyZero closed front name uses full known allowed samples colour heading entry second after lists aco
 agreed = refl

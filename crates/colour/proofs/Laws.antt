@@ -1,28 +1,50 @@
 -- Which colours have no fault, on plain values. Assumes nothing.
-use Prim.Native.Nat.{ℕ, _<_}
-use mathlib.Core.Path.{_≡_, refl, sym, ap, _∙_}
+use Prim.Native.Nat.{ℕ, _≤_, _<_}
+use mathlib.Core.Path.{_≡_, refl, sym, ap, _∙_, subst}
 use mathlib.Core.List.{List, [], _∷_}
 use mathlib.Core.Bool.{Bool, true, false, true≢false}
-use lib.Dec.{ltb, eqb}
-use borrow.Author.Tests.{lt-ltb}
+use native.Mathlib.Omega.{arith}
+use lib.Dec.{leb, ltb, eqb}
+use borrow.Author.Tests.{lt-ltb, le-leb, ltb-true}
 use Rattle.fields.specs.Reader.{pick}
-use Rattle.colour.specs.Spaces.{uses, known, allowed, allAllowed, sound}
+use Rattle.colour.specs.Spaces.{uses, full, known, allowed, allAllowed, sound}
 
-pub sample-by : (x u k v : ℕ) → u ≡ uses x → pick (ltb k u) true (eqb v 0) ≡ allowed x k v
+-- every known space runs to 65,535
+pub full-known : (x k : ℕ) → k < uses x → full x ≡ 65535
+unfolding uses full
+full-known x k h = go (eqb x 0) (eqb x 1) (eqb x 2) (eqb x 7) (eqb x 8) h
+  where
+    go : (a b c d e : Bool) → k < pick a 3 (pick b 3 (pick c 4 (pick d 3 (pick e 1 0)))) → _≡_ {A = ℕ} (pick a 65535 (pick b 65535 (pick c 65535 (pick d 65535 (pick e 65535 0))))) 65535
+    go true b c d e g = refl
+    go false true c d e g = refl
+    go false false true d e g = refl
+    go false false false true e g = refl
+    go false false false false true g = refl
+    go false false false false false g = absurd (none g)
+      where
+        none : k < 0 → ⊥
+        none i = omega arith
+
+-- 16 bits hold no sample past the scale
+pub sample-by : (x u k v : ℕ) → u ≡ uses x → v < 65536 → pick (ltb k u) true (eqb v 0) ≡ allowed x k v
 unfolding allowed
-sample-by x u k v e = ap (λ (n : ℕ). pick (ltb k n) true (eqb v 0)) e
+sample-by x u k v e h = ap (λ (n : ℕ). pick (ltb k n) true (eqb v 0)) e ∙ go (ltb k (uses x)) refl
+  where
+    go : (b : Bool) → ltb k (uses x) ≡ b → pick b true (eqb v 0) ≡ pick b (leb v (full x)) (eqb v 0)
+    go false q = refl
+    go true q = sym (le-leb v (full x) (subst (λ (n : ℕ). v ≤ n) (sym (full-known x k (ltb-true k (uses x) q))) (omega arith)))
 
 pub sound-unknown : (x : ℕ) (vs : List ℕ) → uses x ≡ 0 → sound x vs ≡ false
 unfolding sound known
 sound-unknown x vs e = rw e
 
 -- the first sample of a known space is always used
-pub sound-known : (x a b c d : ℕ) → 0 < uses x → sound x (a ∷ b ∷ c ∷ d ∷ []) ≡ pick (allowed x 1 b) (pick (allowed x 2 c) (pick (allowed x 3 d) true false) false) false
+pub sound-known : (x a b c d : ℕ) → 0 < uses x → a < 65536 → sound x (a ∷ b ∷ c ∷ d ∷ []) ≡ pick (allowed x 1 b) (pick (allowed x 2 c) (pick (allowed x 3 d) true false) false) false
 unfolding sound known allAllowed
-sound-known x a b c d h = rw (lt-ltb 0 (uses x) h, first)
+sound-known x a b c d h g = rw (lt-ltb 0 (uses x) h, first)
   where
     first : allowed x 0 a ≡ true
-    first = sym (sample-by x (uses x) 0 a refl) ∙ rw (lt-ltb 0 (uses x) h)
+    first = sym (sample-by x (uses x) 0 a refl g) ∙ rw (lt-ltb 0 (uses x) h)
 
 pub pick-same : (b : Bool) → pick b true false ≡ b
 pick-same true = refl

@@ -1,1 +1,4 @@
+pub mod Models
 pub mod Spaces
+pub mod Channels
+pub mod Convert

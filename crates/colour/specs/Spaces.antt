@@ -2,19 +2,45 @@
 use Prim.Native.Nat.{ℕ, _+_}
 use mathlib.Core.Bool.{Bool, true, false}
 use mathlib.Core.List.{List, [], _∷_}
-use lib.Dec.{ltb, eqb}
+use lib.Dec.{leb, ltb, eqb}
 use Rattle.fields.specs.Reader.{pick}
+use Rattle.colour.specs.Models.{traitsOf}
+use Rattle.colour.specs.declared.model.Model.the-variants.{Rgb, Cmyk, Lab, Gray}
 
--- how many of its four samples a colour of a space uses: 0 RGB, 1 HSB and 7 Lab three, 2 CMYK four, 8 gray one; no other space is known
+abbrev pub rgb : ℕ
+rgb = 0
+
+abbrev pub hsb : ℕ
+hsb = 1
+
+abbrev pub cmyk : ℕ
+cmyk = 2
+
+abbrev pub lab : ℕ
+lab = 7
+
+abbrev pub gray : ℕ
+gray = 8
+
+-- how many of its four samples a colour of a space uses: RGB, HSB and Lab three, CMYK four, gray one; no other space is known
 unfoldable pub uses : ℕ → ℕ
-uses x = pick (eqb x 0) 3 (pick (eqb x 1) 3 (pick (eqb x 2) 4 (pick (eqb x 7) 3 (pick (eqb x 8) 1 0))))
+uses x = pick (eqb x rgb) 3 (pick (eqb x hsb) 3 (pick (eqb x cmyk) 4 (pick (eqb x lab) 3 (pick (eqb x gray) 1 0))))
+
+-- the largest sample of a space: that of its model, where it has one
+unfoldable pub full : ℕ → ℕ
+full x =
+    pick (eqb x rgb) (traitsOf Rgb .full)
+    (pick (eqb x hsb) 65535
+    (pick (eqb x cmyk) (traitsOf Cmyk .full)
+    (pick (eqb x lab) (traitsOf Lab .full)
+    (pick (eqb x gray) (traitsOf Gray .full) 0))))
 
 unfoldable pub known : ℕ → Bool
 known x = ltb 0 (uses x)
 
 -- whether the sample at a position of a colour of a space may have a value: one that the space does not use is 0
 unfoldable pub allowed : ℕ → ℕ → ℕ → Bool
-allowed x k v = pick (ltb k (uses x)) true (eqb v 0)
+allowed x k v = pick (ltb k (uses x)) (leb v (full x)) (eqb v 0)
 
 -- the samples of a colour of a space, from position k, are all allowed
 unfoldable pub allAllowed : ℕ → ℕ → List ℕ → Bool

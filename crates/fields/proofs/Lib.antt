@@ -7,3 +7,4 @@ pub mod Exact
 pub mod Tells
 pub mod Stores
 pub mod Texts
+pub mod Floats

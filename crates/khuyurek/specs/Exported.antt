@@ -1,13 +1,17 @@
 -- What each exported answer says: refusal number 0 is accepted, and all that an answer does not have is 0.
 use Prim.Native.Nat.{ℕ}
 use mathlib.Core.List.{List}
-use Rattle.colour.specs.declared.Colour.{Colour}
+use Rattle.colour.specs.declared.space.Colour.{Colour}
 use Rattle.aco.specs.Answer.{Verdict, accepted, refused}
 use Rattle.aco_read.specs.Table.{Where, lies, refusal}
 use Rattle.aco_write.specs.Writing.{Outcome, bytes, refused as unwritten}
+use lib.Ieee.{Float, binary32, toBits}
+use Rattle.colour.specs.Convert.{Converted, gives, refused as noChannel}
 use Rattle.khuyurek.specs.declared.AcoAnswer.{AcoAnswer}
 use Rattle.khuyurek.specs.declared.AcoRecord.{AcoRecord}
 use Rattle.khuyurek.specs.declared.AcoWritten.{AcoWritten}
+use Rattle.khuyurek.specs.declared.ChannelBits.{ChannelBits}
+use Rattle.khuyurek.specs.declared.SampleValue.{SampleValue}
 
 abbrev pub answerOf : Verdict → AcoAnswer
 answerOf (accepted n l) = record { number = 0; place = 0; rec = 0; field = 0; colours = n; lists = l }
@@ -30,3 +34,11 @@ readOf v = (answerOf (v .0), v .1)
 
 abbrev pub wroteOf : Outcome × List ℕ → AcoWritten × List ℕ
 wroteOf o = (writtenOf (o .0), o .1)
+
+abbrev pub channelOf : Converted Float → ChannelBits
+channelOf (gives x) = record { number = 0; bits = toBits binary32 x }
+channelOf (noChannel n p) = record { number = n; bits = 0 }
+
+abbrev pub sampleOf : Converted ℕ → SampleValue
+sampleOf (gives v) = record { number = 0; sample = v }
+sampleOf (noChannel n p) = record { number = n; sample = 0 }

@@ -6,11 +6,14 @@ ghost use Rattle.aco.specs.Answer.{verdict, told};
 ghost use Rattle.aco_read.specs.Table.{filled, recordAt, lies, refusal};
 ghost use Rattle.aco_write.specs.Writing.{given, needed, written};
 ghost use Rattle.aco_write.specs.Answer.{told as toldWritten};
-ghost use Rattle.khuyurek.specs.Exported.{answerOf, placed, recordOf, writtenOf, readOf, wroteOf};
+ghost use Rattle.colour.specs.Convert.{toChannel, toSample, toldChannel, toldSample};
+ghost use Rattle.khuyurek.specs.Exported.{answerOf, placed, recordOf, writtenOf, readOf, wroteOf, channelOf, sampleOf};
 use aco::Answer;
 use aco_read::NamePlace;
 use aco_write::Written;
+use colour::Channel;
 use colour::Colour;
+use colour::Sample;
 
 // Number 0 is accepted, with the number of colours and of lists; else the refusal with its place,
 // and for 7 the record and field.
@@ -43,6 +46,20 @@ pub struct AcoRecord {
 pub struct AcoWritten {
     pub number: u32,
     pub size: usize,
+}
+
+// Number 0 is given, with the bits of the channel; else the refusal, whose place is 0.
+#[repr(C)]
+pub struct ChannelBits {
+    pub number: u32,
+    pub bits: u32,
+}
+
+// Number 0 is given, with the sample; else the refusal, whose place is 0.
+#[repr(C)]
+pub struct SampleValue {
+    pub number: u32,
+    pub sample: u16,
 }
 
 fn exported(a: Answer) -> AcoAnswer
@@ -170,4 +187,41 @@ pub extern "C" fn khuyurek_aco_write(records: &[u32], text: &[u8], out: &mut [u8
     ensures { λ r. ⌜ (r, now (out .exit)) ≡ wroteOf (written (now (text .entry)) (given (now (records .entry))) (now (out .entry))) ⌝ }
 {
     exported_length(aco_write::write(records, text, out))
+}
+
+fn exported_channel(c: Channel) -> ChannelBits
+    ensures { λ r. ⌜ r ≡ channelOf (toldChannel c) ⌝ }
+{
+    match c {
+        Channel::Is(x) => ChannelBits {
+            number: 0,
+            bits: colour::bits_of(x),
+        },
+        Channel::Refused(number) => ChannelBits { number, bits: 0 },
+    }
+}
+
+fn exported_sample(s: Sample) -> SampleValue
+    ensures { λ r. ⌜ r ≡ sampleOf (toldSample s) ⌝ }
+{
+    match s {
+        Sample::Is(sample) => SampleValue { number: 0, sample },
+        Sample::Refused(number) => SampleValue { number, sample: 0 },
+    }
+}
+
+// The channel of a sample of a space.
+#[no_mangle]
+pub extern "C" fn khuyurek_to_channel(space: u16, sample: u16) -> ChannelBits
+    ensures { λ r. ⌜ r ≡ channelOf (toChannel space sample) ⌝ }
+{
+    exported_channel(colour::to_channel(space, sample))
+}
+
+// The sample of a channel, by its bits, of the model with a tag.
+#[no_mangle]
+pub extern "C" fn khuyurek_to_sample(model: u32, bits: u32) -> SampleValue
+    ensures { λ r. ⌜ r ≡ sampleOf (toSample model bits) ⌝ }
+{
+    exported_sample(colour::to_sample(model, bits))
 }

@@ -1,5 +1,8 @@
-//! Times the proved library against the reference, in the same run.
+//! Times the proved library against the reference, and its conversions against
+//! plain floats as well, in the same run.
 
+mod conversion;
+mod plain;
 mod timing;
 
 use generate::{Lot, Palette, Random};
@@ -38,19 +41,27 @@ const KINDS: [Kind; 3] = [
 ];
 
 fn main() -> ExitCode {
-    let rounds = match std::env::args().nth(1).map(|word| word.parse()) {
+    let args: Vec<String> = std::env::args().skip(1).collect();
+    let (alone, rest) = match args.first().map(String::as_str) {
+        Some("convert") => (true, &args[1..]),
+        _ => (false, &args[..]),
+    };
+    let rounds = match rest.first().map(|word| word.parse()) {
         None => DEFAULT_ROUNDS,
         Some(Ok(rounds)) if rounds > 0 => rounds,
         Some(_) => {
-            eprintln!("usage: bench [ROUNDS]");
+            eprintln!("usage: bench [convert] [ROUNDS]");
             return ExitCode::FAILURE;
         }
     };
-    println!("best of {rounds} rounds each, library and reference by turns in one run");
+    println!("best of {rounds} rounds each, all that is compared by turns in one run");
     println!("tables and outputs were prepared and touched before, and not cleared between calls");
-    println!("the colours' spaces take turns; ratio: library to reference, in time\n");
-    compare_kinds(rounds);
-    compare_counts(rounds);
+    if !alone {
+        println!("the colours' spaces take turns; ratio: library to reference, in time\n");
+        compare_kinds(rounds);
+        compare_counts(rounds);
+    }
+    conversion::compare(rounds);
     ExitCode::SUCCESS
 }
 

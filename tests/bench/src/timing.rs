@@ -1,4 +1,4 @@
-//! Timing two ways to do the same, by turns.
+//! Timing several ways to do the same, by turns.
 
 use std::time::{Duration, Instant};
 
@@ -22,30 +22,33 @@ impl Times {
     }
 }
 
-/// The best of `rounds` batches of each, which take turns at going first.
+/// The best of `rounds` batches of each.
 pub fn alternate(
     bytes: usize,
     rounds: usize,
-    mut library: impl FnMut(),
-    mut reference: impl FnMut(),
+    library: impl FnMut(),
+    reference: impl FnMut(),
 ) -> Times {
-    let library_calls = calls_a_batch(&mut library);
-    let reference_calls = calls_a_batch(&mut reference);
-    let mut times = Times {
+    let best = by_turns(rounds, &mut [Box::new(library), Box::new(reference)]);
+    Times {
         bytes,
-        library: f64::INFINITY,
-        reference: f64::INFINITY,
-    };
+        library: best[0],
+        reference: best[1],
+    }
+}
+
+/// The best of `rounds` batches of each way, in nanoseconds a call. The ways
+/// take turns at going first.
+pub fn by_turns(rounds: usize, ways: &mut [Box<dyn FnMut() + '_>]) -> Vec<f64> {
+    let calls: Vec<u32> = ways.iter_mut().map(calls_a_batch).collect();
+    let mut best = vec![f64::INFINITY; ways.len()];
     for round in 0..rounds {
-        if round % 2 == 0 {
-            times.library = times.library.min(time(&mut library, library_calls));
-        }
-        times.reference = times.reference.min(time(&mut reference, reference_calls));
-        if round % 2 == 1 {
-            times.library = times.library.min(time(&mut library, library_calls));
+        for turn in 0..ways.len() {
+            let way = (round + turn) % ways.len();
+            best[way] = best[way].min(time(&mut ways[way], calls[way]));
         }
     }
-    times
+    best
 }
 
 /// How many calls make a batch, told from one that is not counted.

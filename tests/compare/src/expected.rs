@@ -1,6 +1,6 @@
 //! The reference's answers in the shape of the library's.
 
-use proved::{Answer, Record, Written};
+use proved::{Answer, Channel, Record, Sample, Written};
 use reference::{Accepted, Refusal, Swatch};
 
 pub fn answer(result: Result<Accepted, Refusal>) -> Answer {
@@ -62,5 +62,23 @@ pub fn written(result: Result<usize, Refusal>) -> Written {
             number: refusal.number,
             length: 0,
         },
+    }
+}
+
+/// A conversion's refusals are all at place 0, too.
+pub fn channel(result: Result<f32, u32>) -> Channel {
+    match result {
+        Ok(channel) => Channel {
+            number: 0,
+            bits: channel.to_bits(),
+        },
+        Err(number) => Channel { number, bits: 0 },
+    }
+}
+
+pub fn sample(result: Result<u16, u32>) -> Sample {
+    match result {
+        Ok(sample) => Sample { number: 0, sample },
+        Err(number) => Sample { number, sample: 0 },
     }
 }

@@ -1,6 +1,7 @@
 //! Compares the proved library, and its listing program, with the reference.
 
 mod campaign;
+mod converting;
 mod difference;
 mod expected;
 mod lent;
@@ -13,15 +14,18 @@ use std::path::PathBuf;
 use std::process::ExitCode;
 
 const USAGE: &str = "usage: compare [SEED [FILES]]
+       compare convert [SEED [PATTERNS]]
        compare list [PROGRAM [FILES [SEED]]]";
 const DEFAULT_SEED: u64 = 20_240_229;
 const DEFAULT_FILES: u64 = 300_000;
+const DEFAULT_PATTERNS: u64 = 60_000_000;
 const DEFAULT_LISTED: u64 = 300;
 const DEFAULT_PROGRAM: &str = concat!(env!("CARGO_MANIFEST_DIR"), "/../../target/bin/aco_list");
 
 fn main() -> ExitCode {
     let args: Vec<String> = std::env::args().skip(1).collect();
     let outcome = match args.first().map(String::as_str) {
+        Some("convert") => compare_conversions(&args[1..]),
         Some("list") => compare_listings(&args[1..]),
         _ => compare_library(&args),
     };
@@ -46,6 +50,18 @@ fn compare_library(args: &[String]) -> Result<String, String> {
         .all_reached()
         .map_err(|missing| with_seed(seed, missing))?;
     Ok(format!("the library agrees: {tally}"))
+}
+
+fn compare_conversions(args: &[String]) -> Result<String, String> {
+    let seed = number(args, 0, DEFAULT_SEED)?;
+    let patterns = number(args, 1, DEFAULT_PATTERNS)?;
+    println!("seed {seed}");
+    let tally =
+        converting::run(seed, patterns).map_err(|difference| with_seed(seed, difference))?;
+    tally
+        .all_reached()
+        .map_err(|missing| with_seed(seed, missing))?;
+    Ok(format!("the conversions agree: {tally}"))
 }
 
 fn compare_listings(args: &[String]) -> Result<String, String> {

@@ -27,6 +27,15 @@ const WRITING: [u32; 6] = [
     number::NO_ROOM,
 ];
 
+/// A sample is never out of range, so that the way there has no 5.
+const THERE: [u32; 3] = [0, number::UNKNOWN_SPACE, number::NO_COUNTERPART];
+const BACK: [u32; 4] = [
+    0,
+    number::UNKNOWN_MODEL,
+    number::OUT_OF_RANGE,
+    number::NO_COUNTERPART,
+];
+
 /// Counts by refusal number; 0 counts what was accepted.
 #[derive(Default)]
 struct Counts([u64; NUMBERS]);
@@ -117,6 +126,47 @@ impl Display for Tally {
             f,
             "{} files (by number {}), {} lots of records (by number {})",
             self.files, self.read, self.lots, self.written
+        )
+    }
+}
+
+/// Conversions, and how many patterns each known model was given.
+#[derive(Default)]
+pub struct Conversions {
+    pub patterns: u64,
+    there: Counts,
+    back: Counts,
+}
+
+impl Conversions {
+    pub fn there(&mut self, number: u32) {
+        self.there.add(number);
+    }
+
+    pub fn back(&mut self, number: u32) {
+        self.back.add(number);
+    }
+
+    /// Complains where some answer never came up.
+    pub fn all_reached(&self) -> Result<(), String> {
+        let there = self.there.missing(&THERE);
+        let back = self.back.missing(&BACK);
+        if there.is_empty() && back.is_empty() {
+            return Ok(());
+        }
+        Err(format!(
+            "answers not reached: there {there:?}, back {back:?}; {self}"
+        ))
+    }
+}
+
+impl Display for Conversions {
+    fn fmt(&self, f: &mut Formatter<'_>) -> fmt::Result {
+        write!(
+            f,
+            "samples to channels by number {}; channels to samples by number {}; \
+             {} patterns for each known model",
+            self.there, self.back, self.patterns
         )
     }
 }

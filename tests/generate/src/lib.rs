@@ -1,16 +1,22 @@
 //! Swatch files and records made up from a seed: sound ones, damaged ones, and
-//! a few fixed ones with the answers written down beside them.
+//! a few fixed ones with the answers written down beside them. Then model tags
+//! and bit patterns of channels.
 //!
 //! Files are laid out here from the colours themselves, by no writer under test.
 
 #![forbid(unsafe_code)]
 
+mod channels;
 mod damage;
 mod fixed;
 mod palette;
 mod random;
 mod records;
 
+pub use channels::{
+    any_pattern, neighbourhoods, tags, CMYK_TAG, EACH_CLASS, GRAY_TAG, LAB_TAG, ONE, PAIRS,
+    RGB_TAG, TAGS,
+};
 pub use damage::{damage, Damage};
 pub use fixed::{fixed_files, Answer, Fixed, P2, P3, P3_LISTING, P4};
 pub use palette::{Colour, Layout, Palette, SPACES};

@@ -1,4 +1,6 @@
-//! The proved library's ACO calls, through its C interface.
+//! The proved library's calls, through its C interface.
+
+use std::fmt::{self, Debug, Formatter};
 
 /// What judging or reading a file answers. `number` 0 is accepted, and then
 /// `place`, `record` and `field` are 0; on a refusal `colours` and `lists` are.
@@ -35,6 +37,28 @@ pub struct Written {
     pub length: usize,
 }
 
+/// What converting a sample answers: the channel's bits, 0 on a refusal.
+#[repr(C)]
+#[derive(Clone, Copy, Default, PartialEq, Eq)]
+pub struct Channel {
+    pub number: u32,
+    pub bits: u32,
+}
+
+impl Debug for Channel {
+    fn fmt(&self, f: &mut Formatter<'_>) -> fmt::Result {
+        write!(f, "number {}, bits {:08X}", self.number, self.bits)
+    }
+}
+
+/// What converting a channel answers; `sample` is 0 on a refusal.
+#[repr(C)]
+#[derive(Clone, Copy, Debug, Default, PartialEq, Eq)]
+pub struct Sample {
+    pub number: u32,
+    pub sample: u16,
+}
+
 extern "C" {
     fn khuyurek_aco_judge(file: *const u8, file_len: usize) -> Answer;
     fn khuyurek_aco_read(
@@ -58,6 +82,8 @@ extern "C" {
         out: *mut u8,
         out_len: usize,
     ) -> Written;
+    fn khuyurek_to_channel(space: u16, sample: u16) -> Channel;
+    fn khuyurek_to_sample(model: u32, bits: u32) -> Sample;
 }
 
 // Each pointer below comes with the length of the slice it was taken from, is
@@ -95,4 +121,18 @@ pub fn write(records: &[u32], text: &[u8], out: &mut [u8]) -> Written {
             out.len(),
         )
     }
+}
+
+// Inlined, so that a conversion is one call and is timed as one.
+
+#[inline]
+pub fn to_channel(space: u16, sample: u16) -> Channel {
+    // SAFETY: numbers are all that is handed over.
+    unsafe { khuyurek_to_channel(space, sample) }
+}
+
+#[inline]
+pub fn to_sample(model: u32, bits: u32) -> Sample {
+    // SAFETY: numbers are all that is handed over.
+    unsafe { khuyurek_to_sample(model, bits) }
 }

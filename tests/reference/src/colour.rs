@@ -16,11 +16,11 @@ pub const MAX_COLOURS: usize = 4096;
 pub const VERSION_ONE: u16 = 1;
 pub const VERSION_TWO: u16 = 2;
 
-const RGB: u16 = 0;
-const HSB: u16 = 1;
-const CMYK: u16 = 2;
-const LAB: u16 = 7;
-const GRAY: u16 = 8;
+pub const RGB: u16 = 0;
+pub const HSB: u16 = 1;
+pub const CMYK: u16 = 2;
+pub const LAB: u16 = 7;
+pub const GRAY: u16 = 8;
 
 /// How many samples a space uses, the first ones; no answer for an unknown space.
 pub const fn used_samples(space: u16) -> Option<usize> {

@@ -1,4 +1,5 @@
-//! The rules of ACO swatch files in plain, safe Rust.
+//! The rules of ACO swatch files, and of samples and channels, in plain, safe
+//! Rust.
 //!
 //! Written from the rules themselves, without a look at the proved
 //! library: where the two agree, they agree by the rules. It is also what the
@@ -8,12 +9,14 @@
 #![forbid(unsafe_code)]
 
 mod colour;
+mod convert;
 mod listing;
 mod reader;
 mod refusal;
 mod writer;
 
 pub use colour::{COLOUR_LEN, HEAD_LEN, MAX_COLOURS, NAME_COUNT_LEN, SAMPLES, UNIT_LEN};
+pub use convert::{to_channel, to_sample};
 pub use listing::{list, LISTING_LIMIT};
 pub use reader::{judge, read, record, Accepted, Swatch};
 pub use refusal::{number, Refusal};

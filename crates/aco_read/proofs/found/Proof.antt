@@ -1,7 +1,7 @@
 use mathlib.Core.Path.{sym, ap, _∙_, subst}
 use native.Mathlib.Omega.{arith}
 use Prim.Native.Nat.{ℕ, _+_, _-_}
-use Rattle.colour.specs.declared.Colour.{Colour}
+use Rattle.colour.specs.declared.space.Colour.{Colour}
 use Rattle.aco.specs.Reading.{aco}
 use Rattle.aco_read.specs.Table.{Accepted, lies}
 use Rattle.aco_read.proofs.Filling.{count-small, plain-swatch, Counted, counted-in, counted}

@@ -1,6 +1,6 @@
 use mathlib.Core.Path.{sym, ap, _∙_}
 use native.Mathlib.Omega.{arith}
-use Rattle.colour.specs.declared.Colour.{Colour}
+use Rattle.colour.specs.declared.space.Colour.{Colour}
 use Rattle.aco_read.specs.Table.{Where, nameBytesAt}
 use Rattle.aco_read.specs.Answer.{toldPlace}
 use Rattle.aco_read.proofs.Answers.{name-in, name-part}

@@ -7,7 +7,7 @@ use native.Mathlib.Nat.{add-zero}
 use native.Mathlib.Numerals.{unary-clauses}
 use Rattle.fields.specs.Numbers.{num}
 use Rattle.fields.proofs.Places.{load-part}
-use Rattle.colour.specs.declared.Colour.{Colour}
+use Rattle.colour.specs.declared.space.Colour.{Colour}
 use Rattle.aco_read.specs.Table.{numbers}
 use Rattle.aco_read.proofs.Filling.{five}
 use borrow.Author.Needs.{needs}

@@ -1,7 +1,7 @@
 use borrow.Author.Tests.{ne-eqb}
 use Rattle.colour.specs.Spaces.{uses}
-use Rattle.colour.proofs.samples_used.Statement.{statement}
-use Rattle.colour.proofs.samples_used.Tie as tie
+use Rattle.colour.proofs.space.samples_used.Statement.{statement}
+use Rattle.colour.proofs.space.samples_used.Tie as tie
 
 returns : tie.Need-returns
 unfolding uses

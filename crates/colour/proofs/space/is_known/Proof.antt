@@ -3,8 +3,8 @@ use Prim.Native.Nat.{ℕ}
 use lib.Dec.{ltb}
 use Rattle.colour.specs.Spaces.{known}
 use borrow.Author.Needs.{needs}
-use Rattle.colour.proofs.is_known.Statement.{statement}
-use Rattle.colour.proofs.is_known.Tie as tie
+use Rattle.colour.proofs.space.is_known.Statement.{statement}
+use Rattle.colour.proofs.space.is_known.Tie as tie
 
 samples-used-requires : tie.Need-samples-used-requires
 samples-used-requires c κs = search needs

@@ -1,6 +1,6 @@
 use borrow.Author.Tests.{lt-ltb, le-ltb}
-use Rattle.colour.proofs.is_free.Statement.{statement}
-use Rattle.colour.proofs.is_free.Tie as tie
+use Rattle.colour.proofs.space.is_free.Statement.{statement}
+use Rattle.colour.proofs.space.is_free.Tie as tie
 
 returns : tie.Need-returns
 returns c = simp (lt-ltb _ _ (c .if1 .taken))

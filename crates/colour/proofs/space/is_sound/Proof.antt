@@ -3,8 +3,8 @@ use native.Mathlib.Omega.{arith}
 use borrow.Author.Tests.{not-true, not-false}
 use Rattle.colour.proofs.Laws.{sample-by, sound-unknown, sound-known, pick-same}
 use borrow.Author.Needs.{needs}
-use Rattle.colour.proofs.is_sound.Statement.{statement}
-use Rattle.colour.proofs.is_sound.Tie as tie
+use Rattle.colour.proofs.space.is_sound.Statement.{statement}
+use Rattle.colour.proofs.space.is_sound.Tie as tie
 
 samples-used-requires : tie.Need-samples-used-requires
 samples-used-requires c κs = search needs
@@ -19,8 +19,8 @@ returns-2 : tie.Need-returns-2
 returns-2 c =
     let u = c .before .before .before .samples-used in
     let a = c .before .before .before .before .args in
-    let b = sym (sample-by (a .space) (u .result) 1 (a .b) (u .ensures)) ∙ sym (c .before .is-free .ensures) ∙ not-true _ (c .if2 .taken) in
-    sym (sound-known (a .space) (a .a) (a .b) (a .c) (a .d) (omega arith) ∙ rw b)
+    let b = sym (sample-by (a .space) (u .result) 1 (a .b) (u .ensures) (omega arith)) ∙ sym (c .before .is-free .ensures) ∙ not-true _ (c .if2 .taken) in
+    sym (sound-known (a .space) (a .a) (a .b) (a .c) (a .d) (omega arith) (omega arith) ∙ rw b)
 
 is-free-requires-2 : tie.Need-is-free-requires-2
 is-free-requires-2 c κs = search needs
@@ -29,9 +29,9 @@ returns-3 : tie.Need-returns-3
 returns-3 c =
     let u = c .before .before .before .before .before .samples-used in
     let a = c .before .before .before .before .before .before .args in
-    let b = sym (sample-by (a .space) (u .result) 1 (a .b) (u .ensures)) ∙ sym (c .before .before .before .is-free .ensures) ∙ not-false _ (c .before .before .if2 .left) in
-    let d = sym (sample-by (a .space) (u .result) 2 (a .c) (u .ensures)) ∙ sym (c .before .is-free2 .ensures) ∙ not-true _ (c .if3 .taken) in
-    sym (sound-known (a .space) (a .a) (a .b) (a .c) (a .d) (omega arith) ∙ rw (b, d))
+    let b = sym (sample-by (a .space) (u .result) 1 (a .b) (u .ensures) (omega arith)) ∙ sym (c .before .before .before .is-free .ensures) ∙ not-false _ (c .before .before .if2 .left) in
+    let d = sym (sample-by (a .space) (u .result) 2 (a .c) (u .ensures) (omega arith)) ∙ sym (c .before .is-free2 .ensures) ∙ not-true _ (c .if3 .taken) in
+    sym (sound-known (a .space) (a .a) (a .b) (a .c) (a .d) (omega arith) (omega arith) ∙ rw (b, d))
 
 is-free-requires-3 : tie.Need-is-free-requires-3
 is-free-requires-3 c κs = search needs
@@ -40,9 +40,9 @@ returns-4 : tie.Need-returns-4
 returns-4 c =
     let u = c .before .before .before .before .before .before .samples-used in
     let a = c .before .before .before .before .before .before .before .args in
-    let b = sym (sample-by (a .space) (u .result) 1 (a .b) (u .ensures)) ∙ sym (c .before .before .before .before .is-free .ensures) ∙ not-false _ (c .before .before .before .if2 .left) in
-    let d = sym (sample-by (a .space) (u .result) 2 (a .c) (u .ensures)) ∙ sym (c .before .before .is-free2 .ensures) ∙ not-false _ (c .before .if3 .left) in
-    c .is-free3 .ensures ∙ sample-by (a .space) (u .result) 3 (a .d) (u .ensures) ∙ sym (sound-known (a .space) (a .a) (a .b) (a .c) (a .d) (omega arith) ∙ rw (b, d) (pick-same _))
+    let b = sym (sample-by (a .space) (u .result) 1 (a .b) (u .ensures) (omega arith)) ∙ sym (c .before .before .before .before .is-free .ensures) ∙ not-false _ (c .before .before .before .if2 .left) in
+    let d = sym (sample-by (a .space) (u .result) 2 (a .c) (u .ensures) (omega arith)) ∙ sym (c .before .before .is-free2 .ensures) ∙ not-false _ (c .before .if3 .left) in
+    c .is-free3 .ensures ∙ sample-by (a .space) (u .result) 3 (a .d) (u .ensures) (omega arith) ∙ sym (sound-known (a .space) (a .a) (a .b) (a .c) (a .d) (omega arith) (omega arith) ∙ rw (b, d) (pick-same _))
 
 pub is-sound-spec : {M : Type 1} → statement M
 is-sound-spec =

@@ -1,0 +1,66 @@
+use mathlib.Core.Path.{sym, _∙_}
+use borrow.Author.Tests.{not-true, not-false}
+use lib.Ieee.{binary32}
+use Rattle.colour.proofs.Unit.{unit-finite}
+use Rattle.fields.proofs.Floats.{no-nan}
+use borrow.Author.Needs.{needs}
+use Rattle.colour.proofs.channel.rgb.Statement.{statement}
+use Rattle.colour.proofs.channel.rgb.Tie as tie
+
+float-from-bits-t6 : tie.Need-float-from-bits-t6
+float-from-bits-t6 c = no-nan binary32 _ (unit-finite _ (sym (c .before .before .before .before .before .is-unit .ensures) ∙ not-false _ (c .before .before .before .before .if1 .left)))
+
+float-from-bits-t7 : tie.Need-float-from-bits-t7
+float-from-bits-t7 c = no-nan binary32 _ (unit-finite _ (sym (c .before .before .before .is-unit2 .ensures) ∙ not-false _ (c .before .before .if2 .left)))
+
+float-from-bits-t8 : tie.Need-float-from-bits-t8
+float-from-bits-t8 c = no-nan binary32 _ (unit-finite _ (sym (c .before .is-unit3 .ensures) ∙ not-false _ (c .if3 .left)))
+
+is-unit-requires : tie.Need-is-unit-requires
+is-unit-requires c κs = search needs
+
+returns : tie.Need-returns
+returns c =
+    let p = sym (c .before .is-unit .ensures) ∙ not-true _ (c .if1 .taken) in
+    rw (p)
+
+is-unit-requires-2 : tie.Need-is-unit-requires-2
+is-unit-requires-2 c κs = search needs
+
+returns-2 : tie.Need-returns-2
+returns-2 c =
+    let p = sym (c .before .before .before .is-unit .ensures) ∙ not-false _ (c .before .before .if1 .left) in
+    let q = sym (c .before .is-unit2 .ensures) ∙ not-true _ (c .if2 .taken) in
+    rw (p, q)
+
+is-unit-requires-3 : tie.Need-is-unit-requires-3
+is-unit-requires-3 c κs = search needs
+
+returns-3 : tie.Need-returns-3
+returns-3 c =
+    let p = sym (c .before .before .before .before .before .is-unit .ensures) ∙ not-false _ (c .before .before .before .before .if1 .left) in
+    let q = sym (c .before .before .before .is-unit2 .ensures) ∙ not-false _ (c .before .before .if2 .left) in
+    let r = sym (c .before .is-unit3 .ensures) ∙ not-true _ (c .if3 .taken) in
+    rw (p, q, r)
+
+returns-4 : tie.Need-returns-4
+returns-4 c =
+    let p = sym (c .before .before .before .before .before .is-unit .ensures) ∙ not-false _ (c .before .before .before .before .if1 .left) in
+    let q = sym (c .before .before .before .is-unit2 .ensures) ∙ not-false _ (c .before .before .if2 .left) in
+    let r = sym (c .before .is-unit3 .ensures) ∙ not-false _ (c .if3 .left) in
+    rw (p, q, r)
+
+pub rgb-spec : {M : Type 1} → statement M
+rgb-spec =
+    tie.close
+    (tie.spec
+    is-unit-requires
+    returns
+    is-unit-requires-2
+    returns-2
+    is-unit-requires-3
+    returns-3
+    float-from-bits-t6
+    float-from-bits-t7
+    float-from-bits-t8
+    returns-4)

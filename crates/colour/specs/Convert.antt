@@ -1,0 +1,73 @@
+-- Samples and channels: one sample of a space to a channel, and one channel of a model to a sample.
+use Prim.Native.Nat.{ℕ, _-_}
+use lib.Dec.{eqb}
+use lib.Ieee.{Float, binary32, ofBits, toBits}
+use Rattle.fields.specs.Reader.{pick}
+use Rattle.colour.specs.Models.{traitsOf, modelOf}
+use Rattle.colour.specs.Spaces.{rgb, cmyk, gray, full, known}
+use Rattle.colour.specs.Channels.{allows, channelOf, sampleOf}
+use Rattle.colour.specs.declared.model.Model.{Model}
+use Rattle.colour.specs.declared.model.Model.the-variants.{Rgb, Cmyk, Lab, Gray}
+use Rattle.colour.specs.declared.model.Known.{Known}
+use Rattle.colour.specs.declared.model.Known.the-variants.{Is, Unknown}
+use Rattle.colour.specs.declared.convert.Channel.{Channel}
+use Rattle.colour.specs.declared.convert.Channel.the-variants as vc
+use Rattle.colour.specs.declared.convert.Sample.{Sample}
+use Rattle.colour.specs.declared.convert.Sample.the-variants as vs
+
+-- what a conversion gives, or a refusal: its number and its place
+pub data Converted (A : Type 0) : Type 0 where
+  gives : A → Converted A
+  refused : ℕ → ℕ → Converted A
+
+-- RGB and gray: the sample as a channel. CMYK: what is left of the full scale, since ACO counts 0 as full ink.
+-- The other known spaces have no counterpart, 14; an unknown one is 4
+unfoldable pub toChannel : ℕ → ℕ → Converted Float
+toChannel x v =
+    pick (eqb x rgb) (gives (channelOf (full x) v))
+    (pick (eqb x cmyk) (gives (channelOf (full x) (full x - v)))
+    (pick (eqb x gray) (gives (channelOf (full x) v))
+    (refused (pick (known x) 14 4) 0)))
+
+-- a channel that the model allows: the nearest sample, in CMYK then taken from the full scale; Lab has no counterpart, 14
+abbrev pub sampleOn : Model → Float → Converted ℕ
+sampleOn Rgb x = gives (sampleOf (traitsOf Rgb .full) x)
+sampleOn Cmyk x = gives (traitsOf Cmyk .full - sampleOf (traitsOf Cmyk .full) x)
+sampleOn Lab x = refused 14 0
+sampleOn Gray x = gives (sampleOf (traitsOf Gray .full) x)
+
+-- 5 where it does not
+abbrev pub sampleIn : Model → Float → Converted ℕ
+sampleIn m x = pick (allows m x) (sampleOn m x) (refused 5 0)
+
+-- before all that, 4 where no model has the tag
+abbrev pub sampleFound : Known → Float → Converted ℕ
+sampleFound (Is m) x = sampleIn m x
+sampleFound Unknown x = refused 4 0
+
+-- a channel by its bits, of the model with a tag
+abbrev pub toSample : ℕ → ℕ → Converted ℕ
+toSample t b = sampleFound (modelOf t) (ofBits binary32 b)
+
+-- ---- there and back
+
+-- a space and the model that its samples become channels of
+pub data Counterparts : ℕ → Model → Type 0 where
+  lights : Counterparts rgb Rgb
+  inks : Counterparts cmyk Cmyk
+  grays : Counterparts gray Gray
+
+-- a channel that a sample became, by its bits, as a sample of the model with a tag
+abbrev pub back : ℕ → Converted Float → Converted ℕ
+back t (gives x) = toSample t (toBits binary32 x)
+back t (refused n p) = refused n p
+
+-- ---- what each answer of the code says
+
+abbrev pub toldChannel : Channel → Converted Float
+toldChannel (vc.Is x) = gives x
+toldChannel (vc.Refused n) = refused n 0
+
+abbrev pub toldSample : Sample → Converted ℕ
+toldSample (vs.Is s) = gives s
+toldSample (vs.Refused n) = refused n 0

@@ -1,0 +1,24 @@
+-- The colour models of ASE files.
+use Prim.Native.Nat.{ℕ}
+use lib.Dec.{eqb}
+use Rattle.fields.specs.Reader.{pick}
+use Rattle.colour.specs.declared.model.Traits.{Traits}
+use Rattle.colour.specs.declared.model.Model.{Model}
+use Rattle.colour.specs.declared.model.Model.the-variants.{Rgb, Cmyk, Lab, Gray}
+use Rattle.colour.specs.declared.model.Known.{Known}
+use Rattle.colour.specs.declared.model.Known.the-variants.{Is, Unknown}
+
+-- each model has its tag, its channel count and its full scale: `RGB `, `CMYK`, `LAB `, `Gray`
+abbrev pub traitsOf : Model → Traits
+traitsOf Rgb = record { tag = 0x5247_4220; channels = 3; full = 65535 }
+traitsOf Cmyk = record { tag = 0x434d_594b; channels = 4; full = 65535 }
+traitsOf Lab = record { tag = 0x4c41_4220; channels = 3; full = 65535 }
+traitsOf Gray = record { tag = 0x4772_6179; channels = 1; full = 65535 }
+
+-- the model with a tag
+unfoldable pub modelOf : ℕ → Known
+modelOf t =
+    pick (eqb t (traitsOf Rgb .tag)) (Is Rgb)
+    (pick (eqb t (traitsOf Cmyk .tag)) (Is Cmyk)
+    (pick (eqb t (traitsOf Lab .tag)) (Is Lab)
+    (pick (eqb t (traitsOf Gray .tag)) (Is Gray) Unknown)))

@@ -1,0 +1,181 @@
+// Channels: 32-bit floats, judged by their bits before a float is made, so that no NaN ever is.
+ghost use mathlib.Core.Path.{_≡_};
+ghost use Prim.Native.Nat.{_%_, _≤_};
+ghost use lib.Ieee.{binary32, ofBits, toBits};
+ghost use lib.Ieee.Scale.{finite};
+ghost use Rattle.colour.specs.Channels.{inUnit, channelOf, sampleOf, made, bitsOf, modelIn};
+use crate::model::Model;
+
+// The bits of one, of minus zero, of infinity, and of the NaN that is written for any.
+const ONE: u32 = 0x3f80_0000;
+
+const MINUS_ZERO: u32 = 0x8000_0000;
+
+const INFINITY: u32 = 0x7f80_0000;
+
+const NAN: u32 = 0x7fc0_0000;
+
+const UNIT: u64 = 0x100_0000_0000;
+
+// A colour of a model, with its channels.
+pub enum Channels {
+    Rgb(f32, f32, f32),
+    Cmyk(f32, f32, f32, f32),
+    Lab(f32, f32, f32),
+    Gray(f32),
+}
+
+// A colour, or the number of a refusal.
+pub enum Made {
+    Is(Channels),
+    Refused(u32),
+}
+
+pub(crate) fn is_finite(bits: u32) -> bool
+    ensures { λ r. ⌜ r ≡ finite (ofBits binary32 bits) ⌝ }
+{
+    bits % MINUS_ZERO < INFINITY
+}
+
+// Whether the float is from 0 to 1. Minus zero is zero.
+pub(crate) fn is_unit(bits: u32) -> bool
+    ensures { λ r. ⌜ r ≡ inUnit (ofBits binary32 bits) ⌝ }
+{
+    if bits == MINUS_ZERO {
+        return true;
+    }
+    bits <= ONE
+}
+
+// The bits of a float.
+pub fn bits_of(x: f32) -> u32
+    ensures { λ r. ⌜ r ≡ toBits binary32 x ⌝ }
+{
+    if x == x {
+        return f32::to_bits(x);
+    }
+    NAN
+}
+
+// The sample of a scale from 0 to `full`, as a channel.
+pub(crate) fn quotient(full: u16, sample: u16) -> f32
+    ensures { λ r. ⌜ r ≡ channelOf full sample ⌝ }
+{
+    (sample as f32) / (full as f32)
+}
+
+// The whole number nearest to `full` times a float that is from 0 to 1, halves upward.
+pub(crate) fn nearest(full: u16, bits: u32) -> u16
+    requires { ⌜ bits % 0x8000_0000 ≤ 0x3f80_0000 ⌝ }
+    ensures { λ r. ⌜ r ≡ sampleOf full (ofBits binary32 bits) ⌝ }
+{
+    let size = (bits % MINUS_ZERO) as u64;
+    let exponent = size / 0x80_0000;
+    // Below 2^-17 the product is less than a half.
+    if exponent < 110 {
+        return 0;
+    }
+    let digits = 0x80_0000 + size % 0x80_0000;
+    // The product in units of 2^-40, which holds all its digits.
+    let product = ((full as u64) * digits) << (exponent - 110);
+    ((2 * product + UNIT) / (2 * UNIT)) as u16
+}
+
+fn rgb(a: u32, b: u32, c: u32) -> Made
+    ensures { λ r. ⌜ r ≡ made Model.Rgb a b c 0 ⌝ }
+{
+    if !is_unit(a) {
+        return Made::Refused(5);
+    }
+    if !is_unit(b) {
+        return Made::Refused(5);
+    }
+    if !is_unit(c) {
+        return Made::Refused(5);
+    }
+    Made::Is(Channels::Rgb(f32::from_bits(a), f32::from_bits(b), f32::from_bits(c)))
+}
+
+fn cmyk(a: u32, b: u32, c: u32, d: u32) -> Made
+    ensures { λ r. ⌜ r ≡ made Model.Cmyk a b c d ⌝ }
+{
+    if !is_unit(a) {
+        return Made::Refused(5);
+    }
+    if !is_unit(b) {
+        return Made::Refused(5);
+    }
+    if !is_unit(c) {
+        return Made::Refused(5);
+    }
+    if !is_unit(d) {
+        return Made::Refused(5);
+    }
+    Made::Is(Channels::Cmyk(
+        f32::from_bits(a),
+        f32::from_bits(b),
+        f32::from_bits(c),
+        f32::from_bits(d),
+    ))
+}
+
+fn lab(a: u32, b: u32, c: u32) -> Made
+    ensures { λ r. ⌜ r ≡ made Model.Lab a b c 0 ⌝ }
+{
+    if !is_finite(a) {
+        return Made::Refused(5);
+    }
+    if !is_finite(b) {
+        return Made::Refused(5);
+    }
+    if !is_finite(c) {
+        return Made::Refused(5);
+    }
+    Made::Is(Channels::Lab(f32::from_bits(a), f32::from_bits(b), f32::from_bits(c)))
+}
+
+fn gray(a: u32) -> Made
+    ensures { λ r. ⌜ r ≡ made Model.Gray a 0 0 0 ⌝ }
+{
+    if !is_unit(a) {
+        return Made::Refused(5);
+    }
+    Made::Is(Channels::Gray(f32::from_bits(a)))
+}
+
+impl Channels {
+    // The colour whose channels have these bits. Those that the model does not use are left alone.
+    pub fn from_bits(model: Model, a: u32, b: u32, c: u32, d: u32) -> Made
+        ensures { λ r. ⌜ r ≡ made model a b c d ⌝ }
+    {
+        match model {
+            Model::Rgb => rgb(a, b, c),
+            Model::Cmyk => cmyk(a, b, c, d),
+            Model::Lab => lab(a, b, c),
+            Model::Gray => gray(a),
+        }
+    }
+
+    // The bits of the channels, and 0 for those that the model does not use.
+    pub fn bits(self) -> [u32; 4]
+        ensures { λ r. ⌜ r ≡ bitsOf self ⌝ }
+    {
+        match self {
+            Channels::Rgb(x, y, z) => [bits_of(x), bits_of(y), bits_of(z), 0],
+            Channels::Cmyk(x, y, z, w) => [bits_of(x), bits_of(y), bits_of(z), bits_of(w)],
+            Channels::Lab(x, y, z) => [bits_of(x), bits_of(y), bits_of(z), 0],
+            Channels::Gray(x) => [bits_of(x), 0, 0, 0],
+        }
+    }
+
+    pub fn model(self) -> Model
+        ensures { λ r. ⌜ r ≡ modelIn self ⌝ }
+    {
+        match self {
+            Channels::Rgb(_, _, _) => Model::Rgb,
+            Channels::Cmyk(_, _, _, _) => Model::Cmyk,
+            Channels::Lab(_, _, _) => Model::Lab,
+            Channels::Gray(_) => Model::Gray,
+        }
+    }
+}

@@ -1,0 +1,93 @@
+// Colour models: each has its tag, its channel count and its full scale.
+ghost use mathlib.Core.Path.{_≡_};
+ghost use lib.Ieee.{binary32, ofBits};
+ghost use Rattle.colour.specs.Models.{traitsOf, modelOf};
+ghost use Rattle.colour.specs.Channels.{allows};
+use crate::channel::is_finite;
+use crate::channel::is_unit;
+
+// What a model has: its four characters as a number, its channels, and the sample that is 1.
+pub struct Traits {
+    pub tag: u32,
+    pub channels: u16,
+    pub full: u16,
+}
+
+pub enum Model {
+    Rgb,
+    Cmyk,
+    Lab,
+    Gray,
+}
+
+pub enum Known {
+    Is(Model),
+    Unknown,
+}
+
+impl Model {
+    pub const RGB: Traits = Traits {
+        tag: 0x5247_4220,
+        channels: 3,
+        full: 65535,
+    };
+
+    pub const CMYK: Traits = Traits {
+        tag: 0x434d_594b,
+        channels: 4,
+        full: 65535,
+    };
+
+    pub const LAB: Traits = Traits {
+        tag: 0x4c41_4220,
+        channels: 3,
+        full: 65535,
+    };
+
+    pub const GRAY: Traits = Traits {
+        tag: 0x4772_6179,
+        channels: 1,
+        full: 65535,
+    };
+
+    pub fn from_tag(tag: u32) -> Known
+        ensures { λ r. ⌜ r ≡ modelOf tag ⌝ }
+    {
+        if tag == Self::RGB.tag {
+            return Known::Is(Model::Rgb);
+        }
+        if tag == Self::CMYK.tag {
+            return Known::Is(Model::Cmyk);
+        }
+        if tag == Self::LAB.tag {
+            return Known::Is(Model::Lab);
+        }
+        if tag == Self::GRAY.tag {
+            return Known::Is(Model::Gray);
+        }
+        Known::Unknown
+    }
+
+    pub fn traits(self) -> Traits
+        ensures { λ r. ⌜ r ≡ traitsOf self ⌝ }
+    {
+        match self {
+            Model::Rgb => Self::RGB,
+            Model::Cmyk => Self::CMYK,
+            Model::Lab => Self::LAB,
+            Model::Gray => Self::GRAY,
+        }
+    }
+
+    // Whether a channel may have these bits: finite, and from 0 to 1 save in Lab.
+    pub fn allows(self, bits: u32) -> bool
+        ensures { λ r. ⌜ r ≡ allows self (ofBits binary32 bits) ⌝ }
+    {
+        match self {
+            Model::Rgb => is_unit(bits),
+            Model::Cmyk => is_unit(bits),
+            Model::Lab => is_finite(bits),
+            Model::Gray => is_unit(bits),
+        }
+    }
+}

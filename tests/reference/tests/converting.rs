@@ -1,0 +1,160 @@
+//! The rules of samples and channels, each with its answer written out.
+
+use generate::{CMYK_TAG, GRAY_TAG, LAB_TAG, ONE, PAIRS, RGB_TAG, TAGS};
+use reference::{to_channel, to_sample};
+
+const FULL: u32 = 65_535;
+const HALF: u32 = 0x3F00_0000;
+const MINUS_ZERO: u32 = 0x8000_0000;
+const INFINITIES: [u32; 2] = [0x7F80_0000, 0xFF80_0000];
+/// Quiet and signalling ones, of both signs, from the first to the last.
+const NANS: [u32; 6] = [
+    0x7F80_0001,
+    0x7FC0_0000,
+    0x7FFF_FFFF,
+    0xFF80_0001,
+    0xFFC0_0000,
+    0xFFFF_FFFF,
+];
+
+#[test]
+fn halves_go_up_before_cmyk_is_taken_away() {
+    assert_eq!(to_sample(RGB_TAG, HALF), Ok(32_768));
+    assert_eq!(to_sample(GRAY_TAG, HALF), Ok(32_768));
+    assert_eq!(to_sample(CMYK_TAG, HALF), Ok(32_767));
+}
+
+#[test]
+fn minus_zero_is_zero() {
+    assert_eq!(to_sample(RGB_TAG, MINUS_ZERO), Ok(0));
+    assert_eq!(to_sample(GRAY_TAG, MINUS_ZERO), Ok(0));
+    assert_eq!(to_sample(CMYK_TAG, MINUS_ZERO), Ok(65_535));
+}
+
+#[test]
+fn the_ends_of_the_samples_are_zero_and_one() {
+    for (space, none, full) in [(0, 0, 65_535), (8, 0, 65_535), (2, 65_535, 0)] {
+        assert_eq!(to_channel(space, none).map(f32::to_bits), Ok(0));
+        assert_eq!(to_channel(space, full).map(f32::to_bits), Ok(ONE));
+    }
+}
+
+#[test]
+fn the_ends_of_the_range_go_by_bits() {
+    for (_, tag) in PAIRS {
+        for bits in [0, 1, 0x007F_FFFF, 0x0080_0000, ONE - 1, ONE, MINUS_ZERO] {
+            assert!(to_sample(tag, bits).is_ok(), "{bits:08X}");
+        }
+        for bits in [ONE + 1, 0x7F7F_FFFF, MINUS_ZERO + 1, 0xBF80_0000] {
+            assert_eq!(to_sample(tag, bits), Err(5), "{bits:08X}");
+        }
+        for bits in INFINITIES.into_iter().chain(NANS) {
+            assert_eq!(to_sample(tag, bits), Err(5), "{bits:08X}");
+        }
+    }
+}
+
+#[test]
+fn lab_is_refused_for_its_channel_and_then_for_itself() {
+    for bits in INFINITIES.into_iter().chain(NANS) {
+        assert_eq!(to_sample(LAB_TAG, bits), Err(5), "{bits:08X}");
+    }
+    for bits in [0, HALF, ONE + 1, 0x7F7F_FFFF, MINUS_ZERO + 1, 0xFF7F_FFFF] {
+        assert_eq!(to_sample(LAB_TAG, bits), Err(14), "{bits:08X}");
+    }
+}
+
+#[test]
+fn an_unknown_model_is_refused_whatever_the_channel() {
+    for tag in TAGS {
+        for bit in 0..u32::BITS {
+            for bits in [HALF, ONE + 1, INFINITIES[0], NANS[1]] {
+                assert_eq!(to_sample(tag ^ 1 << bit, bits), Err(4));
+            }
+        }
+    }
+    for tag in [0, u32::MAX, RGB_TAG.swap_bytes(), CMYK_TAG.swap_bytes()] {
+        assert_eq!(to_sample(tag, NANS[0]), Err(4));
+    }
+}
+
+#[test]
+fn each_space_has_its_answer() {
+    for space in 0..=u16::MAX {
+        let expected = match space {
+            0 | 2 | 8 => None,
+            1 | 7 => Some(14),
+            _ => Some(4),
+        };
+        assert_eq!(to_channel(space, 1).err(), expected, "space {space}");
+    }
+}
+
+#[test]
+fn every_sample_comes_back() {
+    for (space, tag) in PAIRS {
+        for sample in 0..=u16::MAX {
+            let channel = to_channel(space, sample).unwrap();
+            assert_eq!(to_sample(tag, channel.to_bits()), Ok(sample));
+        }
+    }
+}
+
+/// A channel from 0 to 1, minus zero aside, as a whole number over a power of
+/// two, which is given by its exponent.
+fn fraction(bits: u32) -> (u128, u32) {
+    let (exponent, rest) = (bits >> 23, bits & 0x007F_FFFF);
+    match exponent {
+        0 => (u128::from(rest), 149),
+        _ => (u128::from(rest | 0x0080_0000), 150 - exponent),
+    }
+}
+
+/// The quotient is the nearest float: it is off by no more than half of its
+/// last bit, over the common denominator of both. No sample is just between
+/// two floats, since 65,535 is odd.
+#[test]
+fn every_channel_is_the_nearest_float() {
+    for sample in 1..=u16::MAX {
+        let bits = to_channel(0, sample).unwrap().to_bits();
+        let (over, exponent) = fraction(bits);
+        let off = (over * u128::from(FULL)).abs_diff(u128::from(sample) << exponent);
+        assert!(2 * off <= u128::from(FULL), "sample {sample}");
+    }
+}
+
+/// Twice 65,535 times the channel is from twice the sample less 1 up to, and
+/// without, twice the sample and 1. Over whole numbers.
+fn is_nearest(bits: u32, sample: u16) -> bool {
+    let (over, exponent) = fraction(bits);
+    let doubled = over * 2 * u128::from(FULL);
+    if exponent > 64 {
+        // Twice 65,535 times the channel is below 1, for `doubled` is below 2^41.
+        return sample == 0;
+    }
+    let sample = u128::from(sample);
+    doubled < (2 * sample + 1) << exponent && doubled + (1 << exponent) >= (2 * sample) << exponent
+}
+
+fn check_nearest(bits: u32) {
+    let sample = to_sample(RGB_TAG, bits).unwrap();
+    assert!(is_nearest(bits, sample), "{bits:08X} gives {sample}");
+    assert_eq!(to_sample(GRAY_TAG, bits), Ok(sample));
+    assert_eq!(to_sample(CMYK_TAG, bits), Ok(65_535 - sample));
+}
+
+#[test]
+fn about_every_half_the_sample_is_the_nearest() {
+    for sample in 0..FULL {
+        let half = (f64::from(2 * sample + 1) / f64::from(2 * FULL)) as f32;
+        (half.to_bits() - 3..=half.to_bits() + 3).for_each(check_nearest);
+    }
+}
+
+#[test]
+fn all_over_the_range_the_sample_is_the_nearest() {
+    const STEP: usize = 1_009;
+    (0..=ONE).step_by(STEP).for_each(check_nearest);
+    (0..1_000).for_each(check_nearest);
+    (ONE - 1_000..=ONE).for_each(check_nearest);
+}
