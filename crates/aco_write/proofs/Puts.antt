@@ -106,7 +106,7 @@ name-part names b g k e f = elim (ℕ-discrete (g .units) 0) [
     inside z = rw (ne-eqb (g .units) 0 z) at (name-inside names g f)
 
 pub name-bytes : (names : List ℕ) → Bytes names → (g : Given) (k : ℕ) → k ≡ 2 * g .units → nameFault names g ≡ 0
-    → countedUnits (g .units + 1) (part names (start g) k) ≡ nameBytes 4 (nums 2 (g .units) names (g .first))
+    → countedUnits 4 (g .units + 1) (part names (start g) k) ≡ nameBytes 4 (nums 2 (g .units) names (g .first))
 unfolding countedUnits nameBytes
 name-bytes names b g k e f =
     ap₂ (λ (x : ℕ) (l : List ℕ). be 4 (x + 1) ++ (l ++ be 2 0)) (sym (length-nums 2 (g .units) names (g .first))) (name-part names b g k e f)
@@ -119,7 +119,7 @@ length-entry names g l =
     omega (arith, a, length-colour w l, length-nameBytes 4 (w .name), length-nums 2 (g .units) names (g .first))
 
 pub put-record : (names : List ℕ) → Bytes names → (g : Given) (o₀ o₁ o₂ : List ℕ) (at k : ℕ) → length (g .samples) ≡ 4 → k ≡ 2 * g .units → nameFault names g ≡ 0 → at + (16 + 2 * g .units) ≤ length o₀
-    → length o₁ ≡ length o₀ → o₁ ≡ sets o₀ at (colourBytes (plain (colourIn g))) → o₂ ≡ stored o₁ (at + 10) (countedUnits (g .units + 1) (part names (start g) k))
+    → length o₁ ≡ length o₀ → o₁ ≡ sets o₀ at (colourBytes (plain (colourIn g))) → o₂ ≡ stored o₁ (at + 10) (countedUnits 4 (g .units + 1) (part names (start g) k))
     → o₂ ≡ sets o₀ at (entryBytes (swatchIn names g))
 unfolding entryBytes
 put-record names b g o₀ o₁ o₂ at k l e f h m e₁ e₂ =

@@ -284,7 +284,7 @@ fn put_entry(out: &mut [u8], at: usize, run: &[u32], text: &[u8], k: usize)
     let units = run[WIDTH * k + 6];
     let first = name_start(run, k);
     let end = first + 2 * wide(units);
-    fields::put_name(out, at + 10, units + 1, &text[first..end]);
+    fields::put_name32(out, at + 10, units + 1, &text[first..end]);
 }
 
 // The n records of list 2.

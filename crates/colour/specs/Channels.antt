@@ -7,12 +7,15 @@ use lib.Ieee.{Float, fin, binary32, div, ofInt, le, ofBits, toBits}
 use lib.Ieee.Positive.{num, den}
 use lib.Ieee.Scale.{finite}
 use Rattle.fields.specs.Reader.{pick}
+use Rattle.colour.specs.Models.{modelOf}
+use Rattle.colour.specs.declared.model.Known.{Known}
+use Rattle.colour.specs.declared.model.Known.the-variants.{Is, Unknown}
 use Rattle.colour.specs.declared.model.Model.{Model}
 use Rattle.colour.specs.declared.model.Model.the-variants as model
 use Rattle.colour.specs.declared.channel.Channels.{Channels}
 use Rattle.colour.specs.declared.channel.Channels.the-variants.{Rgb, Cmyk, Lab, Gray}
 use Rattle.colour.specs.declared.channel.Made.{Made}
-use Rattle.colour.specs.declared.channel.Made.the-variants.{Is, Refused}
+use Rattle.colour.specs.declared.channel.Made.the-variants as vm
 
 -- ---- which channels a model allows
 
@@ -26,6 +29,14 @@ allows model.Rgb x = inUnit x
 allows model.Cmyk x = inUnit x
 allows model.Lab x = finite x
 allows model.Gray x = inUnit x
+
+abbrev pub allowsIn : Known → ℕ → Bool
+allowsIn (Is m) b = allows m (ofBits binary32 b)
+allowsIn Unknown b = false
+
+-- the model with a tag allows a channel with these bits
+unfoldable pub allowsBits : ℕ → ℕ → Bool
+allowsBits t b = allowsIn (modelOf t) b
 
 -- ---- a sample as a channel, and back, on a scale from 0 to n
 
@@ -47,13 +58,13 @@ abbrev pub channel : ℕ → Float
 channel b = ofBits binary32 b
 
 abbrev pub made : Model → ℕ → ℕ → ℕ → ℕ → Made
-made model.Rgb a b c d = pick (inUnit (channel a) && inUnit (channel b) && inUnit (channel c)) (Is (Rgb (channel a) (channel b) (channel c))) (Refused 5)
+made model.Rgb a b c d = pick (inUnit (channel a) && inUnit (channel b) && inUnit (channel c)) (vm.Is (Rgb (channel a) (channel b) (channel c))) (vm.Refused 5)
 made model.Cmyk a b c d =
     pick (inUnit (channel a) && inUnit (channel b) && inUnit (channel c) && inUnit (channel d))
-    (Is (Cmyk (channel a) (channel b) (channel c) (channel d)))
-    (Refused 5)
-made model.Lab a b c d = pick (finite (channel a) && finite (channel b) && finite (channel c)) (Is (Lab (channel a) (channel b) (channel c))) (Refused 5)
-made model.Gray a b c d = pick (inUnit (channel a)) (Is (Gray (channel a))) (Refused 5)
+    (vm.Is (Cmyk (channel a) (channel b) (channel c) (channel d)))
+    (vm.Refused 5)
+made model.Lab a b c d = pick (finite (channel a) && finite (channel b) && finite (channel c)) (vm.Is (Lab (channel a) (channel b) (channel c))) (vm.Refused 5)
+made model.Gray a b c d = pick (inUnit (channel a)) (vm.Is (Gray (channel a))) (vm.Refused 5)
 
 -- the bits of a colour's channels, and 0 for those that its model does not use
 abbrev pub bitsOf : Channels → List ℕ

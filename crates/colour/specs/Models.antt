@@ -1,5 +1,6 @@
 -- The colour models of ASE files.
 use Prim.Native.Nat.{ℕ}
+use mathlib.Core.Bool.{Bool, true, false}
 use lib.Dec.{eqb}
 use Rattle.fields.specs.Reader.{pick}
 use Rattle.colour.specs.declared.model.Traits.{Traits}
@@ -22,3 +23,19 @@ modelOf t =
     (pick (eqb t (traitsOf Cmyk .tag)) (Is Cmyk)
     (pick (eqb t (traitsOf Lab .tag)) (Is Lab)
     (pick (eqb t (traitsOf Gray .tag)) (Is Gray) Unknown)))
+
+abbrev pub isKnown : Known → Bool
+isKnown (Is m) = true
+isKnown Unknown = false
+
+abbrev pub countIn : Known → ℕ
+countIn (Is m) = traitsOf m .channels
+countIn Unknown = 0
+
+-- some model has the tag
+unfoldable pub isModel : ℕ → Bool
+isModel t = isKnown (modelOf t)
+
+-- how many channels the model with a tag has; none where no model has it
+unfoldable pub channelsOf : ℕ → ℕ
+channelsOf t = countIn (modelOf t)

@@ -14,6 +14,7 @@ use Rattle.fields.specs.Reader.{pick}
 use Rattle.fields.specs.Numbers.{be}
 use Rattle.fields.specs.Store.{stored}
 use Rattle.fields.specs.Text.{countedUnits}
+use Rattle.fields.proofs.Places.{length-be}
 
 pub stored-in : (out : List ℕ) (at : ℕ) (l : List ℕ) → at + length l ≤ length out → stored out at l ≡ sets out at l
 unfolding stored
@@ -57,18 +58,17 @@ module _ (all run out : List ℕ) (at i : ℕ) where
   pub copy-end : all ≡ sets out (at + i) (drop i run) → length run ≤ i → all ≡ out
   copy-end e h = e ∙ ap (λ (l : List ℕ). sets out (at + i) l) (drop-of-length-le run h)
 
--- a count, the bytes of the units and the closing zero, stored one after the other
-module _ (out : List ℕ) (at n : ℕ) (b : List ℕ) where
-  pub length-counted : length (countedUnits n b) ≡ length b + 6
-  unfolding countedUnits be
-  length-counted = let e = length-append b (be 2 0) in omega arith
+-- a count of w bytes, the bytes of the units and the closing zero, stored one after the other
+module _ (w : ℕ) (out : List ℕ) (at n : ℕ) (b : List ℕ) where
+  pub length-counted : length (countedUnits w n b) ≡ w + length b + 2
+  unfolding countedUnits
+  length-counted = omega (arith, length-append (be w n) (b ++ be 2 0), length-append b (be 2 0), length-be w n, length-be 2 0)
 
-  pub put-counted : (o₁ o₂ o₃ : List ℕ) → at + (length b + 6) ≤ length out → o₁ ≡ stored out at (be 4 n) → o₂ ≡ stored o₁ (at + 4) b → o₃ ≡ stored o₂ (at + 4 + length b) (be 2 0) → o₃ ≡ stored out at (countedUnits n b)
-  unfolding countedUnits be
+  pub put-counted : (o₁ o₂ o₃ : List ℕ) → at + (w + length b + 2) ≤ length out → o₁ ≡ stored out at (be w n) → o₂ ≡ stored o₁ (at + w) b → o₃ ≡ stored o₂ (at + w + length b) (be 2 0) → o₃ ≡ stored out at (countedUnits w n b)
+  unfolding countedUnits
   put-counted o₁ o₂ o₃ h e₁ e₂ e₃ =
-      let l = length-append b (be 2 0) in
-      let k : length o₁ ≡ length out = ap length e₁ ∙ length-stored out at (be 4 n) in
-      e₃ ∙ ap (λ (o : List ℕ). stored o (at + 4 + length b) (be 2 0)) e₂
-      ∙ sym (stored-append o₁ (at + 4) b (be 2 0) (at + 4 + length b) (omega arith) refl)
-      ∙ ap (λ (o : List ℕ). stored o (at + 4) (b ++ be 2 0)) e₁
-      ∙ sym (stored-append out at (be 4 n) (b ++ be 2 0) (at + 4) (omega arith) refl)
+      let k : length o₁ ≡ length out = ap length e₁ ∙ length-stored out at (be w n) in
+      e₃ ∙ ap (λ (o : List ℕ). stored o (at + w + length b) (be 2 0)) e₂
+      ∙ sym (stored-append o₁ (at + w) b (be 2 0) (at + w + length b) (omega (arith, length-append b (be 2 0), length-be 2 0)) refl)
+      ∙ ap (λ (o : List ℕ). stored o (at + w) (b ++ be 2 0)) e₁
+      ∙ sym (stored-append out at (be w n) (b ++ be 2 0) (at + w) (omega (arith, length-append (be w n) (b ++ be 2 0), length-append b (be 2 0), length-be w n, length-be 2 0)) (ap (λ (m : ℕ). at + m) (length-be w n)))

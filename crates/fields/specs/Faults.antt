@@ -18,6 +18,11 @@ unfoldable pub faultsFrom : {A : Type 0} → (ℕ → A → ℕ) → ℕ → Lis
 faultsFrom f i [] = 0
 faultsFrom f i (a ∷ more) = firstOf (f i a) (faultsFrom f (i + 1) more)
 
+-- the same, where it depends on the state that those before it left
+unfoldable pub faultsIn : {A S : Type 0} → (S → A → S) → (S → A → ℕ) → S → List A → ℕ
+faultsIn next f d [] = 0
+faultsIn next f d (a ∷ more) = firstOf (f d a) (faultsIn next f (next d a) more)
+
 -- a judgement's number
 abbrev pub found : Judged → ℕ
 found fine = 0

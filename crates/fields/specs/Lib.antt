@@ -3,5 +3,6 @@ pub mod Reader
 pub mod Text
 pub mod Faults
 pub mod Store
+pub mod Writing
 pub mod Algebra
 pub mod Answer

@@ -37,3 +37,8 @@ Bytes s = (k : ℕ) → getD s k 0 < 256
 abbrev pub All : {A : Type 0} → (ℕ → A → Type 0) → ℕ → List A → Type 0
 All Ok i [] = Unit
 All Ok i (a ∷ more) = Ok i a × All Ok (i + 1) more
+
+-- each value of a list in the state that those before it left
+abbrev pub AllIn : {A S : Type 0} → (S → A → S) → (S → A → Type 0) → S → List A → Type 0
+AllIn next Ok d [] = Unit
+AllIn next Ok d (a ∷ more) = Ok d a × AllIn next Ok (next d a) more

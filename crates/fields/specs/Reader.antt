@@ -68,6 +68,16 @@ unfoldable pub each : {A : Type 0} → ℕ → ℕ → (ℕ → Reader A) → Re
 each zero i p s at = ok [] at
 each (suc n) i p s at = then (p i s at) (λ a next. then (each n (i + 1) p s next) (λ more end. ok (a ∷ more) end))
 
+-- the state after some items, where `next` is the state after one
+unfoldable pub stateAfter : {A S : Type 0} → (S → A → S) → S → List A → S
+stateAfter next d [] = d
+stateAfter next d (a ∷ more) = stateAfter next (next d a) more
+
+-- n items in a row, each read in the state that those before it left
+unfoldable pub chain : {A S : Type 0} → (S → A → S) → (S → Reader A) → ℕ → S → Reader (List A)
+chain next p zero d s at = ok [] at
+chain next p (suc n) d s at = then (p d s at) (λ a q. then (chain next p n (next d a) s q) (λ more end. ok (a ∷ more) end))
+
 -- ---- the file's end
 
 -- 6 where bytes are left

@@ -54,9 +54,9 @@ place m = mapRes (λ nm. (nm .first, length (nm .units))) m
 unfoldable pub nameBytes : ℕ → List ℕ → List ℕ
 nameBytes w us = be w (length us + 1) ++ (joined (be 2) us ++ be 2 0)
 
--- the same from a count of 32 bits and the bytes of the units
-unfoldable pub countedUnits : ℕ → List ℕ → List ℕ
-countedUnits n b = be 4 n ++ (b ++ be 2 0)
+-- the same from the count and the bytes of the units
+unfoldable pub countedUnits : ℕ → ℕ → List ℕ → List ℕ
+countedUnits w n b = be w n ++ (b ++ be 2 0)
 
 -- the units that a name with a count of w bytes may have
 pub record Named (w : ℕ) (us : List ℕ) : Type 0 where

@@ -55,8 +55,8 @@ pub fn put_run(out: &mut [u8], at: usize, run: &[u8])
 }
 
 // A name: its count, the bytes of its units, and the closing zero.
-pub fn put_name(out: &mut [u8], at: usize, count: u32, units: &[u8])
-    ensures { λ _. ⌜ now (out .exit) ≡ stored (now (out .entry)) at (countedUnits count (now (units .entry))) ⌝ }
+pub fn put_name32(out: &mut [u8], at: usize, count: u32, units: &[u8])
+    ensures { λ _. ⌜ now (out .exit) ≡ stored (now (out .entry)) at (countedUnits 4 count (now (units .entry))) ⌝ }
 {
     let k = units.len();
     let n = out.len();
@@ -72,4 +72,24 @@ pub fn put_name(out: &mut [u8], at: usize, count: u32, units: &[u8])
     put_u32(out, at, count);
     put_run(out, at + 4, units);
     put_u16(out, at + 4 + k, 0);
+}
+
+// A name: its count, the bytes of its units, and the closing zero.
+pub fn put_name16(out: &mut [u8], at: usize, count: u16, units: &[u8])
+    ensures { λ _. ⌜ now (out .exit) ≡ stored (now (out .entry)) at (countedUnits 2 count (now (units .entry))) ⌝ }
+{
+    let k = units.len();
+    let n = out.len();
+    if n < 4 {
+        return;
+    }
+    if n - 4 < k {
+        return;
+    }
+    if n - 4 - k < at {
+        return;
+    }
+    put_u16(out, at, count);
+    put_run(out, at + 2, units);
+    put_u16(out, at + 2 + k, 0);
 }

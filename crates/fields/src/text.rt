@@ -7,6 +7,7 @@ ghost use Rattle.fields.specs.Numbers.{num, nums};
 ghost use Rattle.fields.specs.Reader.{done};
 ghost use Rattle.fields.specs.Text.{anyZero, closed, text, name, place};
 ghost use Rattle.fields.specs.Answer.{toldStep, toldName};
+use crate::number::Number16;
 use crate::number::Number32;
 use crate::number::Step;
 
@@ -84,6 +85,26 @@ fn is_closed(s: &[u8], at: usize, n: usize) -> bool
         return false;
     }
     swapped(s, at + 2 * (n - 1)) == 0
+}
+
+// The name at `at`, with a count of 16 bits.
+pub fn name16_at(s: &[u8], at: usize) -> NameAt
+    ensures { λ r. ⌜ toldName r ≡ place (name 2 (now (s .entry)) at) ⌝ }
+{
+    let Number16::Is(n, first) = crate::number::u16_at(s, at) else {
+        return NameAt::Refused(2, at);
+    };
+    if n == 0 {
+        return NameAt::Refused(8, at);
+    }
+    let k = n as usize;
+    if s.len() - first < 2 * k {
+        return NameAt::Refused(2, first);
+    }
+    if is_closed(s, first, k) {
+        return NameAt::Is(first, (n - 1) as u32, first + 2 * k);
+    }
+    NameAt::Refused(8, at)
 }
 
 // The name at `at`, with a count of 32 bits.

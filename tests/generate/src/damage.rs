@@ -1,5 +1,6 @@
 //! Damage done to sound files.
 
+use crate::bytes::{self, one_off};
 use crate::palette::{Colour, Layout, Palette, COLOUR_LEN, HEAD_LEN, NAME_COUNT_LEN, SPACES};
 use crate::random::Random;
 
@@ -119,12 +120,12 @@ struct Damaging<'a> {
 impl Damaging<'_> {
     fn apply(&mut self, kind: Damage) {
         match kind {
-            Damage::Cut => self.cut_after(0),
+            Damage::Cut => bytes::cut_after(self.file, 0, self.random),
             Damage::CutInListTwo => self.cut_in_list_two(),
-            Damage::FlipBit => self.flip_bit(),
-            Damage::SetByte => self.set_byte(),
-            Damage::DropByte => self.drop_byte(),
-            Damage::AddByte => self.add_byte(),
+            Damage::FlipBit => bytes::flip_bit(self.file, self.random),
+            Damage::SetByte => bytes::set_byte(self.file, self.random),
+            Damage::DropByte => bytes::drop_byte(self.file, self.random),
+            Damage::AddByte => bytes::add_byte(self.file, self.random),
             Damage::CountOneOff => self.one_off(Some(2)),
             Damage::CountWrong => self.wrong_count(Some(2)),
             Damage::ListTwoCountOneOff => self.one_off(self.list_two_count()),
@@ -144,24 +145,18 @@ impl Damaging<'_> {
             Damage::NameCountHuge => self.set_name_count(|_, r| r.pick(&HUGE_NAME_COUNTS)),
             Damage::NameLastUnitSet => self.set_last_unit(),
             Damage::NameEarlierZero => self.set_earlier_zero(),
-            Damage::LeftOver => self.leave_over(),
+            Damage::LeftOver => bytes::leave_over(self.file, self.random),
             Damage::ListTwoTwice => self.repeat_list_two(),
             Damage::ListOneTwice => self.repeat_list_one(),
             Damage::ListTwoAlone => self.keep_list_two(),
             Damage::NamesLast => *self.file = self.palette.file_with_names_last(),
             Damage::FewBytesAfterListOne => self.few_bytes_after_list_one(),
-            Damage::Noise => self.noise(),
-        }
-    }
-
-    fn put(&mut self, place: usize, bytes: &[u8]) {
-        if let Some(here) = self.file.get_mut(place..place + bytes.len()) {
-            here.copy_from_slice(bytes);
+            Damage::Noise => *self.file = bytes::noise(self.random),
         }
     }
 
     fn put_u16(&mut self, place: usize, value: u16) {
-        self.put(place, &value.to_be_bytes());
+        bytes::put(self.file, place, &value.to_be_bytes());
     }
 
     fn list_one_end(&self) -> usize {
@@ -182,42 +177,10 @@ impl Damaging<'_> {
         Some((*self.layout.named.get(index)?, index))
     }
 
-    fn cut_after(&mut self, start: usize) {
-        if start < self.file.len() {
-            let len = start + self.random.below(self.file.len() - start);
-            self.file.truncate(len);
-        }
-    }
-
     fn cut_in_list_two(&mut self) {
         if let Some(start) = self.layout.list_two {
-            self.cut_after(start);
+            bytes::cut_after(self.file, start, self.random);
         }
-    }
-
-    fn flip_bit(&mut self) {
-        if !self.file.is_empty() {
-            let place = self.random.below(self.file.len());
-            self.file[place] ^= 1 << self.random.below(8);
-        }
-    }
-
-    fn set_byte(&mut self) {
-        if !self.file.is_empty() {
-            let place = self.random.below(self.file.len());
-            self.file[place] = self.random.byte();
-        }
-    }
-
-    fn drop_byte(&mut self) {
-        if !self.file.is_empty() {
-            self.file.remove(self.random.below(self.file.len()));
-        }
-    }
-
-    fn add_byte(&mut self) {
-        let place = self.random.below(self.file.len() + 1);
-        self.file.insert(place, self.random.byte());
     }
 
     fn one_off(&mut self, count: Option<usize>) {
@@ -322,7 +285,7 @@ impl Damaging<'_> {
     fn set_name_count(&mut self, wrong: impl Fn(u32, &mut Random) -> u32) {
         if let Some((place, count)) = self.name_count() {
             let count = wrong(count, self.random);
-            self.put(place, &count.to_be_bytes());
+            bytes::put(self.file, place, &count.to_be_bytes());
         }
     }
 
@@ -338,16 +301,6 @@ impl Damaging<'_> {
             let unit = self.random.below(count as usize - 1);
             self.put_u16(place + NAME_COUNT_LEN + 2 * unit, 0);
         }
-    }
-
-    fn leave_over(&mut self) {
-        let len = 1 + self.random.below(20);
-        let bytes = if self.random.one_in(2) {
-            vec![0; len]
-        } else {
-            self.random.bytes(len)
-        };
-        self.file.extend(bytes);
     }
 
     fn repeat_list_two(&mut self) {
@@ -382,18 +335,5 @@ impl Damaging<'_> {
         ];
         let len = 1 + self.random.below(after.len());
         self.file.extend(&after[..len]);
-    }
-
-    fn noise(&mut self) {
-        let len = self.random.below(40);
-        *self.file = self.random.bytes(len);
-    }
-}
-
-fn one_off(count: u32, random: &mut Random) -> u32 {
-    if random.one_in(2) {
-        count + 1
-    } else {
-        count.wrapping_sub(1)
     }
 }

@@ -1,14 +1,17 @@
 //! Swatch files and records made up from a seed: sound ones, damaged ones, and
-//! a few fixed ones with the answers written down beside them. Then model tags
-//! and bit patterns of channels.
+//! a few fixed ones with the answers written down beside them; those of ASE are
+//! in its own module. Then model tags and bit patterns of channels.
 //!
 //! Files are laid out here from the colours themselves, by no writer under test.
 
 #![forbid(unsafe_code)]
 
+pub mod ase;
+mod bytes;
 mod channels;
 mod damage;
 mod fixed;
+mod names;
 mod palette;
 mod random;
 mod records;

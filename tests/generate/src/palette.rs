@@ -210,14 +210,14 @@ fn any_count(random: &mut Random) -> usize {
     }
 }
 
-fn any_unit(random: &mut Random) -> u16 {
+pub(crate) fn any_unit(random: &mut Random) -> u16 {
     if random.one_in(3) {
         return random.pick(&EDGE_UNITS);
     }
     random.u16().max(1)
 }
 
-fn put_u16(file: &mut Vec<u8>, value: u16) {
+pub(crate) fn put_u16(file: &mut Vec<u8>, value: u16) {
     file.extend(value.to_be_bytes());
 }
 

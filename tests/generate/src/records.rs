@@ -1,5 +1,6 @@
 //! Records for a writer, with the text in which their names lie.
 
+use crate::names::{any_name, any_text, empty_anywhere, far_past, just_past, zero_unit};
 use crate::palette::{Colour, SPACES};
 use crate::random::Random;
 
@@ -7,8 +8,6 @@ const ROW_LEN: usize = 7;
 const NAME: usize = 5;
 const UNITS: usize = 6;
 const MAX_RECORDS: usize = 4096;
-/// More units than a name made here has, damage aside.
-const LONG_NAME: u32 = 1 << 20;
 
 /// Spaces that are not known; some of them are once cut to 16 bits.
 const WRONG_SPACES: [u32; 8] = [3, 6, 9, 0xFFFF, 0x1_0000, 0x1_0002, 0x8_0008, u32::MAX];
@@ -65,8 +64,7 @@ impl LotDamage {
 }
 
 impl Lot {
-    /// A sound lot. Names lie anywhere in the text, at odd places too, and may
-    /// share units.
+    /// A sound lot. Names lie anywhere in the text.
     pub fn any(random: &mut Random) -> Self {
         let len = random.below(60);
         let text = any_text(random, len);
@@ -80,8 +78,7 @@ impl Lot {
             text,
         };
         for _ in 0..count {
-            let units = random.below(10.min(lot.text.len() / 2) + 1);
-            let name = random.below(lot.text.len() - 2 * units + 1);
+            let (name, units) = any_name(&lot.text, random);
             lot.push(Colour::any(random), name, units);
         }
         lot
@@ -143,14 +140,11 @@ impl Lot {
             LotDamage::SpaceWrong => row[0] = random.pick(&WRONG_SPACES),
             LotDamage::SampleLarge => row[1 + random.below(4)] = random.pick(&LARGE_SAMPLES),
             LotDamage::UnusedSampleSet => set_unused(row, random),
-            LotDamage::NamePastText => just_past(row, self.text.len(), random),
-            LotDamage::NameFarPastText => far_past(row, random),
-            LotDamage::ZeroUnit => zero_unit(row, &mut self.text, random),
+            LotDamage::NamePastText => just_past(&mut row[NAME..], self.text.len(), random),
+            LotDamage::NameFarPastText => far_past(&mut row[NAME..], random),
+            LotDamage::ZeroUnit => zero_unit(&mut row[NAME..], &mut self.text, random),
             LotDamage::ManyUnits => row[UNITS] = random.pick(&MANY_UNITS),
-            LotDamage::EmptyNameAnywhere => {
-                row[NAME] = random.u32();
-                row[UNITS] = 0;
-            }
+            LotDamage::EmptyNameAnywhere => empty_anywhere(&mut row[NAME..], random),
             LotDamage::Noise => row[random.below(ROW_LEN)] = random.u32(),
             LotDamage::ManyRecords | LotDamage::Remainder | LotDamage::TextShort => {}
         }
@@ -194,18 +188,6 @@ impl Lot {
     }
 }
 
-/// Text without a zero byte save now and then one that no name reads as half
-/// of a zero unit: its neighbours are not zero.
-fn any_text(random: &mut Random, len: usize) -> Vec<u8> {
-    let mut text: Vec<u8> = (0..len).map(|_| random.byte().max(1)).collect();
-    for place in (0..len).step_by(3) {
-        if random.one_in(4) {
-            text[place] = 0;
-        }
-    }
-    text
-}
-
 fn set_unused(row: &mut [u32], random: &mut Random) {
     let used = SPACES
         .iter()
@@ -213,29 +195,5 @@ fn set_unused(row: &mut [u32], random: &mut Random) {
         .map_or(4, |known| known.1);
     if used < 4 {
         row[1 + used + random.below(4 - used)] = random.pick(&[1, 0x0100, 0xFFFF, 0x1_0000]);
-    }
-}
-
-/// A name whose last byte, or last unit, is the first past the text.
-fn just_past(row: &mut [u32], text_len: usize, random: &mut Random) {
-    let past = text_len as u32 + 1 + random.below(2) as u32;
-    // Another damage may have made the name far longer than any text here.
-    row[UNITS] = row[UNITS].clamp(1, LONG_NAME);
-    row[NAME] = past.saturating_sub(2 * row[UNITS]);
-}
-
-/// A place so far on that adding the name's length to it passes 32 bits.
-fn far_past(row: &mut [u32], random: &mut Random) {
-    row[UNITS] = row[UNITS].max(1);
-    row[NAME] = u32::MAX - random.below(2 * row[UNITS] as usize + 2) as u32;
-}
-
-fn zero_unit(row: &[u32], text: &mut [u8], random: &mut Random) {
-    if row[UNITS] > 0 {
-        let unit = random.below(row[UNITS].min(LONG_NAME) as usize);
-        let place = row[NAME] as usize + 2 * unit;
-        if let Some(unit) = text.get_mut(place..place + 2) {
-            unit.fill(0);
-        }
     }
 }

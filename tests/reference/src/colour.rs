@@ -10,7 +10,6 @@ pub const FIELD_LEN: usize = 2;
 pub const FIELDS: usize = 5;
 pub const SAMPLES: usize = 4;
 pub const NAME_COUNT_LEN: usize = 4;
-pub const UNIT_LEN: usize = 2;
 pub const MAX_COLOURS: usize = 4096;
 
 pub const VERSION_ONE: u16 = 1;
@@ -107,21 +106,4 @@ pub fn is_sound(colour: &[u8; COLOUR_LEN]) -> bool {
     let space = usize::from(u16::from_be_bytes([high, low]));
     let looked_up = SPACES[space.min(LOOKED_UP - 1)];
     looked_up.known & (u64::from_be_bytes(samples) & looked_up.unused == 0)
-}
-
-const BLOCK_LEN: usize = 64;
-
-/// Whether one of the units is zero. Whole blocks are gone through without a
-/// branch, so that the compiler can take many units at once.
-pub fn holds_zero_unit(units: &[u8]) -> bool {
-    let (blocks, rest) = units.as_chunks::<BLOCK_LEN>();
-    blocks.iter().any(|block| any_zero(block)) || any_zero(rest)
-}
-
-#[inline(always)]
-fn any_zero(units: &[u8]) -> bool {
-    let (units, _) = units.as_chunks::<UNIT_LEN>();
-    units.iter().fold(false, |found, unit| {
-        found | (u16::from_ne_bytes(*unit) == 0)
-    })
 }

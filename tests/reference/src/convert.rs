@@ -3,12 +3,8 @@
 //! Every refusal here is at place 0, so its number says it all.
 
 use crate::colour::{CMYK, GRAY, HSB, LAB, RGB};
+use crate::model;
 use crate::refusal::number;
-
-const RGB_MODEL: u32 = u32::from_be_bytes(*b"RGB ");
-const CMYK_MODEL: u32 = u32::from_be_bytes(*b"CMYK");
-const LAB_MODEL: u32 = u32::from_be_bytes(*b"LAB ");
-const GRAY_MODEL: u32 = u32::from_be_bytes(*b"Gray");
 
 /// The sample that stands for a channel of 1.
 const FULL: u16 = u16::MAX;
@@ -31,10 +27,10 @@ pub fn to_channel(space: u16, sample: u16) -> Result<f32, u32> {
 pub fn to_sample(model: u32, bits: u32) -> Result<u16, u32> {
     let channel = f32::from_bits(bits);
     match model {
-        RGB_MODEL | GRAY_MODEL => nearest(channel),
-        CMYK_MODEL => nearest(channel).map(|sample| FULL - sample),
-        LAB_MODEL if channel.is_finite() => Err(number::NO_COUNTERPART),
-        LAB_MODEL => Err(number::OUT_OF_RANGE),
+        model::RGB | model::GRAY => nearest(channel),
+        model::CMYK => nearest(channel).map(|sample| FULL - sample),
+        model::LAB if channel.is_finite() => Err(number::NO_COUNTERPART),
+        model::LAB => Err(number::OUT_OF_RANGE),
         _ => Err(number::UNKNOWN_MODEL),
     }
 }

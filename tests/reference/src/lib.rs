@@ -1,5 +1,5 @@
-//! The rules of ACO swatch files, and of samples and channels, in plain, safe
-//! Rust.
+//! The rules of ACO and ASE swatch files, and of samples and channels, in plain,
+//! safe Rust. What is of ASE alone is in its own module.
 //!
 //! Written from the rules themselves, without a look at the proved
 //! library: where the two agree, they agree by the rules. It is also what the
@@ -8,16 +8,21 @@
 
 #![forbid(unsafe_code)]
 
+pub mod ase;
 mod colour;
 mod convert;
 mod listing;
+mod model;
+mod name;
+mod output;
 mod reader;
 mod refusal;
 mod writer;
 
-pub use colour::{COLOUR_LEN, HEAD_LEN, MAX_COLOURS, NAME_COUNT_LEN, SAMPLES, UNIT_LEN};
+pub use colour::{COLOUR_LEN, HEAD_LEN, MAX_COLOURS, NAME_COUNT_LEN, SAMPLES};
 pub use convert::{to_channel, to_sample};
 pub use listing::{list, LISTING_LIMIT};
+pub use name::UNIT_LEN;
 pub use reader::{judge, read, record, Accepted, Swatch};
 pub use refusal::{number, Refusal};
 pub use writer::{length, write};

@@ -1,6 +1,6 @@
 //! What the listing program prints.
 
-use crate::colour::UNIT_LEN;
+use crate::name::{self, UNIT_LEN};
 use crate::reader::{judge, Accepted, Swatch, Swatches};
 use crate::refusal::{number, Refusal};
 use std::fmt::Write;
@@ -41,9 +41,5 @@ fn list_accepted(file: &[u8], accepted: Accepted) -> String {
 }
 
 fn shown_name(file: &[u8], swatch: &Swatch) -> String {
-    if swatch.units == 0 {
-        return "-".to_string();
-    }
-    let units = &file[swatch.name..][..UNIT_LEN * swatch.units as usize];
-    units.iter().map(|byte| format!("{byte:02X}")).collect()
+    name::shown(&file[swatch.name..][..UNIT_LEN * swatch.units as usize])
 }

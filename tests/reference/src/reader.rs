@@ -1,9 +1,10 @@
 //! Judging a file and handing out its records.
 
 use crate::colour::{
-    field_at, holds_zero_unit, is_sound, judge_colour, COLOUR_LEN, FIELDS, FIELD_LEN, HEAD_LEN,
-    MAX_COLOURS, NAME_COUNT_LEN, SAMPLES, UNIT_LEN, VERSION_ONE, VERSION_TWO,
+    field_at, is_sound, judge_colour, COLOUR_LEN, FIELDS, FIELD_LEN, HEAD_LEN, MAX_COLOURS,
+    NAME_COUNT_LEN, SAMPLES, VERSION_ONE, VERSION_TWO,
 };
+use crate::name::{bytes_of, is_closed, UNIT_LEN};
 use crate::refusal::{number, Refusal};
 use crate::{LIMIT, ROW_LEN};
 
@@ -160,14 +161,12 @@ fn judge_name(file: &[u8], place: usize) -> Result<usize, Refusal> {
     }
     let body = place + NAME_COUNT_LEN;
     let rest = &file[body..];
-    // In 64 bits, where twice any 32-bit count fits.
-    let body_len = UNIT_LEN as u64 * u64::from(count);
+    let body_len = bytes_of(count);
     if body_len > rest.len() as u64 {
         return Err(Refusal::at(number::CUT, body));
     }
     let body_len = body_len as usize;
-    let (units, closing) = rest[..body_len].split_at(body_len - UNIT_LEN);
-    if closing != [0; UNIT_LEN] || holds_zero_unit(units) {
+    if !is_closed(&rest[..body_len]) {
         return Err(badly_closed);
     }
     Ok(body + body_len)

@@ -1,18 +1,23 @@
 //! Refusals.
 
-/// The numbers that an ACO call or a conversion can refuse with.
+/// The numbers that an ACO or ASE call or a conversion can refuse with.
 pub mod number {
     pub const TOO_LONG: u32 = 1;
     pub const CUT: u32 = 2;
+    pub const WRONG_SIGNATURE: u32 = 3;
     pub const WRONG_VERSION: u32 = 3;
     pub const UNKNOWN_SPACE: u32 = 4;
+    pub const UNKNOWN_BLOCK: u32 = 4;
     pub const UNKNOWN_MODEL: u32 = 4;
     pub const OUT_OF_RANGE: u32 = 5;
     pub const LEFT_OVER: u32 = 6;
     pub const LISTS_DISAGREE: u32 = 7;
     pub const BADLY_CLOSED: u32 = 8;
+    pub const UNBALANCED: u32 = 9;
+    pub const TOO_DEEP: u32 = 10;
     pub const NO_ROOM: u32 = 11;
     pub const NO_RECORD: u32 = 12;
+    pub const WRONG_LENGTH: u32 = 13;
     pub const NO_COUNTERPART: u32 = 14;
 }
 

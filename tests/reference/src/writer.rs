@@ -1,9 +1,11 @@
 //! Writing records as a file of two lists.
 
 use crate::colour::{
-    holds_zero_unit, used_samples, COLOUR_LEN, FIELD_LEN, HEAD_LEN, MAX_COLOURS, NAME_COUNT_LEN,
-    SAMPLES, UNIT_LEN, VERSION_ONE, VERSION_TWO,
+    used_samples, COLOUR_LEN, FIELD_LEN, HEAD_LEN, MAX_COLOURS, NAME_COUNT_LEN, SAMPLES,
+    VERSION_ONE, VERSION_TWO,
 };
+use crate::name::{bytes_of, holds_zero_unit, units_in, UNIT_LEN};
+use crate::output::put;
 use crate::refusal::{number, Refusal};
 use crate::{LIMIT, ROW_LEN};
 
@@ -49,17 +51,12 @@ pub fn write(records: &[u32], text: &[u8], out: &mut [u8]) -> Result<usize, Refu
 fn output_len(rows: &[Row]) -> Option<usize> {
     let mut total = 2 * HEAD_LEN as u64;
     for row in rows {
-        total += UNNAMED_LEN + name_len(row);
+        total += UNNAMED_LEN + bytes_of(row[6]);
         if total > LIMIT as u64 {
             return None;
         }
     }
     Some(total as usize)
-}
-
-/// The bytes of a record's name, without the closing zero.
-fn name_len(row: &Row) -> u64 {
-    UNIT_LEN as u64 * u64::from(row[6])
 }
 
 /// Judges the space and then each sample, in turn.
@@ -84,18 +81,8 @@ fn judge_name(row: &Row, text: &[u8]) -> Result<(), u32> {
     Ok(())
 }
 
-/// The name's units in the text, where it holds them all. A name of no units
-/// is in any text, whatever its place.
 fn name_units<'a>(row: &Row, text: &'a [u8]) -> Option<&'a [u8]> {
-    if name_len(row) == 0 {
-        return Some(&[]);
-    }
-    let start = u64::from(row[5]);
-    let end = start + name_len(row);
-    if end > text.len() as u64 {
-        return None;
-    }
-    Some(&text[start as usize..end as usize])
+    units_in(text, row[5], row[6])
 }
 
 fn head(version: u16, colours: usize) -> [u8; HEAD_LEN] {
@@ -141,12 +128,4 @@ fn write_list_two(rows: &[Row], text: &[u8], out: &mut [u8]) {
         put(&mut rest, units);
         put(&mut rest, &[0; UNIT_LEN]);
     }
-}
-
-/// Puts bytes at the start of what is left of the output, and steps over them.
-#[inline(always)]
-fn put(rest: &mut &mut [u8], bytes: &[u8]) {
-    let (here, after) = std::mem::take(rest).split_at_mut(bytes.len());
-    here.copy_from_slice(bytes);
-    *rest = after;
 }

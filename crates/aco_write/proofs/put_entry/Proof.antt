@@ -45,25 +45,25 @@ add-end c =
     let s = c .before .before .before .before .before .before .before .before .before .before .before in
     omega (arith, name-inside (s .args .text .now) (givenAt (s .args .run .now) (s .args .k)) (s .pre .1 .name), c .wide .ensures .0, c .before .name-start .ensures, s .good)
 
-add-put-name : tie.Need-add-put-name
-add-put-name c = search needs
+add-put-name32 : tie.Need-add-put-name32
+add-put-name32 c = search needs
 
-add-put-name-2 : tie.Need-add-put-name-2
-add-put-name-2 c = search needs
+add-put-name32-2 : tie.Need-add-put-name32-2
+add-put-name32-2 c = search needs
 
-sub-put-name : tie.Need-sub-put-name
-sub-put-name c = search needs
+sub-put-name32 : tie.Need-sub-put-name32
+sub-put-name32 c = search needs
 
-part-put-name-start : tie.Need-part-put-name-start
-part-put-name-start c = search needs
+part-put-name32-start : tie.Need-part-put-name32-start
+part-put-name32-start c = search needs
 
-part-put-name-end : tie.Need-part-put-name-end
-part-put-name-end c =
+part-put-name32-end : tie.Need-part-put-name32-end
+part-put-name32-end c =
     let s = c .before .before .before .before .before .before .before .before .before .before .before .before in
     omega (arith, name-inside (s .args .text .now) (givenAt (s .args .run .now) (s .args .k)) (s .pre .1 .name), c .before .wide .ensures .0, c .before .before .name-start .ensures)
 
-put-name-requires : tie.Need-put-name-requires
-put-name-requires c κs = search needs
+put-name32-requires : tie.Need-put-name32-requires
+put-name32-requires c κs = search needs
 
 same-length : tie.Need-same-length
 same-length c = search needs
@@ -77,7 +77,7 @@ returns c =
     let p₂ = c .before .before in
     let w = c .before .before .before .before .before .wide in
     let e₁ = p₁ .put-colour .ensures ∙ ap (λ k. sets (a .out .now) (a .at) (colourBytes (plain k))) (c .before .before .before .before .before .before .before .before .before .before .before .colour-of .ensures) in
-    let e₂ = p₂ .put-name .ensures ∙ ap (λ (r : ℕ). stored (p₁ .put-colour .last .0) (a .at + 10) (countedUnits (g .units + 1) (part (a .text .now) r (r + 2 * w .result - r)))) (c .before .before .before .before .before .before .name-start .ensures) in
+    let e₂ = p₂ .put-name32 .ensures ∙ ap (λ (r : ℕ). stored (p₁ .put-colour .last .0) (a .at + 10) (countedUnits 4 (g .units + 1) (part (a .text .now) r (r + 2 * w .result - r)))) (c .before .before .before .before .before .before .name-start .ensures) in
     put-record (a .text .now) (λ i. omega (arith, c .before .before .before .before .before .before .before .before .before .before .before .before .before .shared-slice-known2 .given i)) g (a .out .now) _ _ (a .at) (start g + 2 * w .result - start g) refl (omega (arith, w .ensures .0)) (s .pre .1 .name) (s .pre .1 .inside) (p₁ .put-colour .kept .0) e₁ e₂
 
 pub put-entry-spec : {M : Type 1} → statement M
@@ -94,11 +94,11 @@ put-entry-spec =
     wide-requires
     mul-end
     add-end
-    add-put-name
-    add-put-name-2
-    sub-put-name
-    part-put-name-start
-    part-put-name-end
-    put-name-requires
+    add-put-name32
+    add-put-name32-2
+    sub-put-name32
+    part-put-name32-start
+    part-put-name32-end
+    put-name32-requires
     same-length
     returns)

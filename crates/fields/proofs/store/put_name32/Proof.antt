@@ -2,20 +2,20 @@ use mathlib.Core.Path.{sym}
 use native.Mathlib.Omega.{arith}
 use Rattle.fields.proofs.Stores.{stored-out, length-counted, put-counted}
 use borrow.Author.Needs.{needs}
-use Rattle.fields.proofs.store.put_name.Statement.{statement}
-use Rattle.fields.proofs.store.put_name.Tie as tie
+use Rattle.fields.proofs.store.put_name32.Statement.{statement}
+use Rattle.fields.proofs.store.put_name32.Tie as tie
 
 returns : tie.Need-returns
-returns c = let a = c .before .before .before .args in sym (stored-out _ _ _ (omega (arith, length-counted (a .out .now) (a .at) (a .count) (a .units .now))))
+returns c = let a = c .before .before .before .args in sym (stored-out _ _ _ (omega (arith, length-counted 4 (a .out .now) (a .at) (a .count) (a .units .now))))
 
 returns-2 : tie.Need-returns-2
-returns-2 c = let a = c .before .before .before .before .args in sym (stored-out _ _ _ (omega (arith, length-counted (a .out .now) (a .at) (a .count) (a .units .now))))
+returns-2 c = let a = c .before .before .before .before .args in sym (stored-out _ _ _ (omega (arith, length-counted 4 (a .out .now) (a .at) (a .count) (a .units .now))))
 
 sub-if3 : tie.Need-sub-if3
 sub-if3 c = search needs
 
 returns-3 : tie.Need-returns-3
-returns-3 c = let a = c .before .before .before .before .before .args in sym (stored-out _ _ _ (omega (arith, length-counted (a .out .now) (a .at) (a .count) (a .units .now))))
+returns-3 c = let a = c .before .before .before .before .before .args in sym (stored-out _ _ _ (omega (arith, length-counted 4 (a .out .now) (a .at) (a .count) (a .units .now))))
 
 put-u32-requires : tie.Need-put-u32-requires
 put-u32-requires c κs = search needs
@@ -44,10 +44,10 @@ returns-4 c =
     let prun = p16 .before .before .before .before in
     let p32 = prun .before .before .before .before in
     let a = p32 .before .before .before .before .before .before .before .args in
-    put-counted (a .out .now) (a .at) (a .count) (a .units .now) _ _ _ (omega arith) (p32 .put-u32 .ensures) (prun .put-run .ensures) (p16 .put-u16 .ensures)
+    put-counted 4 (a .out .now) (a .at) (a .count) (a .units .now) _ _ _ (omega arith) (p32 .put-u32 .ensures) (prun .put-run .ensures) (p16 .put-u16 .ensures)
 
-pub put-name-spec : {M : Type 1} → statement M
-put-name-spec =
+pub put-name32-spec : {M : Type 1} → statement M
+put-name32-spec =
     tie.close
     (tie.spec
     returns

@@ -1,0 +1,76 @@
+-- ASE files as byte strings, joined from blocks: what may stand in a file. Nothing here reads.
+-- The types, the models and the limits are written here by themselves, from docs/RULES.md, and not taken from the reader's.
+use Prim.Native.Nat.{ℕ, _+_, _-_, _%_, _^_, _≤_, _<_}
+use mathlib.Core.Path.{_≡_}
+use mathlib.Core.List.{List, [], _∷_, _++_}
+use lib.ListN.{length}
+use Rattle.fields.specs.Numbers.{be, joined, All}
+use Rattle.fields.specs.Text.{nameBytes, Named}
+
+-- a block: the start of a group with the units of its name; the end of a group;
+-- or a colour: the units of its name, the tag of its model, the bits of its channels, and its type
+pub data Block : Type 0 where
+  start : List ℕ → Block
+  stop : Block
+  colour : List ℕ → ℕ → List ℕ → ℕ → Block
+
+-- ---- its bytes
+
+abbrev pub typeOf : Block → ℕ
+typeOf (start us) = 0xC001
+typeOf stop = 0xC002
+typeOf (colour us t bs k) = 0x0001
+
+-- a name with a 16-bit count; in a colour then model, channels and type
+abbrev pub payload : Block → List ℕ
+payload (start us) = nameBytes 2 us
+payload stop = []
+payload (colour us t bs k) = nameBytes 2 us ++ (be 4 t ++ (joined (be 4) bs ++ be 2 k))
+
+-- the length does not count the six bytes before the payload
+unfoldable pub blockBytes : Block → List ℕ
+blockBytes b = be 2 (typeOf b) ++ (be 4 (length (payload b)) ++ payload b)
+
+-- `ASEF`, 1, 0, the block count, the blocks
+unfoldable pub fileBytes : List Block → List ℕ
+fileBytes bs = be 4 0x4153_4546 ++ (be 2 1 ++ (be 2 0 ++ (be 4 (length bs) ++ joined blockBytes bs)))
+
+-- ---- which blocks are allowed
+
+-- a model by its tag, and how many channels it has: `RGB `, `CMYK`, `LAB `, `Gray`
+pub data Model : ℕ → ℕ → Type 0 where
+  rgb : Model 0x5247_4220 3
+  cmyk : Model 0x434D_594B 4
+  lab : Model 0x4C41_4220 3
+  gray : Model 0x4772_6179 1
+
+-- the bits of a channel: from 0 to 1, minus zero, and in Lab any finite float
+pub data Channel : ℕ → ℕ → Type 0 where
+  unit : {t b : ℕ} → b ≤ 0x3F80_0000 → Channel t b
+  minus : {t : ℕ} → Channel t 0x8000_0000
+  finite : {b : ℕ} → b < 2 ^ 32 → b % 0x8000_0000 < 0x7F80_0000 → Channel 0x4C41_4220 b
+
+pub record Colour (us : List ℕ) (t : ℕ) (bs : List ℕ) (k : ℕ) : Type 0 where
+  pub count : ℕ
+  pub model : Model t count
+  pub all : length bs ≡ count
+  pub channels : All (λ i b. Channel t b) 0 bs
+  -- 0 global, 1 spot, 2 normal
+  pub type : k ≤ 2
+  pub name : Named 2 us
+
+abbrev pub Allowed : Block → Type 0
+Allowed (start us) = Named 2 us
+Allowed stop = Unit
+Allowed (colour us t bs k) = Colour us t bs k
+
+-- where d groups stand open: at most 16 do at once, every end closes one, and none is left open
+abbrev pub Nested : ℕ → List Block → Type 0
+Nested d [] = d ≡ 0
+Nested d (start us ∷ bs) = (d < 16) × Nested (d + 1) bs
+Nested d (stop ∷ bs) = (0 < d) × Nested (d - 1) bs
+Nested d (colour us t cs k ∷ bs) = Nested d bs
+
+-- ---- a file: at most 16,777,216 bytes
+pub data File : List Block → List ℕ → Type 0 where
+  file : {bs : List Block} → All (λ i b. Allowed b) 0 bs → Nested 0 bs → length (fileBytes bs) ≤ 16777216 → File bs (fileBytes bs)

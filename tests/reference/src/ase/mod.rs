@@ -1,0 +1,15 @@
+//! The rules of ASE palettes. Refusals, names, models and limits are those that
+//! ACO and the conversions have, too.
+
+mod layout;
+mod listing;
+mod reader;
+mod writer;
+
+pub use layout::{
+    CHANNELS, COLOUR, ENVELOPE_LEN, GROUP_END, GROUP_START, HEAD_LEN, MAX_OPEN, NAME_COUNT_LEN,
+    ROW_LEN,
+};
+pub use listing::list;
+pub use reader::{judge, read, record, Accepted, Record};
+pub use writer::{length, write};
