@@ -1,2 +1,9 @@
--- Laws of the definitions of specs/.
+-- Laws of the definitions of specs/. The theorems that a user cares about stand in RoundTrip.
+pub mod Tables
+pub mod Payload
+pub mod Laws
+pub mod Whole
+pub mod Faultless
+pub mod Written
+pub mod RoundTrip
 pub mod Judging

@@ -4,6 +4,7 @@ pub mod Rounding
 pub mod Return
 pub mod Nearest
 pub mod Unit
+pub mod Models
 pub mod Kept
 pub mod Converting
 pub mod Theorems

@@ -5,6 +5,7 @@ pub mod Inverse
 pub mod Lawful
 pub mod Exact
 pub mod Tells
+pub mod Chain
 pub mod Stores
 pub mod Texts
 pub mod Floats

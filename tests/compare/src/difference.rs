@@ -89,11 +89,8 @@ pub fn hex(bytes: &[u8]) -> String {
     format!("{} bytes: {}{cut}", bytes.len(), digits.join(" "))
 }
 
-/// Records as rows of numbers, cut where they are many.
-pub fn rows(records: &[u32]) -> String {
-    let shown: Vec<&[u32]> = records
-        .chunks(reference::ROW_LEN)
-        .take(SHOWN_RECORDS)
-        .collect();
+/// Records as rows of so many numbers, cut where they are many.
+pub fn rows(records: &[u32], row_len: usize) -> String {
+    let shown: Vec<&[u32]> = records.chunks(row_len).take(SHOWN_RECORDS).collect();
     format!("{} numbers: {shown:?}", records.len())
 }

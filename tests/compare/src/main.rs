@@ -1,32 +1,39 @@
-//! Compares the proved library, and its listing program, with the reference.
+//! Compares the proved library, and its listing programs, with the reference.
 
+mod ase;
 mod campaign;
 mod converting;
 mod difference;
 mod expected;
 mod lent;
 mod listing;
+mod program;
 mod reading;
 mod tally;
 mod writing;
 
-use std::path::PathBuf;
+use difference::Checked;
+use std::path::{Path, PathBuf};
 use std::process::ExitCode;
 
 const USAGE: &str = "usage: compare [SEED [FILES]]
+       compare ase [SEED [FILES]]
        compare convert [SEED [PATTERNS]]
-       compare list [PROGRAM [FILES [SEED]]]";
+       compare list [PROGRAM [FILES [SEED]]]
+       compare list-ase [PROGRAM [FILES [SEED]]]";
 const DEFAULT_SEED: u64 = 20_240_229;
 const DEFAULT_FILES: u64 = 300_000;
 const DEFAULT_PATTERNS: u64 = 60_000_000;
 const DEFAULT_LISTED: u64 = 300;
-const DEFAULT_PROGRAM: &str = concat!(env!("CARGO_MANIFEST_DIR"), "/../../target/bin/aco_list");
+const PROGRAMS: &str = concat!(env!("CARGO_MANIFEST_DIR"), "/../../target/bin");
 
 fn main() -> ExitCode {
     let args: Vec<String> = std::env::args().skip(1).collect();
     let outcome = match args.first().map(String::as_str) {
+        Some("ase") => compare_ase(&args[1..]),
         Some("convert") => compare_conversions(&args[1..]),
-        Some("list") => compare_listings(&args[1..]),
+        Some("list") => compare_listings(&args[1..], "aco_list", listing::run),
+        Some("list-ase") => compare_listings(&args[1..], "ase_list", ase::listing::run),
         _ => compare_library(&args),
     };
     match outcome {
@@ -52,6 +59,18 @@ fn compare_library(args: &[String]) -> Result<String, String> {
     Ok(format!("the library agrees: {tally}"))
 }
 
+fn compare_ase(args: &[String]) -> Result<String, String> {
+    let seed = number(args, 0, DEFAULT_SEED)?;
+    let files = number(args, 1, DEFAULT_FILES)?;
+    println!("seed {seed}");
+    let tally =
+        ase::campaign::run(seed, files).map_err(|difference| with_seed(seed, difference))?;
+    tally
+        .all_reached()
+        .map_err(|missing| with_seed(seed, missing))?;
+    Ok(format!("the library agrees on ASE: {tally}"))
+}
+
 fn compare_conversions(args: &[String]) -> Result<String, String> {
     let seed = number(args, 0, DEFAULT_SEED)?;
     let patterns = number(args, 1, DEFAULT_PATTERNS)?;
@@ -64,13 +83,18 @@ fn compare_conversions(args: &[String]) -> Result<String, String> {
     Ok(format!("the conversions agree: {tally}"))
 }
 
-fn compare_listings(args: &[String]) -> Result<String, String> {
-    let program = PathBuf::from(args.first().map_or(DEFAULT_PROGRAM, String::as_str));
+fn compare_listings(
+    args: &[String],
+    name: &str,
+    run: impl Fn(&Path, u64, u64) -> Checked<usize>,
+) -> Result<String, String> {
+    let program = args
+        .first()
+        .map_or_else(|| Path::new(PROGRAMS).join(name), PathBuf::from);
     let files = number(args, 1, DEFAULT_LISTED)?;
     let seed = number(args, 2, DEFAULT_SEED)?;
     println!("seed {seed}");
-    let listed =
-        listing::run(&program, seed, files).map_err(|difference| with_seed(seed, difference))?;
+    let listed = run(&program, seed, files).map_err(|difference| with_seed(seed, difference))?;
     Ok(format!("the listing program agrees: {listed} inputs"))
 }
 

@@ -38,14 +38,15 @@ const BACK: [u32; 4] = [
 
 /// Counts by refusal number; 0 counts what was accepted.
 #[derive(Default)]
-struct Counts([u64; NUMBERS]);
+pub struct Counts([u64; NUMBERS]);
 
 impl Counts {
-    fn add(&mut self, number: u32) {
+    pub fn add(&mut self, number: u32) {
         self.0[number as usize] += 1;
     }
 
-    fn missing(&self, numbers: &[u32]) -> Vec<u32> {
+    /// Those of the numbers that never came up.
+    pub fn missing(&self, numbers: &[u32]) -> Vec<u32> {
         numbers
             .iter()
             .copied()

@@ -27,7 +27,7 @@ pub fn check_records(
 ) -> Checked<Option<Vec<u8>>> {
     check_calls(records, text, random, tally).map_err(|difference| {
         difference
-            .given("records", rows(records))
+            .given("records", rows(records, ROW_LEN))
             .given("text", hex(text))
     })
 }

@@ -1,4 +1,7 @@
-//! The proved library's calls, through its C interface.
+//! The proved library's calls, through its C interface. Those for ASE are in
+//! their own module.
+
+pub mod ase;
 
 use std::fmt::{self, Debug, Formatter};
 

@@ -10,7 +10,14 @@ const COUNT_PLACE: usize = 8;
 
 const WRONG_SIGNATURES: [[u8; 4]; 5] = [*b"ASEG", *b"asef", *b"FESA", *b"8BCB", [0; 4]];
 const WRONG_VERSIONS: [u16; 5] = [0, 1, 2, 0x0100, 0xFFFF];
-const WRONG_COUNTS: [u32; 6] = [0, 0x00FF_FFFF, 0x0100_0000, 0x0001_0000, 0x8000_0000, u32::MAX];
+const WRONG_COUNTS: [u32; 6] = [
+    0,
+    0x00FF_FFFF,
+    0x0100_0000,
+    0x0001_0000,
+    0x8000_0000,
+    u32::MAX,
+];
 /// Types that are not known, near to those that are or read backwards.
 const WRONG_TYPES: [u16; 10] = [
     0x0000, 0x0002, 0x0003, 0x0100, 0x01C0, 0x02C0, 0xC000, 0xC003, 0x8001, 0xFFFF,
@@ -18,7 +25,12 @@ const WRONG_TYPES: [u16; 10] = [
 const TYPES: [u16; 3] = [GROUP_START, GROUP_END, COLOUR];
 /// Lengths that wrap, or nearly, where a place is added to them in 32 bits.
 const HUGE_LENGTHS: [u32; 6] = [
-    0x7FFF_FFFF, 0x8000_0000, 0xFFFF_FFF0, 0xFFFF_FFFA, 0xFFFF_FFFE, u32::MAX,
+    0x7FFF_FFFF,
+    0x8000_0000,
+    0xFFFF_FFF0,
+    0xFFFF_FFFA,
+    0xFFFF_FFFE,
+    u32::MAX,
 ];
 const HUGE_NAME_COUNTS: [u16; 5] = [0x0100, 0x7FFF, 0x8000, 0x8001, 0xFFFF];
 const WRONG_MODELS: [[u8; 4]; 12] = [
@@ -205,13 +217,17 @@ impl Damaging<'_> {
             Damage::TypeOther => self.set_type(&TYPES),
             Damage::LengthOneOff => self.set_length(one_off),
             Damage::LengthWithEnvelope => self.set_length(|len, _| len + ENVELOPE_LEN as u32),
-            Damage::LengthAny => self.set_length(|len, random| random.below(len as usize + 40) as u32),
+            Damage::LengthAny => {
+                self.set_length(|len, random| random.below(len as usize + 40) as u32)
+            }
             Damage::LengthHuge => self.set_length(|_, random| random.pick(&HUGE_LENGTHS)),
             Damage::PayloadCut => self.cut_payload(),
             Damage::PayloadLonger => self.lengthen_payload(|span| span.is_named()),
             Damage::EndFilled => self.lengthen_payload(|span| span.kind == GROUP_END),
             Damage::NameCountZero => self.set_name_count(|_, _| 0),
-            Damage::NameCountOneOff => self.set_name_count(|count, r| one_off(count.into(), r) as u16),
+            Damage::NameCountOneOff => {
+                self.set_name_count(|count, r| one_off(count.into(), r) as u16)
+            }
             Damage::NameCountHuge => self.set_name_count(|_, r| r.pick(&HUGE_NAME_COUNTS)),
             Damage::NameLastUnitSet => self.set_last_unit(),
             Damage::NameEarlierZero => self.set_earlier_zero(),
@@ -418,16 +434,22 @@ impl Damaging<'_> {
         let last = self.spans.last().map_or(HEAD_LEN, |span| span.end);
         let last = last.min(self.file.len());
         let closed = depth - usize::from(self.random.one_in(8));
-        self.file.splice(last..last, bare_block(GROUP_END).repeat(closed));
+        self.file
+            .splice(last..last, bare_block(GROUP_END).repeat(closed));
         let first = HEAD_LEN.min(self.file.len());
-        self.file.splice(first..first, bare_block(GROUP_START).repeat(depth));
+        self.file
+            .splice(first..first, bare_block(GROUP_START).repeat(depth));
         self.recount((depth + closed) as i32);
     }
 }
 
 /// A group's start without a name, or its end.
 fn bare_block(kind: u16) -> Vec<u8> {
-    let payload: &[u8] = if kind == GROUP_START { &[0, 1, 0, 0] } else { &[] };
+    let payload: &[u8] = if kind == GROUP_START {
+        &[0, 1, 0, 0]
+    } else {
+        &[]
+    };
     let len = payload.len() as u32;
     [&kind.to_be_bytes(), &len.to_be_bytes()[..], payload].concat()
 }

@@ -117,11 +117,22 @@ fn colour(payload: &[&[u8]]) -> Vec<u8> {
 
 /// So many groups opened, then what is given, then so many closed.
 fn groups(opened: usize, inside: &[u8], closed: usize, blocks: u32) -> Vec<u8> {
-    counting(blocks, &[&START.repeat(opened), inside, &END.repeat(closed)])
+    counting(
+        blocks,
+        &[&START.repeat(opened), inside, &END.repeat(closed)],
+    )
 }
 
 pub fn fixed_files() -> Vec<Fixed> {
-    let parts = [heads(), envelopes(), group_ends(), depths(), names(), colours(), orders()];
+    let parts = [
+        heads(),
+        envelopes(),
+        group_ends(),
+        depths(),
+        names(),
+        colours(),
+        orders(),
+    ];
     let fixed = |(title, file, answer)| Fixed {
         title,
         file,
@@ -137,14 +148,26 @@ fn heads() -> Vec<Written> {
     vec![
         ("P1", head(b""), refused(2, 0)),
         ("half of no signature", head(b"XXX"), refused(2, 0)),
-        ("another signature", head(b"ASEG\0\x01\0\0\0\0\0\0"), refused(3, 0)),
+        (
+            "another signature",
+            head(b"ASEG\0\x01\0\0\0\0\0\0"),
+            refused(3, 0),
+        ),
         ("small letters", head(b"asef"), refused(3, 0)),
         ("signature alone", head(b"ASEF"), refused(2, 4)),
         ("half a version", head(b"ASEF\x02"), refused(2, 4)),
         ("version 2", head(b"ASEF\0\x02"), refused(3, 4)),
-        ("version read backwards", head(b"ASEF\x01\0\0\0"), refused(3, 4)),
+        (
+            "version read backwards",
+            head(b"ASEF\x01\0\0\0"),
+            refused(3, 4),
+        ),
         ("no second version", head(b"ASEF\0\x01"), refused(2, 6)),
-        ("half a second version", head(b"ASEF\0\x01\x01"), refused(2, 6)),
+        (
+            "half a second version",
+            head(b"ASEF\0\x01\x01"),
+            refused(2, 6),
+        ),
         ("second version 1", head(b"ASEF\0\x01\0\x01"), refused(3, 6)),
         ("no count", head(b"ASEF\0\x01\0\0"), refused(2, 8)),
         ("a cut count", head(b"ASEF\0\x01\0\0\0\0\0"), refused(2, 8)),
@@ -154,7 +177,11 @@ fn heads() -> Vec<Written> {
         ("P7", head(P7), refused(13, 14)),
         ("every model", head(EVERY_MODEL), accepted(6, 4)),
         ("P6 not counted", counting(0, &[&P6[12..]]), refused(6, 12)),
-        ("many blocks, none there", counting(u32::MAX, &[]), refused(2, 12)),
+        (
+            "many blocks, none there",
+            counting(u32::MAX, &[]),
+            refused(2, 12),
+        ),
         (
             "many blocks, one there",
             counting(u32::MAX, &[&P6[12..]]),
@@ -182,7 +209,11 @@ fn envelopes() -> Vec<Written> {
             refused(4, 12),
         ),
         ("unknown type", alone(0x0000, &[]), refused(4, 12)),
-        ("type read backwards", alone(0x0100, &[GRAY, &ONE, &[0, 2]]), refused(4, 12)),
+        (
+            "type read backwards",
+            alone(0x0100, &[GRAY, &ONE, &[0, 2]]),
+            refused(4, 12),
+        ),
         ("payload one byte short", P6[..31].to_vec(), refused(2, 18)),
         (
             "payload too long for any file",
@@ -203,7 +234,11 @@ fn group_ends() -> Vec<Written> {
             alone(GROUP_END, &[&[0]]),
             refused(13, 14),
         ),
-        ("end with a cut payload", counting(1, &[&cut_end]), refused(2, 18)),
+        (
+            "end with a cut payload",
+            counting(1, &[&cut_end]),
+            refused(2, 18),
+        ),
         (
             "end with a payload",
             counting(2, &[START, &block(GROUP_END, &[&[0, 0]])]),
@@ -212,9 +247,21 @@ fn group_ends() -> Vec<Written> {
         ("an empty group", groups(1, &[], 1, 2), accepted(2, 0)),
         ("two ends for a group", groups(1, &[], 2, 3), refused(9, 28)),
         ("a group not closed", groups(1, &[], 0, 1), refused(9, 22)),
-        ("not closed, then bytes", groups(1, &[0], 0, 1), refused(9, 22)),
-        ("closed past the count", groups(1, &[], 1, 1), refused(9, 22)),
-        ("not closed, then cut", groups(1, &[0xC0], 0, 2), refused(2, 22)),
+        (
+            "not closed, then bytes",
+            groups(1, &[0], 0, 1),
+            refused(9, 22),
+        ),
+        (
+            "closed past the count",
+            groups(1, &[], 1, 1),
+            refused(9, 22),
+        ),
+        (
+            "not closed, then cut",
+            groups(1, &[0xC0], 0, 2),
+            refused(2, 22),
+        ),
     ]
 }
 
@@ -226,11 +273,27 @@ fn depths() -> Vec<Written> {
     let again = [END, START].concat();
     vec![
         ("16 groups", groups(16, &[], 16, 32), accepted(32, 0)),
-        ("16 groups, not closed", groups(16, &[], 0, 16), refused(9, 172)),
+        (
+            "16 groups, not closed",
+            groups(16, &[], 0, 16),
+            refused(9, 172),
+        ),
         ("17 groups", groups(17, &[], 17, 34), refused(10, 172)),
-        ("17th, badly closed", groups(16, &bad_name, 17, 34), refused(10, 172)),
-        ("17th, without a name", groups(16, &no_name, 17, 34), refused(10, 172)),
-        ("17th, too long", groups(16, &long_name, 17, 34), refused(10, 172)),
+        (
+            "17th, badly closed",
+            groups(16, &bad_name, 17, 34),
+            refused(10, 172),
+        ),
+        (
+            "17th, without a name",
+            groups(16, &no_name, 17, 34),
+            refused(10, 172),
+        ),
+        (
+            "17th, too long",
+            groups(16, &long_name, 17, 34),
+            refused(10, 172),
+        ),
         ("17th, cut", groups(16, cut, 0, 34), refused(2, 178)),
         ("16th again", groups(16, &again, 16, 34), accepted(34, 0)),
     ]
@@ -243,9 +306,21 @@ fn names() -> Vec<Written> {
         ("half a name count", colour(&[&[0]]), refused(13, 14)),
         ("name count 0", colour(&[&[0, 0]]), refused(8, 18)),
         ("cut name", colour(&[&[0, 2, 0, 0x41, 0]]), refused(13, 14)),
-        ("longest name, cut", colour(&[&[0xFF, 0xFF, 0, 0]]), refused(13, 14)),
-        ("name not closed", colour(&[&[0, 1, 0, 0x41]]), refused(8, 18)),
-        ("zero at the start", colour(&[&[0, 2, 0, 0, 0, 0]]), refused(8, 18)),
+        (
+            "longest name, cut",
+            colour(&[&[0xFF, 0xFF, 0, 0]]),
+            refused(13, 14),
+        ),
+        (
+            "name not closed",
+            colour(&[&[0, 1, 0, 0x41]]),
+            refused(8, 18),
+        ),
+        (
+            "zero at the start",
+            colour(&[&[0, 2, 0, 0, 0, 0]]),
+            refused(8, 18),
+        ),
         (
             "zero in the middle",
             colour(&[&[0, 4, 0, 1, 0, 0, 0, 1, 0, 0], rest]),
@@ -257,7 +332,11 @@ fn names() -> Vec<Written> {
             accepted(1, 1),
         ),
         ("group of no name", alone(GROUP_START, &[]), refused(13, 14)),
-        ("group's name count 0", alone(GROUP_START, &[&[0, 0]]), refused(8, 18)),
+        (
+            "group's name count 0",
+            alone(GROUP_START, &[&[0, 0]]),
+            refused(8, 18),
+        ),
         (
             "group's cut name",
             alone(GROUP_START, &[&[0, 2, 0, 0]]),
@@ -279,18 +358,34 @@ fn names() -> Vec<Written> {
 fn colours() -> Vec<Written> {
     vec![
         ("cut model", colour(&[&GRAY[..7]]), refused(13, 14)),
-        ("unknown model", colour(&[b"\0\x01\0\0gray"]), refused(4, 22)),
-        ("model without its space", colour(&[b"\0\x01\0\0RGB\0"]), refused(4, 22)),
+        (
+            "unknown model",
+            colour(&[b"\0\x01\0\0gray"]),
+            refused(4, 22),
+        ),
+        (
+            "model without its space",
+            colour(&[b"\0\x01\0\0RGB\0"]),
+            refused(4, 22),
+        ),
         ("no channel", colour(&[GRAY]), refused(13, 14)),
         ("cut channel", colour(&[GRAY, &NAN[..3]]), refused(13, 14)),
-        ("channel above 1", colour(&[RGB, &ABOVE_ONE]), refused(5, 26)),
+        (
+            "channel above 1",
+            colour(&[RGB, &ABOVE_ONE]),
+            refused(5, 26),
+        ),
         ("one channel of RGB", colour(&[RGB, &ONE]), refused(13, 14)),
         (
             "third channel not a number",
             colour(&[RGB, &ZERO, &ONE, &NAN]),
             refused(5, 34),
         ),
-        ("minus zero", colour(&[GRAY, &MINUS_ZERO, &[0, 0]]), accepted(1, 1)),
+        (
+            "minus zero",
+            colour(&[GRAY, &MINUS_ZERO, &[0, 0]]),
+            accepted(1, 1),
+        ),
         (
             "negative subnormal",
             colour(&[GRAY, &NEGATIVE_SUBNORMAL, &[0, 0]]),
@@ -323,8 +418,16 @@ fn colours() -> Vec<Written> {
             refused(13, 14),
         ),
         ("no colour type", colour(&[GRAY, &ONE]), refused(13, 14)),
-        ("half a colour type", colour(&[GRAY, &ONE, &[0xFF]]), refused(13, 14)),
-        ("colour type 3", colour(&[GRAY, &ONE, &[0, 3]]), refused(5, 30)),
+        (
+            "half a colour type",
+            colour(&[GRAY, &ONE, &[0xFF]]),
+            refused(13, 14),
+        ),
+        (
+            "colour type 3",
+            colour(&[GRAY, &ONE, &[0, 3]]),
+            refused(5, 30),
+        ),
         (
             "colour type read backwards",
             colour(&[GRAY, &ONE, &[1, 0]]),

@@ -16,7 +16,13 @@ pub fn balanced(random: &mut Random, blocks: usize) -> Vec<Kind> {
     // Where starts are drawn far more often than ends, groups nest deep.
     let draws = random.pick(&[
         &[Kind::Start, Kind::End, Kind::Colour, Kind::Colour][..],
-        &[Kind::Start, Kind::Start, Kind::Start, Kind::Colour, Kind::End],
+        &[
+            Kind::Start,
+            Kind::Start,
+            Kind::Start,
+            Kind::Colour,
+            Kind::End,
+        ],
     ]);
     let mut kinds = Vec::new();
     let mut open = 0;

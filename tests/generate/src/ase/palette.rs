@@ -142,7 +142,7 @@ impl Palette {
         kinds: &[Kind],
         mut units: impl FnMut(&mut Random) -> usize,
     ) -> Self {
-        let mut any_block = |kind: &Kind| {
+        let any_block = |kind: &Kind| {
             let units = units(random);
             match kind {
                 Kind::Start => Block::Start(any_name(random, units)),
@@ -151,7 +151,7 @@ impl Palette {
             }
         };
         Palette {
-            blocks: kinds.iter().map(|kind| any_block(kind)).collect(),
+            blocks: kinds.iter().map(any_block).collect(),
         }
     }
 
@@ -163,7 +163,9 @@ impl Palette {
     pub fn file(&self) -> Vec<u8> {
         let mut file = b"ASEF\0\x01\0\0".to_vec();
         put_u32(&mut file, self.blocks.len() as u32);
-        self.blocks.iter().for_each(|block| put_block(&mut file, block));
+        self.blocks
+            .iter()
+            .for_each(|block| put_block(&mut file, block));
         file
     }
 }

@@ -18,7 +18,16 @@ const COLOUR_TYPE: usize = 8;
 type Row = [u32; ROW_LEN];
 
 /// Types that are not known; some of them are once cut to 16 bits.
-const WRONG_TYPES: [u32; 8] = [0, 2, 0xC000, 0xC003, 0x1_0001, 0x1_C001, 0xFFFF_C002, u32::MAX];
+const WRONG_TYPES: [u32; 8] = [
+    0,
+    2,
+    0xC000,
+    0xC003,
+    0x1_0001,
+    0x1_C001,
+    0xFFFF_C002,
+    u32::MAX,
+];
 /// Units whose count does not fit 16 bits, and those for which it just does.
 const UNITS_ABOUT_A_COUNT: [u32; 6] = [65_534, 65_535, 65_536, 65_537, 0x1_FFFF, 0x2_0000];
 /// Units that make the output too long, or would if no sum of lengths wrapped.
@@ -232,8 +241,10 @@ impl Lot {
         let depth = MAX_OPEN - 2 + random.below(4);
         let closed = depth - usize::from(random.one_in(8));
         let end = ROW_LEN * self.count();
-        self.records.splice(end..end, bare_row(GROUP_END).repeat(closed));
-        self.records.splice(..0, bare_row(GROUP_START).repeat(depth));
+        self.records
+            .splice(end..end, bare_row(GROUP_END).repeat(closed));
+        self.records
+            .splice(..0, bare_row(GROUP_START).repeat(depth));
     }
 
     fn add_remainder(&mut self, random: &mut Random) {

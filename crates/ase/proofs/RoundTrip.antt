@@ -1,0 +1,63 @@
+-- What is promised of ASE files: reading and the grammar agree, and what a writer may write. Assumes nothing.
+use Prim.Native.Nat.{ℕ, _^_, _≤_, _<_}
+use mathlib.Core.Path.{_≡_, refl, sym, ap, _∙_, subst}
+use mathlib.Core.List.{List, map}
+use mathlib.Core.Bool.{Bool, true, false}
+use lib.Dec.{leb}
+use lib.ListN.{length}
+use borrow.Author.Tests.{leb-true}
+use Rattle.fields.specs.Numbers.{At, Bytes, All}
+use Rattle.fields.specs.Reader.{ok, refuse, pick, numberOf, limit}
+use Rattle.fields.proofs.Places.{at-whole}
+use Rattle.fields.proofs.Inverse.{ok-value}
+use Rattle.fields.proofs.Exact.{all-both}
+use Rattle.fields.proofs.Tells.{outcome-number}
+use Rattle.ase.specs.Grammar.{Block, payload, fileBytes, File, file}
+use Rattle.ase.specs.Reading.{Entry, blockOf, palette, ase}
+use Rattle.ase.specs.Faults.{paletteFault, BlockFits}
+use Rattle.ase.proofs.Whole.{file-parts, length-file, few-blocks, small-payloads, bytes-file, file-reads, file-writes}
+use Rattle.ase.proofs.Written.{palette-outcome}
+use Rattle.ase.proofs.Faultless.{faultless-allowed, allowed-faultless}
+
+-- ---- the grammar and the reader
+
+-- every file of the grammar is accepted to its end, and read as the blocks that it was made of
+pub allowed-reads : {bs : List Block} {b : List ℕ} → File bs b → (es : List Entry) × (ase b ≡ ok es (length b)) × (map blockOf es ≡ bs)
+allowed-reads (file {bs} allowed nested short) = file-reads bs allowed nested short
+
+-- every accepted file is a file of the grammar, made of the blocks that were read, and is read to its end
+pub accepted-allowed : {s : List ℕ} → Bytes s → {es : List Entry} {q : ℕ} → ase s ≡ ok es q → File (map blockOf es) s × (q ≡ length s)
+accepted-allowed {s} bytes {es} {q} e = file-writes s bytes es q e
+
+-- no file is made of two rows of blocks
+pub allowed-unique : {bs cs : List Block} {b : List ℕ} → File bs b → File cs b → bs ≡ cs
+allowed-unique f g =
+    let x = allowed-reads f in
+    let y = allowed-reads g in
+    sym (x .2) ∙ ap (map blockOf) (ok-value (sym (x .1) ∙ y .1)) ∙ y .2
+
+-- ---- what a writer may write
+
+-- of blocks that fit their fields, the reader refuses what was written by the number of their first fault, and accepts it where they have none
+pub written-number : (bs : List Block) → All (λ i b. BlockFits b) 0 bs → numberOf (ase (fileBytes bs)) ≡ pick (leb (length (fileBytes bs)) limit) (paletteFault bs) 1
+unfolding ase
+written-number bs fits = go (leb (length (fileBytes bs)) limit) refl
+  where
+    stands : At (fileBytes bs) 0 (fileBytes bs)
+    stands = at-whole (fileBytes bs)
+
+    go : (b : Bool) → leb (length (fileBytes bs)) limit ≡ b → numberOf (pick b (palette (fileBytes bs) 0) (refuse 1 0 0 0)) ≡ pick b (paletteFault bs) 1
+    go true e =
+        let short : length (fileBytes bs) ≤ limit = leb-true (length (fileBytes bs)) limit e in
+        outcome-number (palette (fileBytes bs) 0) (paletteFault bs) (length (fileBytes bs))
+        (palette-outcome (fileBytes bs) (bytes-file bs) bs (few-blocks bs short) (all-both (λ i b. BlockFits b) (λ i b. length (payload b) < 256 ^ 4) 0 bs fits (small-payloads bs short))
+        (subst (λ (l : List ℕ). At (fileBytes bs) 0 l) (file-parts bs) stands) (sym (length-file bs)))
+    go false e = refl
+
+-- blocks that fit their fields and have no fault are written as a file of the grammar, so that they read back
+pub written-allowed : (bs : List Block) → All (λ i b. BlockFits b) 0 bs → paletteFault bs ≡ 0 → length (fileBytes bs) ≤ limit → File bs (fileBytes bs)
+written-allowed bs fits none short = let x = faultless-allowed bs fits none in file (x .0) (x .1) short
+
+-- no row of blocks of the grammar has a fault: what is refused is not allowed
+pub allowed-written : {bs : List Block} {b : List ℕ} → File bs b → (paletteFault bs ≡ 0) × (b ≡ fileBytes bs)
+allowed-written (file {bs} allowed nested short) = (allowed-faultless bs allowed nested, refl)
