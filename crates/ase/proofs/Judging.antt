@@ -8,16 +8,13 @@ use lib.Dec.{leb, ltb, eqb}
 use borrow.Author.Tests.{le-leb, lt-leb, lt-ltb, le-ltb, eq-eqb, ne-eqb, eqb-true, eqb-false}
 use native.Mathlib.Omega.{arith}
 use native.Mathlib.Nat.{zero-add, add-assoc}
-use lib.Ieee.{binary32, ofBits}
 use Rattle.fields.specs.Reader.{Res, ok, refuse, Reader, then, pick, rule, field, done, mapRes, each, stateAfter, chain, ended, judged, unless, limit}
 use Rattle.fields.specs.Text.{Name, name, place}
 use Rattle.fields.proofs.Laws.{field-next, judged-short, judged-bad, judged-ok, then-ok}
 use Rattle.fields.proofs.Inverse.{then-inv, ok-value, clash}
-use Rattle.colour.specs.Models.{traitsOf, modelOf, channelsOf, isModel}
-use Rattle.colour.specs.Channels.{allows, allowsBits}
+use Rattle.colour.specs.Models.{traitsOf, modelOf, channelsOf}
+use Rattle.colour.proofs.Models.{tag-known, tag-channels, model-bad, model-good}
 use Rattle.colour.specs.declared.model.Model.{Model}
-use Rattle.colour.specs.declared.model.Model.the-variants as vm
-use Rattle.colour.specs.declared.model.Known.{Known}
 use Rattle.colour.specs.declared.model.Known.the-variants.{Is, Unknown}
 use Rattle.ase.specs.Reading.{Entry, started, stopped, coloured, group, model, channel, type, shade, inside, deepest, isType, content, block, standingAfter, heading, blocks, palette, ase}
 use Rattle.ase.specs.Parts.{paint, startOf, stopOf, colourOf, whole}
@@ -78,52 +75,6 @@ done-place (refuse x p r f) = refl
 pub group-done : (s : List ℕ) (at : ℕ) → done (group s at) ≡ done (place (name 2 s at))
 unfolding group
 group-done s at = then-ok started (name 2 s at) ∙ sym (done-place (name 2 s at))
-
--- the tag of a model that was found by it
-pub tag-known : (t : ℕ) (m : Model) → modelOf t ≡ Is m → traitsOf m .tag ≡ t
-unfolding modelOf
-tag-known t m e = go (eqb t 0x5247_4220) refl (eqb t 0x434d_594b) refl (eqb t 0x4c41_4220) refl (eqb t 0x4772_6179) refl e
-  where
-    inner : Known → Model → Model
-    inner (Is n) d = n
-    inner Unknown d = d
-
-    isIs : Known → Bool
-    isIs (Is n) = true
-    isIs Unknown = false
-
-    same : (n : Model) → Is n ≡ Is m → traitsOf n .tag ≡ t → traitsOf m .tag ≡ t
-    same n q h = subst (λ (k : Model). traitsOf k .tag ≡ t) (ap (λ (w : Known). inner w n) q) h
-
-    go : (a : Bool) → eqb t 0x5247_4220 ≡ a → (b : Bool) → eqb t 0x434d_594b ≡ b → (c : Bool) → eqb t 0x4c41_4220 ≡ c → (d : Bool) → eqb t 0x4772_6179 ≡ d
-        → pick a (Is vm.Rgb) (pick b (Is vm.Cmyk) (pick c (Is vm.Lab) (pick d (Is vm.Gray) Unknown))) ≡ Is m → traitsOf m .tag ≡ t
-    go true ea b eb c ec d ed q = same vm.Rgb q (sym (eqb-true t 0x5247_4220 ea))
-    go false ea true eb c ec d ed q = same vm.Cmyk q (sym (eqb-true t 0x434d_594b eb))
-    go false ea false eb true ec d ed q = same vm.Lab q (sym (eqb-true t 0x4c41_4220 ec))
-    go false ea false eb false ec true ed q = same vm.Gray q (sym (eqb-true t 0x4772_6179 ed))
-    go false ea false eb false ec false ed q = let z : _≡_ {A = Bool} false true = ap isIs q in let y : _≡_ {A = ℕ} 0 1 = cc in absurd (omega arith)
-
-pub tag-allows : (m : Model) (b : ℕ) → allowsBits (traitsOf m .tag) b ≡ allows m (ofBits binary32 b)
-unfolding allowsBits modelOf
-tag-allows vm.Rgb b = refl
-tag-allows vm.Cmyk b = refl
-tag-allows vm.Lab b = refl
-tag-allows vm.Gray b = refl
-
-pub tag-channels : (m : Model) → channelsOf (traitsOf m .tag) ≡ traitsOf m .channels
-unfolding channelsOf modelOf
-tag-channels vm.Rgb = refl
-tag-channels vm.Cmyk = refl
-tag-channels vm.Lab = refl
-tag-channels vm.Gray = refl
-
-pub model-bad : (t : ℕ) → modelOf t ≡ Unknown → isModel t ≡ false
-unfolding isModel
-model-bad t e = rw e
-
-pub model-good : (t : ℕ) (m : Model) → modelOf t ≡ Is m → isModel t ≡ true
-unfolding isModel
-model-good t m e = rw e
 
 -- ---- what stands behind a colour's name
 

@@ -1,4 +1,5 @@
 -- Laws of the definitions of specs/. The theorems that a user cares about stand in RoundTrip.
+pub mod Judging
 pub mod Tables
 pub mod Payload
 pub mod Laws
@@ -6,4 +7,3 @@ pub mod Whole
 pub mod Faultless
 pub mod Written
 pub mod RoundTrip
-pub mod Judging

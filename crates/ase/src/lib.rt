@@ -25,13 +25,14 @@ pub const WIDTH: usize = 9;
 pub const DEEPEST: usize = 16;
 
 // The types of a block.
-pub const GROUP: u16 = 0xC001;
+pub const START: u16 = 0xC001;
 
-pub const CLOSE: u16 = 0xC002;
+pub const STOP: u16 = 0xC002;
 
 pub const COLOUR: u16 = 0x0001;
 
-const SIGNATURE: u32 = 0x4153_4546;
+// `ASEF`.
+pub const SIGNATURE: u32 = 0x4153_4546;
 
 // How many blocks a file has, and how many of them are colours; or a refusal.
 pub enum Answer {
@@ -215,8 +216,8 @@ fn is_type(kind: u16) -> bool
     ensures { λ r. ⌜ r ≡ isType kind ⌝ }
 {
     match kind {
-        GROUP => true,
-        CLOSE => true,
+        START => true,
+        STOP => true,
         COLOUR => true,
         _ => false,
     }
@@ -252,8 +253,8 @@ pub fn block_at(file: &[u8], at: usize, depth: usize) -> Passed
     }
     let end = b + n as usize;
     match kind {
-        GROUP => start_at(file, at, end, depth),
-        CLOSE => stop_at(at, end, depth),
+        START => start_at(file, at, end, depth),
+        STOP => stop_at(at, end, depth),
         _ => colour_at(file, at, end, depth),
     }
 }

@@ -1,12 +1,11 @@
 -- A file's records as a run of numbers, and a record by its number.
 use Prim.Native.Nat.{ℕ, _+_, _*_}
 use mathlib.Core.List.{List, [], _∷_, _++_}
-use lib.ListN.{length, getD, drop, take}
+use lib.ListN.{length, getD, drop}
 use lib.Dec.{leb, ltb}
 use Rattle.fields.specs.Numbers.{joined}
 use Rattle.fields.specs.Reader.{Res, ok, refuse, pick}
 use Rattle.fields.specs.Store.{part}
-use Rattle.fields.specs.Text.{Name}
 use Rattle.ase.specs.Reading.{Entry, started, stopped, coloured}
 use Rattle.ase.specs.Answer.{Verdict, accepted, refused, colours}
 

@@ -1,3 +1,258 @@
-// ASE palettes: reading a file into a lent table, and a record by its number.
+// ASE palettes: a file's records into a lent table, and a record by its number.
 ghost use mathlib.Core.Path.{_≡_};
+ghost use mathlib.Core.List.{_∷_, []};
+ghost use Prim.Native.Nat.{_+_, _-_, _*_, _≤_, _<_};
+ghost use lib.Dec.{eqb};
+ghost use lib.ListN.{length};
+ghost use lib.Seq.{sets};
+ghost use Rattle.fields.specs.Numbers.{joined};
+ghost use Rattle.fields.specs.Reader.{pick, limit};
+ghost use Rattle.ase.specs.Reading.{ase};
+ghost use Rattle.ase.specs.Answer.{told};
+ghost use Rattle.ase_read.specs.Table.{row, filled, recordAt, nameBytesIn};
+ghost use Rattle.ase_read.specs.Raw.{nextBlock, blockPlace, rawRow, entriesOf, Accepted};
+ghost use Rattle.ase_read.specs.Answer.{colour, shown, toldRecord, IsColour};
+use ase::Answer;
+use ase::START;
+use ase::STOP;
 use ase::WIDTH;
+use colour::Channels;
+use colour::Known;
+use colour::Made;
+use colour::Model;
+
+// The length of the heading.
+const HEADING: usize = 12;
+
+// A record: a group start with its name's place and number of units, a group end, or a colour with
+// its name, its channels and its type; or a refusal.
+pub enum Record {
+    Group {
+        place: usize,
+        units: u32,
+    },
+    Close,
+    Colour {
+        place: usize,
+        units: u32,
+        colour: Channels,
+        kind: u16,
+    },
+    Refused {
+        number: u32,
+        place: usize,
+    },
+}
+
+// The place behind the block at `at`.
+fn block_end(file: &[u8], at: usize) -> usize
+    requires { ⌜ (nextBlock (now file) at ≤ length (now file)) × (length (now file) ≤ limit) ⌝ }
+    ensures { λ r. ⌜ r ≡ nextBlock (now (file .entry)) at ⌝ }
+{
+    let length = fields::u32_or_zero(file, at + 2);
+    at + 6 + (length as usize)
+}
+
+// The place of the name of the block at `at`; 0 where the block has no name.
+fn first_at(count: u16, at: usize) -> u32
+    requires { ⌜ at ≤ limit ⌝ }
+    ensures { λ r. ⌜ r ≡ pick (eqb count 0) 0 (at + 8) ⌝ }
+{
+    if count == 0 {
+        return 0;
+    }
+    (at + 8) as u32
+}
+
+// The units of a name without its closing zero.
+fn units_of(count: u16) -> u32
+    ensures { λ r. ⌜ r ≡ count - 1 ⌝ }
+{
+    if count == 0 {
+        return 0;
+    }
+    (count - 1) as u32
+}
+
+// Stores the numbers of the block from `at` to `end`. All is loaded from the file up to its end, so
+// that what a shorter payload does not have is 0, and only then stored, which compilers join.
+fn put_row(file: &[u8], at: usize, end: usize, table: &mut [u32], to: usize)
+    requires { ⌜ (at + 6 ≤ end) × (end ≤ length (now file)) × (length (now file) ≤ limit) × (to + 9 ≤ length (now table)) ⌝ }
+    ensures { λ _. ⌜ now (table .exit) ≡ sets (now (table .entry)) to (rawRow (now (file .entry)) at end) ⌝ }
+{
+    let part = &file[..end];
+    let kind = fields::u16_or_zero(part, at);
+    let count = fields::u16_or_zero(part, at + 6);
+    let model = at + 8 + 2 * (count as usize);
+    let tag = fields::u32_or_zero(part, model);
+    let a = fields::u32_or_zero(part, model + 4);
+    let b = fields::u32_or_zero(part, model + 8);
+    let c = fields::u32_or_zero(part, model + 12);
+    let d = fields::u32_or_zero(part, model + 16);
+    let last = fields::u16_or_zero(part, end - 2);
+    let place = first_at(count, at);
+    let units = units_of(count);
+    table[to] = kind as u32;
+    table[to + 1] = place;
+    table[to + 2] = units;
+    table[to + 3] = tag;
+    table[to + 4] = a;
+    table[to + 5] = b;
+    table[to + 6] = c;
+    table[to + 7] = d;
+    table[to + 8] = last as u32;
+}
+
+// Stores the n records of an accepted file.
+fn fill(file: &[u8], n: usize, table: &mut [u32])
+    requires { ⌜ Accepted (ase (now file)) n × (9 * n ≤ length (now table)) ⌝ }
+    ensures { λ _. ⌜ now (table .exit) ≡ sets (now (table .entry)) 0 (joined row (entriesOf (ase (now (file .entry))))) ⌝ }
+{
+    let mut i: usize = 0;
+    let mut at = HEADING;
+    while i < n {
+        let end = block_end(file, at);
+        put_row(file, at, end, table, WIDTH * i);
+        at = end;
+        i += 1;
+    }
+}
+
+// The place of block i of an accepted file, which has it.
+fn block_place(file: &[u8], n: usize, i: usize) -> usize
+    requires { ⌜ Accepted (ase (now file)) n × (i < n) ⌝ }
+    ensures { λ r. ⌜ r ≡ blockPlace (now (file .entry)) i ⌝ }
+{
+    let mut k: usize = 0;
+    let mut at = HEADING;
+    while k < i {
+        at = block_end(file, at);
+        k += 1;
+    }
+    at
+}
+
+// A colour by its tag and the bits of its channels, which are judged.
+fn coloured(place: usize, units: u32, tag: u32, a: u32, b: u32, c: u32, d: u32, kind: u16) -> Record
+    requires { ⌜ IsColour tag a b c d ⌝ }
+    ensures { λ r. ⌜ toldRecord r ≡ colour place units tag (a ∷ b ∷ c ∷ d ∷ []) kind ⌝ }
+{
+    let Known::Is(model) = Model::from_tag(tag) else {
+        return Record::Refused {
+            number: 4,
+            place: 0,
+        };
+    };
+    let Made::Is(colour) = Channels::from_bits(model, a, b, c, d) else {
+        return Record::Refused {
+            number: 5,
+            place: 0,
+        };
+    };
+    Record::Colour {
+        place,
+        units,
+        colour,
+        kind,
+    }
+}
+
+fn wide(x: u32) -> usize
+    ensures { λ r. ⌜ r ≡ x ⌝ }
+{
+    x as usize
+}
+
+// Record i of an accepted file, which has it.
+fn found(file: &[u8], n: usize, i: usize) -> Record
+    requires { ⌜ Accepted (ase (now file)) n × (i < n) ⌝ }
+    ensures { λ r. ⌜ toldRecord r ≡ shown (recordAt i (ase (now (file .entry)))) ⌝ }
+{
+    let at = block_place(file, n, i);
+    let end = block_end(file, at);
+    let mut row = [0; WIDTH];
+    put_row(file, at, end, &mut row, 0);
+    let place = wide(row[1]);
+    let block = row[0] as u16;
+    match block {
+        START => Record::Group {
+            place,
+            units: row[2],
+        },
+        STOP => Record::Close,
+        _ => coloured(
+            place,
+            row[2],
+            row[3],
+            row[4],
+            row[5],
+            row[6],
+            row[7],
+            row[8] as u16,
+        ),
+    }
+}
+
+// Reads a file into a table, which a refusal leaves as it was. Accepted in `Answer` counts the rows.
+pub fn read(file: &[u8], table: &mut [u32]) -> Answer
+    ensures { λ r. ⌜ (told r, now (table .exit)) ≡ filled (ase (now (file .entry))) (now (table .entry)) ⌝ }
+{
+    match ase::judge(file) {
+        Answer::Refused { number, place } => Answer::Refused { number, place },
+        Answer::Accepted { blocks, colours } => {
+            if table.len() < WIDTH * blocks {
+                return Answer::Refused {
+                    number: 11,
+                    place: 0,
+                };
+            }
+            fill(file, blocks, table);
+            Answer::Accepted { blocks, colours }
+        }
+    }
+}
+
+// Record i of a file.
+pub fn record_at(file: &[u8], i: usize) -> Record
+    ensures { λ r. ⌜ toldRecord r ≡ shown (recordAt i (ase (now (file .entry)))) ⌝ }
+{
+    match ase::judge(file) {
+        Answer::Refused { number, place } => Record::Refused { number, place },
+        Answer::Accepted { blocks, colours: _ } => {
+            if blocks <= i {
+                return Record::Refused {
+                    number: 12,
+                    place: 0,
+                };
+            }
+            found(file, blocks, i)
+        }
+    }
+}
+
+// The bytes of the name of record i, a part of the file; none where it has no name, and where
+// `record_at` refuses.
+pub fn name_at(file: &[u8], i: usize) -> &[u8]
+    ensures { λ r. ⌜ now r ≡ nameBytesIn (now (file .entry)) (recordAt i (ase (now (file .entry)))) ⌝ }
+{
+    match record_at(file, i) {
+        Record::Group { place, units } => {
+            let end = place + 2 * (units as usize);
+            &file[place..end]
+        }
+        Record::Close => &file[..0],
+        Record::Colour {
+            place,
+            units,
+            colour: _,
+            kind: _,
+        } => {
+            let end = place + 2 * (units as usize);
+            &file[place..end]
+        }
+        Record::Refused {
+            number: _,
+            place: _,
+        } => &file[..0],
+    }
+}

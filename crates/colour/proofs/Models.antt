@@ -1,6 +1,6 @@
 -- Models by their tags, and which bits of a channel they allow. Assumes nothing.
 use Prim.Native.Nat.{ℕ, _%_, _^_, _≤_, _<_}
-use mathlib.Core.Path.{_≡_, refl, sym, _∙_}
+use mathlib.Core.Path.{_≡_, refl, sym, _∙_, subst}
 use mathlib.Core.Logic.{_⊎_, inl, inr}
 use mathlib.Core.Bool.{Bool, true, false, true≢false}
 use native.Mathlib.Omega.{arith}
@@ -15,7 +15,7 @@ use Rattle.colour.specs.declared.model.Model.{Model}
 use Rattle.colour.specs.declared.model.Model.the-variants.{Rgb, Cmyk, Lab, Gray}
 use Rattle.colour.specs.declared.model.Known.{Known}
 use Rattle.colour.specs.declared.model.Known.the-variants.{Is, Unknown}
-use Rattle.colour.specs.Models.{traitsOf, modelOf, isKnown, isModel}
+use Rattle.colour.specs.Models.{traitsOf, modelOf, isKnown, isModel, channelsOf}
 use Rattle.colour.specs.Channels.{inUnit, allows, allowsIn, allowsBits}
 use Rattle.colour.proofs.Unit.{unit-minus, unit-finite, unit-leb}
 
@@ -34,6 +34,35 @@ unfolding modelOf
 model-tagged t =
     tag-by t Rgb (eqb t (traitsOf Rgb .tag)) refl _ (tag-by t Cmyk (eqb t (traitsOf Cmyk .tag)) refl _
     (tag-by t Lab (eqb t (traitsOf Lab .tag)) refl _ (tag-by t Gray (eqb t (traitsOf Gray .tag)) refl _ none)))
+
+-- the tag of a model that was found by it
+pub tag-known : (t : ℕ) (m : Model) → modelOf t ≡ Is m → traitsOf m .tag ≡ t
+tag-known t m e = go (subst (Tagged t) e (model-tagged t))
+  where
+    go : Tagged t (Is m) → traitsOf m .tag ≡ t
+    go (of n g) = sym g
+
+pub tag-allows : (m : Model) (b : ℕ) → allowsBits (traitsOf m .tag) b ≡ allows m (ofBits binary32 b)
+unfolding allowsBits modelOf
+tag-allows Rgb b = refl
+tag-allows Cmyk b = refl
+tag-allows Lab b = refl
+tag-allows Gray b = refl
+
+pub tag-channels : (m : Model) → channelsOf (traitsOf m .tag) ≡ traitsOf m .channels
+unfolding channelsOf modelOf
+tag-channels Rgb = refl
+tag-channels Cmyk = refl
+tag-channels Lab = refl
+tag-channels Gray = refl
+
+pub model-bad : (t : ℕ) → modelOf t ≡ Unknown → isModel t ≡ false
+unfolding isModel
+model-bad t e = rw e
+
+pub model-good : (t : ℕ) (m : Model) → modelOf t ≡ Is m → isModel t ≡ true
+unfolding isModel
+model-good t m e = rw e
 
 -- ---- the bits of its channels
 

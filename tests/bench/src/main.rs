@@ -1,6 +1,7 @@
 //! Times the proved library against the reference, and its conversions against
 //! plain floats as well, in the same run.
 
+mod ase;
 mod conversion;
 mod plain;
 mod timing;
@@ -40,28 +41,44 @@ const KINDS: [Kind; 3] = [
     },
 ];
 
+/// What is timed, where not all of it is.
+#[derive(Clone, Copy, PartialEq, Eq)]
+enum Part {
+    Aco,
+    Ase,
+    Conversions,
+}
+
 fn main() -> ExitCode {
     let args: Vec<String> = std::env::args().skip(1).collect();
-    let (alone, rest) = match args.first().map(String::as_str) {
-        Some("convert") => (true, &args[1..]),
-        _ => (false, &args[..]),
+    let (part, rest) = match args.first().map(String::as_str) {
+        Some("aco") => (Some(Part::Aco), &args[1..]),
+        Some("ase") => (Some(Part::Ase), &args[1..]),
+        Some("convert") => (Some(Part::Conversions), &args[1..]),
+        _ => (None, &args[..]),
     };
     let rounds = match rest.first().map(|word| word.parse()) {
         None => DEFAULT_ROUNDS,
         Some(Ok(rounds)) if rounds > 0 => rounds,
         Some(_) => {
-            eprintln!("usage: bench [convert] [ROUNDS]");
+            eprintln!("usage: bench [aco|ase|convert] [ROUNDS]");
             return ExitCode::FAILURE;
         }
     };
     println!("best of {rounds} rounds each, all that is compared by turns in one run");
     println!("tables and outputs were prepared and touched before, and not cleared between calls");
-    if !alone {
-        println!("the colours' spaces take turns; ratio: library to reference, in time\n");
+    let wanted = |asked: Part| part.is_none_or(|part| part == asked);
+    if wanted(Part::Aco) {
+        println!("\nACO; the colours' spaces take turns; ratio: library to reference, in time\n");
         compare_kinds(rounds);
         compare_counts(rounds);
     }
-    conversion::compare(rounds);
+    if wanted(Part::Ase) {
+        ase::compare(rounds);
+    }
+    if wanted(Part::Conversions) {
+        conversion::compare(rounds);
+    }
     ExitCode::SUCCESS
 }
 

@@ -1,3 +1,4 @@
+use native.Mathlib.Omega.{arith}
 use mathlib.Core.Path.{sym, ap, _∙_}
 use Prim.Native.Nat.{_-_}
 use borrow.Author.Tests.{not-true, not-false}
@@ -77,7 +78,14 @@ cast-end : tie.Need-cast-end
 cast-end c = search needs
 
 add-end : tie.Need-add-end
-add-end c = search needs
+add-end c =
+    let nn = c .before .before .before .before in
+    let kk = nn .before .before .before .before in
+    let a = kk .before .before .before .before .args in
+    let e = sym (ap (told16 (a .at)) (kk .kind .given .1)) ∙ kk .before .before .u16-at .ensures in
+    let f = sym (ap (told32 _) (nn .n .given .1)) ∙ nn .before .before .u32-at .ensures in
+    let x = after-length (a .depth) (a .file .now) (a .at) _ _ e _ _ f in
+    omega (arith, x .0, x .1)
 
 start-at-requires : tie.Need-start-at-requires
 start-at-requires c κs =

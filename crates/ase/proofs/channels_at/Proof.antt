@@ -8,7 +8,7 @@ use borrow.Author.Needs.{needs}
 use Rattle.fields.proofs.Laws.{turn-start, turn-ok, turn-no, turn-end, judged-short, judged-bad, judged-ok}
 use Rattle.colour.specs.Models.{traitsOf}
 use Rattle.ase.specs.Reading.{channel}
-use Rattle.ase.proofs.Judging.{tag-allows}
+use Rattle.colour.proofs.Models.{tag-allows}
 use Rattle.ase.proofs.channels_at.Statement.{statement}
 use Rattle.ase.proofs.channels_at.Tie as tie
 

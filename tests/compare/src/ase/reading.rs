@@ -42,9 +42,12 @@ fn check_calls(file: &[u8], random: &mut Random, tally: &mut Tally) -> Checked {
 /// Judges and reads a file alone: for one of so many blocks that all calls
 /// would take long.
 pub fn check_briefly(file: &[u8], tally: &mut Tally) -> Checked {
-    let judged = check_judge(file)?;
+    let read = |judged: Answer| check_read(file, judged.blocks * ROW_LEN);
+    let judged = check_judge(file)
+        .and_then(read)
+        .map_err(|difference| difference.given("file", hex(file)))?;
     tally.file(&judged);
-    check_read(file, judged.blocks * ROW_LEN).map(|_| ())
+    Ok(())
 }
 
 /// Holds the library's judgement to the reference's, which is given back.

@@ -7,8 +7,7 @@ mod reader;
 mod writer;
 
 pub use layout::{
-    CHANNELS, COLOUR, ENVELOPE_LEN, GROUP_END, GROUP_START, HEAD_LEN, MAX_OPEN, NAME_COUNT_LEN,
-    ROW_LEN,
+    CHANNELS, COLOUR, ENVELOPE_LEN, GROUP_END, GROUP_START, HEAD_LEN, MAX_OPEN, ROW_LEN,
 };
 pub use listing::list;
 pub use reader::{judge, read, record, Accepted, Record};

@@ -268,16 +268,17 @@ impl Record {
 
 /// Goes over the records of an accepted file, in file order.
 pub(super) struct Records<'a> {
-    file: &'a [u8],
-    place: usize,
+    /// The file from the next block on.
+    rest: &'a [u8],
+    file_len: usize,
     left: usize,
 }
 
 impl<'a> Records<'a> {
     pub(super) fn new(file: &'a [u8], accepted: Accepted) -> Self {
         Records {
-            file,
-            place: HEAD_LEN,
+            rest: &file[HEAD_LEN..],
+            file_len: file.len(),
             left: accepted.blocks,
         }
     }
@@ -285,9 +286,12 @@ impl<'a> Records<'a> {
     /// A field of an accepted file, which is stepped over.
     #[inline(always)]
     fn take<const LEN: usize>(&mut self) -> [u8; LEN] {
-        let taken = field(self.file, self.place).expect("an accepted file has its fields");
-        self.place += LEN;
-        taken
+        let (field, rest) = self
+            .rest
+            .split_first_chunk()
+            .expect("an accepted file has its fields");
+        self.rest = rest;
+        *field
     }
 
     #[inline(always)]
@@ -303,18 +307,20 @@ impl<'a> Records<'a> {
     #[inline(always)]
     fn take_name(&mut self, record: &mut Record) {
         let count = self.take_short();
-        record.name = self.place;
+        record.name = self.file_len - self.rest.len();
         record.units = u32::from(count) - 1;
-        self.place += UNIT_LEN * usize::from(count);
+        self.rest = &self.rest[UNIT_LEN * usize::from(count)..];
     }
 
     #[inline(always)]
     fn take_colour(&mut self, record: &mut Record) {
         record.model = self.take_number();
-        let channels = channel_count(record.model).expect("an accepted file's models are known");
-        for channel in &mut record.channels[..channels] {
-            *channel = self.take_number();
-        }
+        let mut take = || self.take_number();
+        record.channels = match channel_count(record.model) {
+            Some(1) => [take(), 0, 0, 0],
+            Some(3) => [take(), take(), take(), 0],
+            _ => [take(), take(), take(), take()],
+        };
         record.colour_type = self.take_short();
     }
 }

@@ -1,0 +1,164 @@
+-- Filling a table with the records of an accepted file, on plain values. Assumes nothing.
+use Prim.Native.Nat.{ℕ, zero, suc, _+_, _*_, _-_, _≤_, _<_}
+use mathlib.Core.Path.{_≡_, refl, sym, ap, ap₂, _∙_, subst}
+use mathlib.Core.List.{List, [], _∷_, _++_}
+use lib.ListN.{length, getD, take, drop, drop-of-length-le}
+use lib.Seq.{sets, drop-cons, length-take-le}
+use lib.Dec.{leb, eqb}
+use borrow.Author.Tests.{leb-true}
+use native.Mathlib.Omega.{arith}
+use native.Mathlib.Numerals.{add-one}
+use native.Mathlib.Nat.{add-zero}
+use Rattle.fields.specs.Numbers.{joined}
+use Rattle.fields.specs.Reader.{ok, pick, unless, judged, chain, stateAfter, limit}
+use Rattle.fields.proofs.Inverse.{ok-value, then-inv, rule-inv, pick-inv, field-inv, judged-inv, ended-inv}
+use Rattle.fields.proofs.Chain.{chain-inv, chain-length}
+use Rattle.fields.proofs.Stores.{sets-append}
+use Rattle.ase.specs.Reading.{Entry, stopped, block, standingAfter, heading, blocks, palette, ase}
+use Rattle.ase_read.specs.Table.{row}
+use Rattle.ase_read.specs.Raw.{load, countAt, modelAt, rowIn, rawRow, nextBlock, blockPlace, entriesOf, Accepted}
+use Rattle.ase_read.proofs.Blocks.{nine, Sound, NameIn, Blocked, blocked}
+
+-- ---- a row as it is loaded
+
+pub row-loaded : (u : List ℕ) (p end kind count place units tag a b c d last : ℕ) → kind ≡ load 2 u p → count ≡ countAt u p → place ≡ pick (eqb count 0) 0 (p + 8) → units ≡ count - 1
+    → tag ≡ load 4 u (p + 8 + 2 * count) → a ≡ load 4 u (p + 8 + 2 * count + 4) → b ≡ load 4 u (p + 8 + 2 * count + 8) → c ≡ load 4 u (p + 8 + 2 * count + 12) → d ≡ load 4 u (p + 8 + 2 * count + 16) → last ≡ load 2 u (end - 2)
+    → _≡_ {A = List ℕ} (kind ∷ place ∷ units ∷ tag ∷ a ∷ b ∷ c ∷ d ∷ last ∷ []) (rowIn u p end)
+row-loaded u p end kind count place units tag a b c d last ek en ep eu et ea eb ec ed el =
+    let four : (k v : ℕ) → v ≡ load 4 u (p + 8 + 2 * count + k) → v ≡ load 4 u (modelAt u p + k) = λ k v e. e ∙ ap (λ (n : ℕ). load 4 u (p + 8 + 2 * n + k)) en in
+    nine ek (ep ∙ ap (λ (n : ℕ). pick (eqb n 0) 0 (p + 8)) en) (eu ∙ ap (λ (n : ℕ). n - 1) en) (et ∙ ap (λ (n : ℕ). load 4 u (p + 8 + 2 * n)) en) (four 4 a ea) (four 8 b eb) (four 12 c ec) (four 16 d ed) el
+
+-- ---- places of blocks
+
+pub place-first : (s : List ℕ) → blockPlace s 0 ≡ 12
+unfolding blockPlace
+place-first s = refl
+
+pub place-next : (s : List ℕ) (i : ℕ) → blockPlace s (i + 1) ≡ nextBlock s (blockPlace s i)
+unfolding blockPlace
+place-next s i = ap (blockPlace s) (add-one i)
+
+place-low : (s : List ℕ) (i : ℕ) → 12 + 6 * i ≤ blockPlace s i
+unfolding blockPlace
+place-low s zero = omega arith
+place-low s (suc i) = omega (arith, place-low s i)
+
+-- block k of those that were read from block i on
+blocks-place : (s : List ℕ) (m i d : ℕ) {es : List Entry} {q : ℕ} → chain standingAfter block m d s (blockPlace s i) ≡ ok es q
+    → (k : ℕ) → k < m → (to : ℕ) × Blocked s (blockPlace s (i + k)) (getD es k stopped) to
+blocks-place s zero i d e k h = absurd (omega arith)
+blocks-place s (suc m) i d e zero h =
+    let t = chain-inv standingAfter block s m d (blockPlace s i) e in
+    (t .1, rw (add-zero i) (subst (λ (l : List Entry). Blocked s (blockPlace s i) (getD l 0 stopped) (t .1)) (t .5) (blocked d s (blockPlace s i) (t .3))))
+blocks-place s (suc m) i d {es} {q} e (suc k) h =
+    let t = chain-inv standingAfter block s m d (blockPlace s i) e in
+    let b = blocked d s (blockPlace s i) (t .3) in
+    let p : t .1 ≡ blockPlace s (i + 1) = sym (b .next) ∙ sym (place-next s i) in
+    let r = blocks-place s m (i + 1) (standingAfter d (t .0)) {es = t .2} {q = q} (subst (λ (z : ℕ). chain standingAfter block m (standingAfter d (t .0)) s z ≡ ok (t .2) q) p (t .4)) k (omega arith) in
+    let y : i + 1 + k ≡ i + suc k = omega arith in (
+      r .0,
+      subst (λ (l : List Entry). Blocked s (blockPlace s (i + suc k)) (getD l (suc k) stopped) (r .0)) (t .5)
+          (subst (λ (z : ℕ). Blocked s (blockPlace s z) (getD (t .2) k stopped) (r .0)) y (r .1)),
+    )
+
+-- ---- the file
+
+heading-inv : (s : List ℕ) {n q : ℕ} → heading s 0 ≡ ok n q → q ≡ 12
+unfolding heading
+heading-inv s e =
+    let x = then-inv (judged 4 (λ x. unless (eqb x 0x4153_4546) 3) s 0) _ e in
+    let v = then-inv (judged 2 (λ v. unless (eqb v 1) 3) s (x .1)) _ (x .3) in
+    let w = then-inv (judged 2 (λ w. unless (eqb w 0) 3) s (v .1)) _ (v .3) in
+    let a = judged-inv 4 s 0 (λ x. unless (eqb x 0x4153_4546) 3) (x .2) in
+    let b = judged-inv 2 s (x .1) (λ v. unless (eqb v 1) 3) (v .2) in
+    let c = judged-inv 2 s (v .1) (λ w. unless (eqb w 0) 3) (w .2) in
+    let d = field-inv 4 s (w .1) (w .3) in
+    omega arith
+
+-- an accepted file is not too long, and its blocks stand behind the heading
+ase-inv : (s : List ℕ) {es : List Entry} {q : ℕ} → ase s ≡ ok es q → (length s ≤ limit) × (to : ℕ) × (chain standingAfter block (length es) 0 s (blockPlace s 0) ≡ ok es to)
+unfolding ase palette blocks
+ase-inv s {es} {q} e =
+    let i = pick-inv (leb (length s) limit) (palette s 0) 1 0 0 0 e in
+    let h = then-inv (heading s 0) _ (i .1) in
+    let b = then-inv (blocks (h .0) s (h .1)) _ (h .3) in
+    let c = then-inv (chain standingAfter block (h .0) 0 s (h .1)) _ (b .2) in
+    let r = rule-inv (unless (eqb (stateAfter standingAfter 0 (c .0)) 0) 9) (c .1) (ok (c .0) (c .1)) (c .3) in
+    let z = ended-inv (b .0) s (b .1) (b .3) in
+    let same : c .0 ≡ es = ok-value (r .1) ∙ z .1 in
+    let n : h .0 ≡ length es = sym (chain-length standingAfter block s (h .0) 0 (h .1) (c .2)) ∙ ap length same in
+    let p : h .1 ≡ blockPlace s 0 = heading-inv s (h .2) ∙ sym (place-first s) in
+    (leb-true (length s) limit (i .0), c .1, ap₂ (λ (k a : ℕ). chain standingAfter block k 0 s a) (sym n) (sym p) ∙ c .2 ∙ ap (λ (l : List Entry). ok l (c .1)) same)
+
+module _ (s : List ℕ) (n : ℕ) (a : Accepted (ase s) n) where
+  pub entries-are : entriesOf (ase s) ≡ a .0
+  entries-are = ap entriesOf (a .2)
+
+  pub length-entries : length (entriesOf (ase s)) ≡ n
+  length-entries = ap length entries-are ∙ a .3
+
+  pub small : length s ≤ limit
+  small = ase-inv s (a .2) .0
+
+  -- block i, with the entry that was read
+  pub block-is : (i : ℕ) → i < n → Blocked s (blockPlace s i) (getD (a .0) i stopped) (nextBlock s (blockPlace s i))
+  block-is i h =
+      let b = blocks-place s (length (a .0)) 0 0 (ase-inv s (a .2) .2) i (omega (arith, a .3)) in
+      let z : 0 + i ≡ i = omega arith in
+      go (subst (λ (k : ℕ). Blocked s (blockPlace s k) (getD (a .0) i stopped) (b .0)) z (b .1))
+    where
+      go : {q : ℕ} → Blocked s (blockPlace s i) (getD (a .0) i stopped) q → Blocked s (blockPlace s i) (getD (a .0) i stopped) (nextBlock s (blockPlace s i))
+      go b = subst (λ (k : ℕ). Blocked s (blockPlace s i) (getD (a .0) i stopped) k) (sym (b .next)) b
+
+  -- the place of a block is not past the file's end, and the file is at least as long as it has blocks
+  pub count-small : n ≤ limit
+  count-small = go n refl
+    where
+      go : (k : ℕ) → n ≡ k → n ≤ limit
+      go zero e = omega arith
+      go (suc k) e = let b = block-is k (omega arith) in omega (arith, b .inside, place-low s k, small)
+
+-- record i of a file
+abbrev pub entryAt : List ℕ → ℕ → Entry
+entryAt s i = getD (entriesOf (ase s)) i stopped
+
+-- block i where p is its place
+pub record Here (s : List ℕ) (i p : ℕ) : Type 0 where
+  pub short : length s ≤ limit
+  pub inside : nextBlock s p ≤ length s
+  pub next : nextBlock s p ≡ blockPlace s (i + 1)
+  pub is-row : row (entryAt s i) ≡ rawRow s p (nextBlock s p)
+  pub sound : Sound (entryAt s i)
+  pub named : NameIn (nextBlock s p) (entryAt s i)
+
+pub here : (s : List ℕ) (n : ℕ) (a : Accepted (ase s) n) (i : ℕ) → i < n → (p : ℕ) → p ≡ blockPlace s i → Here s i p
+here s n a i h p e = subst (Here s i) (sym e) (go (block-is s n a i h))
+  where
+    go : Blocked s (blockPlace s i) (getD (a .0) i stopped) (nextBlock s (blockPlace s i)) → Here s i (blockPlace s i)
+    go b =
+        let l = length-take-le (nextBlock s (blockPlace s i)) s (b .inside) in
+        let e : entryAt s i ≡ getD (a .0) i stopped = ap (λ (es : List Entry). getD es i stopped) (entries-are s n a) in record {
+          short = small s n a;
+          inside = b .inside;
+          next = sym (place-next s i);
+          is-row = ap row e ∙ b .ended .is-row ∙ ap (rowIn (take (nextBlock s (blockPlace s i)) s) (blockPlace s i)) l;
+          sound = subst Sound (sym e) (b .ended .sound);
+          named = subst (NameIn (nextBlock s (blockPlace s i))) (sym e) (subst (λ (q : ℕ). NameIn q (getD (a .0) i stopped)) l (b .ended .named));
+        }
+
+-- ---- a turn of the loop that stores rows: what is left to store, stored over what there is, is the whole
+
+module _ (es : List Entry) (all t : List ℕ) (i : ℕ) (inv : all ≡ sets t (9 * i) (joined row (drop i es))) where
+  pub fill-turn : i < length es → (t′ xs : List ℕ) → row (getD es i stopped) ≡ xs → length xs ≡ 9 → t′ ≡ sets t (9 * i) xs → all ≡ sets t′ (9 * (i + 1)) (joined row (drop (i + 1) es))
+  unfolding joined
+  fill-turn h t′ xs e nine w =
+      let p : 9 * i + length xs ≡ 9 * (i + 1) = omega arith in
+      inv ∙ ap (λ (l : List Entry). sets t (9 * i) (joined row l)) (drop-cons es i stopped h)
+      ∙ ap (λ (l : List ℕ). sets t (9 * i) (l ++ joined row (drop (suc i) es))) e
+      ∙ sets-append xs (joined row (drop (suc i) es)) t (9 * i)
+      ∙ ap₂ (λ (k m : ℕ). sets (sets t (9 * i) xs) k (joined row (drop m es))) p (sym (add-one i))
+      ∙ ap (λ (o : List ℕ). sets o (9 * (i + 1)) (joined row (drop (i + 1) es))) (sym w)
+
+  pub fill-end : length es ≤ i → all ≡ t
+  unfolding joined
+  fill-end h = inv ∙ ap (λ (l : List Entry). sets t (9 * i) (joined row l)) (drop-of-length-le es h)

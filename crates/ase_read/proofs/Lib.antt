@@ -1,0 +1,4 @@
+-- The laws of filling a table.
+pub mod Blocks
+pub mod Filling
+pub mod Answers

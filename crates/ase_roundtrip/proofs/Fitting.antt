@@ -1,0 +1,217 @@
+-- Given records that fit: their length and their first fault are those of the blocks that are written. Assumes nothing.
+use Prim.Native.Nat.{ℕ, zero, suc, _+_, _*_, _-_, _^_, _≤_, _<_}
+use mathlib.Core.Path.{_≡_, refl, sym, ap, ap₂, _∙_}
+use mathlib.Core.List.{List, [], _∷_, _++_, map}
+use mathlib.Core.Bool.{Bool, true, false}
+use lib.Dec.{leb, ltb, eqb}
+use lib.ListN.{length, take, length-append}
+use lib.Seq.{length-take-le}
+use borrow.Author.Tests.{leb-true, le-leb, eqb-true}
+use native.Mathlib.Omega.{arith}
+use native.Mathlib.Nat.{lt-of-not-le}
+use native.Mathlib.Decide.{ℕ-discrete, decLe}
+use Rattle.fields.specs.Numbers.{be, joined, Bytes, nums, All}
+use Rattle.fields.specs.Reader.{Res, ok, refuse, pick, numberOf, done, stateAfter, limit}
+use Rattle.fields.specs.Text.{anyZero, text, nameBytes}
+use Rattle.fields.specs.Faults.{firstOf, faultsFrom, faultsIn}
+use Rattle.fields.proofs.Places.{length-be, length-bes, length-nums, nums-lt}
+use Rattle.fields.proofs.Exact.{all-map, length-nameBytes}
+use Rattle.fields.proofs.Tells.{first-inv, pick-none}
+use Rattle.fields.proofs.Texts.{text-short, text-zero, text-fine}
+use Rattle.fields.proofs.Chain.{in-map, in-both, all-in, in-all, in-inv, state-map}
+use Rattle.colour.specs.Models.{isModel, modelOf, countIn, channelsOf}
+use Rattle.colour.specs.Channels.{allowsBits}
+use Rattle.colour.specs.declared.model.Known.{Known}
+use Rattle.colour.specs.declared.model.Known.the-variants.{Is, Unknown}
+use Rattle.colour.specs.declared.model.Model.the-variants as vm
+use Rattle.ase.specs.Grammar.{Block, start, stop, colour, payload, blockBytes}
+use Rattle.ase.specs.Reading.{deepest, standing}
+use Rattle.ase.specs.Faults.{paletteFault, NameFits, BlockFits}
+use Rattle.ase.specs.Faults as a
+use Rattle.ase.proofs.Tables.{known-model, model-small}
+use Rattle.ase.proofs.Laws.{length-block}
+use Rattle.ase.proofs.Whole.{length-file}
+use Rattle.ase_write.specs.Writing.{Given, givens, unitsIn, channelsIn, blockIn, sizeIn, sizes, size, nameFault, colourFault, blockFault, standingIn, fault}
+use Rattle.ase_roundtrip.specs.Tie.{Words, made, NameFitting, ColourFitting, Fitting, a-start, an-end, a-colour}
+
+-- ---- values of a list
+
+pub all-image : {A B : Type 0} (f : A → B) (P : ℕ → B → Type 0) (i : ℕ) (l : List A) → All (λ k a. P k (f a)) i l → All P i (map f l)
+all-image f P i [] h = tt
+all-image f P i (a ∷ l) h = (h .0, all-image f P (i + 1) l (h .1))
+
+pub all-source : {A B : Type 0} (f : A → B) (P : ℕ → B → Type 0) (i : ℕ) (l : List A) → All P i (map f l) → All (λ k a. P k (f a)) i l
+all-source f P i [] h = tt
+all-source f P i (a ∷ l) h = (h .0, all-source f P (i + 1) l (h .1))
+
+pub all-take : {A : Type 0} (P : ℕ → A → Type 0) (n i : ℕ) (l : List A) → All P i l → All P i (take n l)
+all-take P zero i l h = tt
+all-take P (suc n) i [] h = tt
+all-take P (suc n) i (a ∷ l) h = (h .0, all-take P n (i + 1) l (h .1))
+
+-- values whose views have the same faults have the same first fault
+faults-same : {A B S : Type 0} (next : S → B → S) (view : A → B) (f : S → A → ℕ) (g : S → B → ℕ) (d : S) (i : ℕ) (l : List A)
+    → All (λ k a. (e : S) → f e a ≡ g e (view a)) i l → faultsIn (λ e a. next e (view a)) f d l ≡ faultsIn next g d (map view l)
+unfolding faultsIn
+faults-same next view f g d i [] h = refl
+faults-same next view f g d i (a ∷ l) h = ap₂ (λ (x y : ℕ). firstOf x y) (h .0 d) (faults-same next view f g (next d (view a)) (i + 1) l (h .1))
+
+pub test-holds : (t : Bool) (m x : ℕ) → 0 < x → pick t m x ≡ 0 → (t ≡ true) × (m ≡ 0)
+test-holds true m x h e = (refl, e)
+test-holds false m x h e = absurd (omega arith)
+
+number-done : {A : Type 0} (m : Res A) → numberOf m ≡ numberOf (done m)
+number-done (ok a q) = refl
+number-done (refuse x p r f) = refl
+
+-- no model has more than four channels
+pub channels-most : (t : ℕ) → channelsOf t ≤ 4
+unfolding channelsOf
+channels-most t = go (modelOf t)
+  where
+    go : (k : Known) → countIn k ≤ 4
+    go (Is vm.Rgb) = omega arith
+    go (Is vm.Cmyk) = omega arith
+    go (Is vm.Lab) = omega arith
+    go (Is vm.Gray) = omega arith
+    go Unknown = omega arith
+
+pub channels-all : (g : Given) → length (g .channels) ≡ 4 → length (channelsIn g) ≡ channelsOf (g .model)
+channels-all g four = length-take-le (channelsOf (g .model)) (g .channels) (omega (arith, channels-most (g .model)))
+
+-- a record of a run of words: its channels are four, and fit 32 bits
+abbrev pub Worded : Given → Type 0
+Worded g = (length (g .channels) ≡ 4) × All (λ i b. b < 256 ^ 4) 0 (g .channels)
+
+pub givens-words : (run : List ℕ) → Words run → (n k i : ℕ) → All (λ k g. Worded g) i (givens run n k)
+unfolding givens
+givens-words run h zero k i = tt
+givens-words run h (suc n) k i = ((refl, (h _, (h _, (h _, (h _, tt))))), givens-words run h n (k + 1) (i + 1))
+
+-- ---- a record that fits is as long as its block, and has its block's faults
+
+module _ (names : List ℕ) where
+  length-name : (g : Given) → length (nameBytes 2 (unitsIn names g)) ≡ 4 + 2 * g .units
+  length-name g = omega (arith, length-nameBytes 2 (unitsIn names g), length-nums 2 (g .units) names (g .first))
+
+  length-colour : (g : Given) → length (g .channels) ≡ 4 → length (payload (colour (unitsIn names g) (g .model) (channelsIn g) (g .type))) ≡ 6 + (4 + 2 * g .units) + 4 * channelsOf (g .model)
+  length-colour g four =
+      let n : List ℕ = nameBytes 2 (unitsIn names g) in
+      let t : List ℕ = be 4 (g .model) in
+      let c : List ℕ = joined (be 4) (channelsIn g) in
+      let k : List ℕ = be 2 (g .type) in
+      omega (arith, length-append n (t ++ (c ++ k)), length-append t (c ++ k), length-append c k, length-name g, length-be 4 (g .model), length-bes 4 (channelsIn g), length-be 2 (g .type), channels-all g four)
+
+  size-is : (g : Given) → Fitting names g → length (blockBytes (blockIn names g)) ≡ sizeIn g
+  size-is g (a-start e n) = rw e (omega (arith, length-block (start (unitsIn names g)), length-name g))
+  size-is g (an-end e) = rw e (length-block stop)
+  size-is g (a-colour e n c) = rw e (omega (arith, length-block (colour (unitsIn names g) (g .model) (channelsIn g) (g .type)), length-colour g (c .four)))
+
+  sizes-are : (i : ℕ) (gs : List Given) → All (λ k g. Fitting names g) i gs → length (joined blockBytes (map (blockIn names) gs)) ≡ sizes gs
+  unfolding joined sizes
+  sizes-are i [] h = refl
+  sizes-are i (g ∷ gs) h = omega (arith, length-append (blockBytes (blockIn names g)) (joined blockBytes (map (blockIn names) gs)), size-is g (h .0), sizes-are (i + 1) gs (h .1))
+
+  -- what is made is as long as the writer says
+  pub length-made : (gs : List Given) → All (λ k g. Fitting names g) 0 gs → length (made names gs) ≡ size gs
+  length-made gs h = omega (arith, length-file (map (blockIn names) gs), sizes-are 0 gs h)
+
+  module _ (g : Given) (f : NameFitting names g) where
+    room : g .units * 2 ≤ length names - g .first
+    room = elim (ℕ-discrete (g .units) 0) [
+      | yes z ↦ omega arith
+      | no z ↦ omega (arith, f .inside (omega arith))
+    ]
+
+    text-number : numberOf (text (g .units) names (g .first)) ≡ a.nameFault (unitsIn names g)
+    text-number = number-done (text (g .units) names (g .first)) ∙ go (anyZero (nums 2 (g .units) names (g .first))) refl
+      where
+        go : (b : Bool) → anyZero (nums 2 (g .units) names (g .first)) ≡ b → numberOf (done (text (g .units) names (g .first))) ≡ pick b 8 0
+        go true e = ap numberOf (text-zero (g .units) names (g .first) room e)
+        go false e = ap numberOf (text-fine (g .units) names (g .first) _ room e refl)
+
+    name-same : nameFault names g ≡ a.nameFault (unitsIn names g)
+    name-same = simp (le-leb (g .units + 1) 65535 (omega (arith, f .counted))) text-number
+
+    name-fits : Bytes names → NameFits (unitsIn names g)
+    name-fits bytes = record { counted = omega (arith, f .counted, length-nums 2 (g .units) names (g .first)); units = nums-lt 2 names bytes (g .units) (g .first) 0 }
+
+  block-same : (g : Given) → Fitting names g → (d : ℕ) → blockFault names d g ≡ a.blockFault d (blockIn names g)
+  unfolding blockFault a.blockFault
+  block-same g (a-start e n) d = rw e (ap (λ (x : ℕ). firstOf (pick (ltb d 16) 0 10) x) (name-same g n))
+  block-same g (an-end e) d = rw e
+  block-same g (a-colour e n c) d =
+      rw e (ap (λ (x : ℕ). firstOf x (firstOf (pick (isModel (g .model)) 0 4) (firstOf (faultsFrom (λ i b. pick (allowsBits (g .model) b) 0 5) 0 (channelsIn g)) (pick (leb (g .type) 2) 0 5)))) (name-same g n))
+
+  block-fits : Bytes names → (g : Given) → Fitting names g → BlockFits (blockIn names g)
+  block-fits bytes g (a-start e n) = rw e (name-fits g n bytes)
+  block-fits bytes g (an-end e) = rw e tt
+  block-fits bytes g (a-colour e n c) = rw e (record {
+    name = name-fits g n bytes;
+    model = c .model-small;
+    all = channels-all g (c .four);
+    channels = c .each-small;
+    type = omega (arith, c .type-small);
+  })
+
+  module _ (gs : List Given) (fit : All (λ k g. Fitting names g) 0 gs) where
+    pub all-fit : Bytes names → All (λ k b. BlockFits b) 0 (map (blockIn names) gs)
+    all-fit bytes = all-image (blockIn names) (λ k b. BlockFits b) 0 gs (all-map (λ k g. Fitting names g) (λ k g. BlockFits (blockIn names g)) (λ k g f. block-fits bytes g f) 0 gs fit)
+
+    -- the writer's first fault is that of the blocks
+    pub fault-same : fault names gs ≡ pick (leb (length (made names gs)) limit) (paletteFault (map (blockIn names) gs)) 1
+    unfolding fault paletteFault
+    fault-same =
+        let bs : List Block = map (blockIn names) gs in
+        let fs : faultsIn (standingIn names) (blockFault names) 0 gs ≡ faultsIn standing a.blockFault 0 bs =
+        faults-same standing (blockIn names) (blockFault names) a.blockFault 0 0 gs
+        (all-map (λ k g. Fitting names g) (λ k g. (d : ℕ) → blockFault names d g ≡ a.blockFault d (blockIn names g)) (λ k g f. block-same g f) 0 gs fit) in
+        let st : stateAfter (standingIn names) 0 gs ≡ stateAfter standing 0 bs = state-map (standingIn names) standing (blockIn names) (λ d g. refl) 0 gs in
+        ap₂ (λ (m n : ℕ). pick (leb m limit) n 1) (sym (length-made gs fit)) (ap₂ (λ (m n : ℕ). firstOf m (pick (eqb n 0) 0 9)) fs st)
+
+  -- ---- records without a fault fit
+
+  name-lies : (g : Given) → nameFault names g ≡ 0 → NameFitting names g
+  name-lies g e =
+      let i = test-holds (leb (g .units + 1) 65535) (numberOf (text (g .units) names (g .first))) 5 (omega arith) e in record {
+        counted = omega (arith, leb-true (g .units + 1) 65535 (i .0));
+        inside = λ h. elim (decLe (g .units * 2) (length names - g .first)) [
+          | yes r ↦ omega arith
+          | no r ↦ let z : _≡_ {A = ℕ} 2 0 = sym (ap numberOf (text-short (g .units) names (g .first) (lt-of-not-le r))) ∙ sym (number-done (text (g .units) names (g .first))) ∙ i .1 in absurd (omega arith)
+        ];
+      }
+
+  colour-lies : (g : Given) → Worded g → isModel (g .model) ≡ true → leb (g .type) 2 ≡ true → ColourFitting g
+  colour-lies g w m k = record {
+    model-small = model-small (known-model (g .model) m);
+    four = w .0;
+    each-small = all-take (λ i b. b < 256 ^ 4) (channelsOf (g .model)) 0 (g .channels) (w .1);
+    type-small = omega (arith, leb-true (g .type) 2 k);
+  }
+
+  faultless-fits : (d : ℕ) (g : Given) → Worded g → blockFault names d g ≡ 0 → Fitting names g
+  unfolding blockFault
+  faultless-fits d g w e = go (eqb (g .block) 0xC001) (eqb (g .block) 0xC002) (eqb (g .block) 0x0001) refl refl refl e
+    where
+      go : (x y z : Bool) → eqb (g .block) 0xC001 ≡ x → eqb (g .block) 0xC002 ≡ y → eqb (g .block) 0x0001 ≡ z
+          → pick x (firstOf (pick (ltb d deepest) 0 10) (nameFault names g)) (pick y (pick (ltb 0 d) 0 9) (pick z (colourFault names g) 4)) ≡ 0 → Fitting names g
+      go true y z p q r h = a-start (eqb-true (g .block) 0xC001 p) (name-lies g (first-inv (pick (ltb d 16) 0 10) (nameFault names g) h .1))
+      go false true z p q r h = an-end (eqb-true (g .block) 0xC002 q)
+      go false false true p q r h =
+          let cs : ℕ = faultsFrom (λ i b. pick (allowsBits (g .model) b) 0 5) 0 (channelsIn g) in
+          let k : ℕ = pick (leb (g .type) 2) 0 5 in
+          let i = first-inv (nameFault names g) (firstOf (pick (isModel (g .model)) 0 4) (firstOf cs k)) h in
+          let j = first-inv (pick (isModel (g .model)) 0 4) (firstOf cs k) (i .1) in
+          let l = first-inv cs k (j .1) in
+          a-colour (eqb-true (g .block) 0x0001 r) (name-lies g (i .0)) (colour-lies g w (pick-none (isModel (g .model)) 4 (omega arith) (j .0)) (pick-none (leb (g .type) 2) 5 (omega arith) (l .1)))
+      go false false false p q r h = absurd (omega arith)
+
+  pub faultless-fit : (gs : List Given) → All (λ k g. Worded g) 0 gs → fault names gs ≡ 0 → All (λ k g. Fitting names g) 0 gs
+  unfolding fault
+  faultless-fit gs w e =
+      let x = test-holds (leb (size gs) limit) _ 1 (omega arith) e in
+      let y = first-inv (faultsIn (standingIn names) (blockFault names) 0 gs) (pick (eqb (stateAfter (standingIn names) 0 gs) 0) 0 9) (x .1) in
+      let P : ℕ → Given → Type 0 = λ d g. Worded g × (blockFault names d g ≡ 0) in
+      in-all (standingIn names) (Fitting names) 0 0 gs
+      (in-map (standingIn names) P (λ d g. Fitting names g) (λ d g h. faultless-fits d g (h .0) (h .1)) 0 gs
+      (in-both (standingIn names) (λ d g. Worded g) (λ d g. blockFault names d g ≡ 0) 0 gs (all-in (standingIn names) Worded 0 0 gs w) (in-inv (standingIn names) (blockFault names) 0 gs (y .0))))

@@ -1,0 +1,210 @@
+-- The records of an accepted file, from a table to a writer. Assumes nothing.
+use Prim.Native.Nat.{ℕ, zero, suc, _+_, _*_, _-_, _/_, _^_, _≤_, _<_}
+use mathlib.Core.Path.{_≡_, refl, sym, ap, ap₂, _∙_, subst}
+use mathlib.Core.List.{List, [], _∷_, _++_, map, append-assoc}
+use mathlib.Core.Bool.{Bool, true, false}
+use lib.Dec.{leb, ltb, eqb}
+use lib.ListN.{length, getD, take, length-append}
+use lib.Seq.{getD-append-add, length-take-le, getD-take}
+use native.Mathlib.Omega.{arith}
+use native.Mathlib.Nat.{add-zero}
+use Rattle.fields.specs.Numbers.{nums, joined, Bytes, All}
+use Rattle.fields.specs.Reader.{ok, pick, rule, unless, judged, each, chain, stateAfter, limit}
+use Rattle.fields.specs.Text.{Name, name, front}
+use Rattle.fields.proofs.Places.{length-nums, nums-cong}
+use Rattle.fields.proofs.Inverse.{then-inv, rule-inv, pick-inv, ok-value, Name-read, name-inv, front-nums, ended-inv}
+use Rattle.fields.proofs.Exact.{all-map, all-both}
+use Rattle.fields.proofs.Chain.{chain-none, chain-inv}
+use Rattle.colour.specs.Models.{channelsOf}
+use Rattle.ase.specs.Grammar.{Block, start, colour, Allowed, File, file}
+use Rattle.ase.specs.Reading.{Entry, started, stopped, coloured, blockOf, group, model, channel, type, shade, within, deepest, content, block, standingAfter, heading, blocks, palette, ase}
+use Rattle.ase.specs.Faults.{BlockFits}
+use Rattle.ase.proofs.Payload.{inside-inv}
+use Rattle.ase.proofs.Laws.{block-inv}
+use Rattle.ase.proofs.Faultless.{allowed-fits}
+use Rattle.ase.proofs.RoundTrip.{accepted-allowed}
+use Rattle.ase_read.specs.Table.{fourOf, row}
+use Rattle.ase_write.specs.Writing.{Given, givenAt, givens, given, blockIn}
+use Rattle.ase_roundtrip.specs.Tie.{taken, tabled, Fitting, a-start, an-end, a-colour}
+use Rattle.ase_roundtrip.proofs.Fitting.{all-image, all-source, channels-most}
+
+-- ---- a run made of rows gives the records
+
+nine-back : (p : List ℕ) (k a b c d e f g h j : ℕ) (more : List ℕ) → length p ≡ 9 * k
+    → givenAt (p ++ (a ∷ b ∷ c ∷ d ∷ e ∷ f ∷ g ∷ h ∷ j ∷ more)) k ≡ record { block = a; first = b; units = c; model = d; channels = e ∷ f ∷ g ∷ h ∷ []; type = j }
+nine-back p k a b c d e f g h j more l =
+    let y : List ℕ = a ∷ b ∷ c ∷ d ∷ e ∷ f ∷ g ∷ h ∷ j ∷ more in
+    let s : List ℕ = p ++ y in
+    let at : (i : ℕ) → getD s (9 * k + i) 0 ≡ getD y i 0 = λ i. ap (λ (n : ℕ). getD s (n + i) 0) (sym l) ∙ getD-append-add p y i 0 in
+    let at0 : getD s (9 * k) 0 ≡ a = ap (λ (n : ℕ). getD s n 0) (sym (add-zero (9 * k))) ∙ at 0 in
+    λ i. record { block = at0 i; first = at 1 i; units = at 2 i; model = at 3 i; channels = at 4 i ∷ at 5 i ∷ at 6 i ∷ at 7 i ∷ []; type = at 8 i }
+
+row-back : (p : List ℕ) (k : ℕ) (e : Entry) (more : List ℕ) → length p ≡ 9 * k → givenAt (p ++ (row e ++ more)) k ≡ taken e
+row-back p k (started nm) more l = nine-back p k 0xC001 (nm .first) (length (nm .units)) 0 0 0 0 0 0 more l
+row-back p k stopped more l = nine-back p k 0xC002 0 0 0 0 0 0 0 0 more l
+row-back p k (coloured nm t bs c) more l = nine-back p k 0x0001 (nm .first) (length (nm .units)) t (getD bs 0 0) (getD bs 1 0) (getD bs 2 0) (getD bs 3 0) c more l
+
+length-row : (e : Entry) → length (row e) ≡ 9
+length-row (started nm) = refl
+length-row stopped = refl
+length-row (coloured nm t bs k) = refl
+
+rows-back : (p : List ℕ) (k : ℕ) (es : List Entry) → length p ≡ 9 * k → givens (p ++ joined row es) (length es) k ≡ map taken es
+unfolding givens joined
+rows-back p k [] l = refl
+rows-back p k (e ∷ es) l =
+    let len : length (p ++ row e) ≡ 9 * (k + 1) = omega (arith, length-append p (row e), length-row e) in
+    ap₂ (λ (x : Given) (xs : List Given). x ∷ xs) (row-back p k e (joined row es) l)
+    (ap (λ (r : List ℕ). givens r (length es) (k + 1)) (sym (append-assoc p (row e) (joined row es))) ∙ rows-back (p ++ row e) (k + 1) es len)
+
+length-rows : (es : List Entry) → length (joined row es) ≡ 9 * length es
+unfolding joined
+length-rows [] = refl
+length-rows (e ∷ es) = omega (arith, length-append (row e) (joined row es), length-row e, length-rows es)
+
+pub given-rows : (es : List Entry) → given (joined row es) ≡ tabled es
+given-rows es =
+    let n : length (joined row es) / 9 ≡ length es = omega (arith, length-rows es) in
+    ap (λ (k : ℕ). givens (joined row es) k 0) n ∙ rows-back [] 0 es refl
+
+-- ---- the names of an accepted file lie in it
+
+pub record NameIn (s : List ℕ) (nm : Name) : Type 0 where
+  pub are : nums 2 (length (nm .units)) s (nm .first) ≡ nm .units
+  pub inside : nm .first + 2 * length (nm .units) ≤ length s
+
+abbrev pub Lies : List ℕ → Entry → Type 0
+Lies s (started nm) = NameIn s nm
+Lies s stopped = Unit
+Lies s (coloured nm t bs k) = NameIn s nm
+
+name-lies : (w : ℕ) (s : List ℕ) (at : ℕ) (nm : Name) (q : ℕ) → name w s at ≡ ok nm q → NameIn s nm
+name-lies w s at nm q e =
+    let i = name-inv w s at e in
+    let n : ℕ = i .0 in
+    let r : Name-read w s at n nm q = i .1 in
+    let m : suc (n - 1) ≡ n = omega (arith, r .some) in
+    let us : List ℕ = front (nums 2 n s (at + w)) in
+    let u : us ≡ nums 2 (n - 1) s (at + w) = ap (λ (k : ℕ). front (nums 2 k s (at + w))) (sym m) ∙ front-nums 2 (n - 1) s (at + w) in
+    let l : length us ≡ n - 1 = ap length u ∙ length-nums 2 (n - 1) s (at + w) in
+    subst (λ (x : Name). NameIn s x) (r .is) (record {
+      are = ap (λ (k : ℕ). nums 2 k s (at + w)) l ∙ sym u;
+      inside = omega (arith, r .inside, r .some);
+    })
+
+module _ (s : List ℕ) (end : ℕ) (room : end ≤ length s) where
+  name-uncut : (nm : Name) → NameIn (take end s) nm → NameIn s nm
+  name-uncut nm l =
+      let n : ℕ = length (nm .units) in
+      let h : nm .first + 2 * n ≤ end = omega (arith, l .inside, length-take-le end s room) in record {
+        are = sym (nums-cong 2 s (take end s) n (nm .first) (λ k g. getD-take end s (nm .first + k) 0 (omega arith))) ∙ l .are;
+        inside = omega arith;
+      }
+
+  lies-uncut : (e : Entry) → Lies (take end s) e → Lies s e
+  lies-uncut (started nm) l = name-uncut nm l
+  lies-uncut stopped l = tt
+  lies-uncut (coloured nm t bs k) l = name-uncut nm l
+
+module _ (s : List ℕ) where
+  group-lies : (at : ℕ) (e : Entry) (q : ℕ) → group s at ≡ ok e q → Lies s e
+  unfolding group
+  group-lies at e q h =
+      let t = then-inv (name 2 s at) _ h in
+      subst (λ (x : Entry). Lies s x) (ok-value (t .3)) (name-lies 2 s at (t .0) (t .1) (t .2))
+
+  shade-lies : (at : ℕ) (e : Entry) (q : ℕ) → shade s at ≡ ok e q → Lies s e
+  unfolding shade
+  shade-lies at e q h =
+      let a = then-inv (name 2 s at) _ h in
+      let b = then-inv (judged 4 model s (a .1)) _ (a .3) in
+      let c = then-inv (each (channelsOf (b .0)) 0 (λ i. judged 4 (channel (b .0))) s (b .1)) _ (b .3) in
+      let d = then-inv (judged 2 type s (c .1)) _ (c .3) in
+      subst (λ (x : Entry). Lies s x) (ok-value (d .3)) (name-lies 2 s at (a .0) (a .1) (a .2))
+
+module _ (s : List ℕ) (d n at : ℕ) (room : at + 6 + n ≤ length s) (e : Entry) (q : ℕ) where
+  content-lies : (t : ℕ) → content t d n s at ≡ ok e q → Lies s e
+  unfolding content
+  content-lies t h = go (eqb t 0xC001) (eqb t 0xC002) h
+    where
+      go : (a b : Bool) → pick a (rule (unless (ltb d deepest) 10) at (within group n s at)) (pick b (rule (unless (eqb n 0) 13) (at + 2) (rule (unless (ltb 0 d) 9) at (ok stopped (at + 6)))) (within shade n s at)) ≡ ok e q → Lies s e
+      go true b w =
+          let r = rule-inv (unless (ltb d 16) 10) at (within group n s at) w in
+          let i = inside-inv (at + 2) (at + 6 + n) (group (take (at + 6 + n) s) (at + 6)) (r .1) in
+          lies-uncut s (at + 6 + n) room e (group-lies (take (at + 6 + n) s) (at + 6) e q (i .0))
+      go false true w =
+          let i = rule-inv (unless (eqb n 0) 13) (at + 2) (rule (unless (ltb 0 d) 9) at (ok stopped (at + 6))) w in
+          let j = rule-inv (unless (ltb 0 d) 9) at (ok stopped (at + 6)) (i .1) in
+          subst (λ (x : Entry). Lies s x) (ok-value (j .1)) tt
+      go false false w =
+          let i = inside-inv (at + 2) (at + 6 + n) (shade (take (at + 6 + n) s) (at + 6)) w in
+          lies-uncut s (at + 6 + n) room e (shade-lies (take (at + 6 + n) s) (at + 6) e q (i .0))
+
+module _ (s : List ℕ) where
+  block-lies : (d at : ℕ) (e : Entry) (q : ℕ) → block d s at ≡ ok e q → Lies s e
+  block-lies d at e q h = let i = block-inv s d at h in content-lies s d _ at (i .0) e q _ (i .2)
+
+  chain-lies : (n d at i : ℕ) (es : List Entry) (q : ℕ) → chain standingAfter block n d s at ≡ ok es q → All (λ k e. Lies s e) i es
+  chain-lies zero d at i es q h = subst (λ (l : List Entry). All (λ k e. Lies s e) i l) (chain-none standingAfter block s d at h .0) tt
+  chain-lies (suc n) d at i es q h =
+      let t = chain-inv standingAfter block s n d at h in
+      subst (λ (l : List Entry). All (λ k e. Lies s e) i l) (t .5) (block-lies d at (t .0) (t .1) (t .3), chain-lies n (standingAfter d (t .0)) (t .1) (i + 1) (t .2) q (t .4))
+
+  pub all-lie : {es : List Entry} {q : ℕ} → ase s ≡ ok es q → All (λ k e. Lies s e) 0 es
+  unfolding ase palette blocks
+  all-lie e =
+      let p = pick-inv (leb (length s) limit) (palette s 0) 1 0 0 0 e in
+      let t = then-inv (heading s 0) _ (p .1) in
+      let u = then-inv (blocks (t .0) s (t .1)) _ (t .3) in
+      let v = then-inv (chain standingAfter block (t .0) 0 s (t .1)) _ (u .2) in
+      let r = rule-inv (unless (eqb (stateAfter standingAfter 0 (v .0)) 0) 9) (v .1) (ok (v .0) (v .1)) (v .3) in
+      let z = ended-inv (u .0) s (u .1) (u .3) in
+      subst (λ (l : List Entry). All (λ k e. Lies s e) 0 l) (ok-value (r .1) ∙ z .1) (chain-lies (t .0) 0 (t .1) 0 (v .0) (v .1) (v .2))
+
+-- ---- the records of an accepted file, as they are given
+
+-- four channels of a table are the model's channels, and then spare
+four-take : (bs : List ℕ) → length bs ≤ 4 → take (length bs) (fourOf bs) ≡ bs
+four-take [] h = refl
+four-take (a ∷ []) h = refl
+four-take (a ∷ b ∷ []) h = refl
+four-take (a ∷ b ∷ c ∷ []) h = refl
+four-take (a ∷ b ∷ c ∷ d ∷ []) h = refl
+four-take (a ∷ b ∷ c ∷ d ∷ e ∷ more) h = absurd (omega arith)
+
+used-back : (t : ℕ) (bs : List ℕ) → length bs ≡ channelsOf t → take (channelsOf t) (fourOf bs) ≡ bs
+used-back t bs l = ap (λ (n : ℕ). take n (fourOf bs)) (sym l) ∙ four-take bs (omega (arith, channels-most t))
+
+block-back : (s : List ℕ) (e : Entry) → Lies s e → BlockFits (blockOf e) → blockIn s (taken e) ≡ blockOf e
+block-back s (started nm) l f = ap start (l .are)
+block-back s stopped l f = refl
+block-back s (coloured nm t bs k) l f = ap₂ (λ (us cs : List ℕ). colour us t cs k) (l .are) (used-back t bs (f .all))
+
+blocks-back : (s : List ℕ) (i : ℕ) (es : List Entry) → All (λ k e. Lies s e × BlockFits (blockOf e)) i es → map (blockIn s) (map taken es) ≡ map blockOf es
+blocks-back s i [] h = refl
+blocks-back s i (e ∷ es) h = ap₂ (λ (b : Block) (bs : List Block). b ∷ bs) (block-back s e (h .0 .0) (h .0 .1)) (blocks-back s (i + 1) es (h .1))
+
+taken-fits : (s : List ℕ) (e : Entry) → Lies s e → BlockFits (blockOf e) → Fitting s (taken e)
+taken-fits s (started nm) l f = a-start refl (record { counted = omega (arith, f .counted); inside = λ h. l .inside })
+taken-fits s stopped l f = an-end refl
+taken-fits s (coloured nm t bs k) l f = a-colour refl (record { counted = omega (arith, f .name .counted); inside = λ h. l .inside }) (record {
+  model-small = f .model;
+  four = refl;
+  each-small = subst (λ (cs : List ℕ). All (λ i b. b < 256 ^ 4) 0 cs) (sym (used-back t bs (f .all))) (f .channels);
+  type-small = omega (arith, f .type);
+})
+
+blocks-fit : {bs : List Block} {b : List ℕ} → File bs b → All (λ i b. BlockFits b) 0 bs
+blocks-fit (file {bs} allowed nested short) = all-map (λ i b. Allowed b) (λ i b. BlockFits b) (λ i b h. allowed-fits b h) 0 bs allowed
+
+module _ (s : List ℕ) (bytes : Bytes s) {es : List Entry} {q : ℕ} (e : ase s ≡ ok es q) where
+  both : All (λ k e. Lies s e × BlockFits (blockOf e)) 0 es
+  both = all-both (λ k e. Lies s e) (λ k e. BlockFits (blockOf e)) 0 es (all-lie s e) (all-source blockOf (λ k b. BlockFits b) 0 es (blocks-fit (accepted-allowed bytes e .0)))
+
+  -- they are the blocks that were read
+  pub given-blocks : map (blockIn s) (tabled es) ≡ map blockOf es
+  given-blocks = blocks-back s 0 es both
+
+  -- they fit
+  pub given-fit : All (λ k g. Fitting s g) 0 (tabled es)
+  given-fit = all-image taken (λ k g. Fitting s g) 0 es (all-map (λ k e. Lies s e × BlockFits (blockOf e)) (λ k e. Fitting s (taken e)) (λ k e h. taken-fits s e (h .0) (h .1)) 0 es both)

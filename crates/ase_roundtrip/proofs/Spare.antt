@@ -1,0 +1,88 @@
+-- Records that differ only in spare places are the same to a writer. Assumes nothing.
+use Prim.Native.Nat.{ℕ, _+_, _*_}
+use mathlib.Core.Path.{_≡_, refl, ap, ap₂, _∙_}
+use mathlib.Core.List.{List, [], _∷_, map}
+use lib.Dec.{leb, ltb, eqb}
+use Rattle.fields.specs.Numbers.{nums}
+use Rattle.fields.specs.Reader.{pick, numberOf, stateAfter, limit}
+use Rattle.fields.specs.Text.{text}
+use Rattle.fields.specs.Faults.{firstOf, faultsFrom, faultsIn}
+use Rattle.fields.specs.Writing.{needs, writes}
+use Rattle.colour.specs.Models.{isModel, channelsOf}
+use Rattle.colour.specs.Channels.{allowsBits}
+use Rattle.ase.specs.Grammar.{Block, start, stop, colour, fileBytes}
+use Rattle.ase.specs.Reading.{deepest, standing}
+use Rattle.ase_write.specs.Writing.{Given, unitsIn, blockIn, sizeIn, sizes, nameFault, blockFault, standingIn, fault, needed, written}
+use Rattle.ase_roundtrip.specs.Tie.{Alike, starts, ends, colours, AllAlike}
+
+module _ (names : List ℕ) where
+  name-alike : (g h : Given) → g .first ≡ h .first → g .units ≡ h .units → nameFault names g ≡ nameFault names h
+  name-alike g h a b = ap₂ (λ (p n : ℕ). pick (leb (n + 1) 65535) (numberOf (text n names p)) 5) a b
+
+  units-alike : (g h : Given) → g .first ≡ h .first → g .units ≡ h .units → unitsIn names g ≡ unitsIn names h
+  units-alike g h a b = ap₂ (λ (p n : ℕ). nums 2 n names p) a b
+
+  pub block-alike : (g h : Given) → Alike g h → blockIn names g ≡ blockIn names h
+  block-alike g h (starts x y a b) = rw (x, y) (ap start (units-alike g h a b))
+  block-alike g h (ends x y) = rw (x, y)
+  block-alike g h (colours x a b m c k) =
+      λ i. pick (eqb (x i) 0xC001) (start (units-alike g h a b i)) (pick (eqb (x i) 0xC002) stop (colour (units-alike g h a b i) (m i) (c i) (k i)))
+
+  pub fault-alike : (d : ℕ) (g h : Given) → Alike g h → blockFault names d g ≡ blockFault names d h
+  unfolding blockFault
+  fault-alike d g h (starts x y a b) = rw (x, y) (ap (λ (z : ℕ). firstOf (pick (ltb d deepest) 0 10) z) (name-alike g h a b))
+  fault-alike d g h (ends x y) = rw (x, y)
+  fault-alike d g h (colours x a b m c k) = λ i.
+      let n : ℕ = name-alike g h a b i in
+      pick (eqb (x i) 0xC001) (firstOf (pick (ltb d deepest) 0 10) n)
+      (pick (eqb (x i) 0xC002) (pick (ltb 0 d) 0 9)
+      (pick (eqb (x i) 0x0001) (firstOf n (firstOf (pick (isModel (m i)) 0 4) (firstOf (faultsFrom (λ j v. pick (allowsBits (m i) v) 0 5) 0 (c i)) (pick (leb (k i) 2) 0 5)))) 4))
+
+pub size-alike : (g h : Given) → Alike g h → sizeIn g ≡ sizeIn h
+size-alike g h (starts x y a b) = rw (x, y) (ap (λ (n : ℕ). 6 + (4 + 2 * n)) b)
+size-alike g h (ends x y) = rw (x, y)
+size-alike g h (colours x a b m c k) = λ i.
+    pick (eqb (x i) 0xC001) (6 + (4 + 2 * b i)) (pick (eqb (x i) 0xC002) 6 (pick (eqb (x i) 0x0001) (12 + (4 + 2 * b i) + 4 * channelsOf (m i)) 6))
+
+-- ---- all of them
+
+sizes-alike : (gs hs : List Given) → AllAlike gs hs → sizes gs ≡ sizes hs
+unfolding sizes
+sizes-alike [] [] x = refl
+sizes-alike [] (h ∷ hs) x = absurd x
+sizes-alike (g ∷ gs) [] x = absurd x
+sizes-alike (g ∷ gs) (h ∷ hs) x = ap₂ (λ (m n : ℕ). m + n) (size-alike g h (x .0)) (sizes-alike gs hs (x .1))
+
+module _ (names : List ℕ) where
+  pub blocks-alike : (gs hs : List Given) → AllAlike gs hs → map (blockIn names) gs ≡ map (blockIn names) hs
+  blocks-alike [] [] x = refl
+  blocks-alike [] (h ∷ hs) x = absurd x
+  blocks-alike (g ∷ gs) [] x = absurd x
+  blocks-alike (g ∷ gs) (h ∷ hs) x = ap₂ (λ (b : Block) (bs : List Block). b ∷ bs) (block-alike names g h (x .0)) (blocks-alike gs hs (x .1))
+
+  faults-alike : (d : ℕ) (gs hs : List Given) → AllAlike gs hs → faultsIn (standingIn names) (blockFault names) d gs ≡ faultsIn (standingIn names) (blockFault names) d hs
+  unfolding faultsIn
+  faults-alike d [] [] x = refl
+  faults-alike d [] (h ∷ hs) x = absurd x
+  faults-alike d (g ∷ gs) [] x = absurd x
+  faults-alike d (g ∷ gs) (h ∷ hs) x =
+      ap₂ (λ (m n : ℕ). firstOf m n) (fault-alike names d g h (x .0))
+      (faults-alike (standingIn names d g) gs hs (x .1) ∙ ap (λ (b : Block). faultsIn (standingIn names) (blockFault names) (standing d b) hs) (block-alike names g h (x .0)))
+
+  state-alike : (d : ℕ) (gs hs : List Given) → AllAlike gs hs → stateAfter (standingIn names) d gs ≡ stateAfter (standingIn names) d hs
+  unfolding stateAfter
+  state-alike d [] [] x = refl
+  state-alike d [] (h ∷ hs) x = absurd x
+  state-alike d (g ∷ gs) [] x = absurd x
+  state-alike d (g ∷ gs) (h ∷ hs) x = state-alike (standingIn names d g) gs hs (x .1) ∙ ap (λ (b : Block). stateAfter (standingIn names) (standing d b) hs) (block-alike names g h (x .0))
+
+  module _ (gs hs : List Given) (x : AllAlike gs hs) where
+    pub first-alike : fault names gs ≡ fault names hs
+    unfolding fault
+    first-alike = λ i. pick (leb (12 + sizes-alike gs hs x i) limit) (firstOf (faults-alike 0 gs hs x i) (pick (eqb (state-alike 0 gs hs x i) 0) 0 9)) 1
+
+    pub needed-alike : needed names gs ≡ needed names hs
+    needed-alike = λ i. needs (first-alike i) (12 + sizes-alike gs hs x i)
+
+    pub written-alike : (out : List ℕ) → written names gs out ≡ written names hs out
+    written-alike out = λ i. writes (first-alike i) (12 + sizes-alike gs hs x i) (fileBytes (blocks-alike gs hs x i)) out

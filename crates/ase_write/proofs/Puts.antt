@@ -1,0 +1,299 @@
+-- Stores one after the other, on plain values. Assumes nothing.
+use Prim.Native.Nat.{ℕ, zero, suc, _+_, _*_, _-_, _≤_, _<_}
+use mathlib.Core.Path.{_≡_, refl, sym, ap, ap₂, _∙_}
+use mathlib.Core.List.{List, [], _∷_, _++_, map}
+use mathlib.Core.Bool.{true, false, true≢false}
+use lib.ListN.{length, take, drop, length-append}
+use lib.Seq.{sets, sets-eq}
+use borrow.Author.Tests.{ne-eqb}
+use native.Mathlib.Omega.{arith}
+use native.Mathlib.Decide.{ℕ-discrete}
+use Rattle.fields.specs.Numbers.{be, nums, joined, Bytes}
+use Rattle.fields.specs.Store.{stored, part}
+use Rattle.fields.specs.Text.{nameBytes, countedUnits}
+use Rattle.fields.specs.Faults.{faults}
+use Rattle.fields.proofs.Stores.{stored-in, sets-append, length-stored}
+use Rattle.fields.proofs.Places.{length-be, length-bes, length-nums, part-nums}
+use Rattle.fields.proofs.Exact.{length-map, length-nameBytes}
+use Rattle.fields.proofs.Tells.{first-inv}
+use Rattle.colour.specs.Models.{modelOf, isKnown, countIn, isModel, channelsOf}
+use Rattle.colour.specs.declared.model.Known.{Known}
+use Rattle.colour.specs.declared.model.Known.the-variants.{Is, Unknown}
+use Rattle.colour.specs.declared.model.Model.the-variants.{Rgb, Cmyk, Lab, Gray}
+use Rattle.ase.specs.Grammar.{Block, start, stop, colour, typeOf, payload, blockBytes, fileBytes}
+use Rattle.ase_write.specs.Writing.{Given, givenAt, givens, unitsIn, channelsIn, blockIn, nameSize, sizeIn, sizes, size, nameFault}
+use Rattle.ase_write.specs.Parts.{shadeBytes, ownFault}
+use Rattle.ase_write.specs.Parts as parts
+use Rattle.ase_write.proofs.Judging.{Sort, is-start, is-stop, is-colour, head-fine, block-head, channels-few, size-start, size-stop, size-colour, name-inside, givens-start, givens-turn, givens-end, length-givens}
+
+-- ---- one store
+
+-- a store that has room
+as-sets : (o out : List ℕ) (at : ℕ) (l : List ℕ) (k : ℕ) → o ≡ stored out at l → length l ≡ k → at + k ≤ length out → o ≡ sets out at l
+as-sets o out at l k e f h = e ∙ stored-in out at l (omega arith)
+
+-- a store that was made, taken off the front of a longer one
+peel : (out o a b : List ℕ) (at k next : ℕ) → length a ≡ k → at + k ≡ next → o ≡ sets out at a → sets out at (a ++ b) ≡ sets o next b
+peel out o a b at k next e f g =
+    sets-append a b out at ∙ ap (λ (n : ℕ). sets (sets out at a) n b) (ap (λ (x : ℕ). at + x) e ∙ f) ∙ ap (λ (l : List ℕ). sets l next b) (sym g)
+
+-- the same of a number of w bytes
+peel-be : (w v : ℕ) (out o b : List ℕ) (at next : ℕ) → at + w ≡ next → next ≤ length out → o ≡ stored out at (be w v) → sets out at (be w v ++ b) ≡ sets o next b
+peel-be w v out o b at next f h e = peel out o (be w v) b at w next (length-be w v) f (as-sets o out at (be w v) w e (length-be w v) (omega arith))
+
+length-kept : (o out : List ℕ) (at : ℕ) (l : List ℕ) → o ≡ stored out at l → length o ≡ length out
+length-kept o out at l e = ap length e ∙ length-stored out at l
+
+-- ---- a name
+
+module _ (names : List ℕ) (b : Bytes names) (g : Given) (k : ℕ) (e : k ≡ 2 * g .units) (f : nameFault names g ≡ 0) where
+  -- the bytes of its units, from where its copy starts
+  name-part : part names (parts.start g) k ≡ joined (be 2) (unitsIn names g)
+  unfolding nums joined
+  name-part = elim (ℕ-discrete (g .units) 0) [
+    | yes z ↦ let k0 : k ≡ 0 = omega arith in rw (k0, z)
+    | no z ↦ let i = inside z in rw (ne-eqb (g .units) 0 z) (part-nums 2 names b (g .units) (g .first) k (omega arith) (omega arith))
+  ]
+    where
+      inside : (g .units ≡ 0 → ⊥) → g .first + 2 * g .units ≤ length names
+      inside z = rw (ne-eqb (g .units) 0 z) at (name-inside names g f)
+
+  name-bytes : countedUnits 2 (g .units + 1) (part names (parts.start g) k) ≡ nameBytes 2 (unitsIn names g)
+  unfolding countedUnits nameBytes
+  name-bytes = ap₂ (λ (x : ℕ) (l : List ℕ). be 2 (x + 1) ++ (l ++ be 2 0)) (sym (length-nums 2 (g .units) names (g .first))) name-part
+
+length-name : (names : List ℕ) (g : Given) → length (nameBytes 2 (unitsIn names g)) ≡ nameSize g
+length-name names g = omega (arith, length-nameBytes 2 (unitsIn names g), length-nums 2 (g .units) names (g .first))
+
+pub put-name : (names : List ℕ) → Bytes names → (g : Given) (k : ℕ) → k ≡ 2 * g .units → nameFault names g ≡ 0 → (out o : List ℕ) (at : ℕ) → at + nameSize g ≤ length out
+    → o ≡ stored out at (countedUnits 2 (g .units + 1) (part names (parts.start g) k)) → o ≡ sets out at (nameBytes 2 (unitsIn names g))
+put-name names b g k e f out o at h w = as-sets o out at _ (nameSize g) (w ∙ ap (stored out at) (name-bytes names b g k e f)) (length-name names g) h
+
+-- ---- a colour's channels
+
+some : (k : Known) → isKnown k ≡ true → (countIn k ≡ 1 → ⊥) → (countIn k ≡ 3 → ⊥) → countIn k ≡ 4
+some (Is Rgb) e a b = absurd (b refl)
+some (Is Cmyk) e a b = refl
+some (Is Lab) e a b = absurd (b refl)
+some (Is Gray) e a b = absurd (a refl)
+some Unknown e a b = absurd (true≢false (sym e))
+
+-- a known model has one channel, three or four
+channels-four : (t : ℕ) → isModel t ≡ true → (channelsOf t ≡ 1 → ⊥) → (channelsOf t ≡ 3 → ⊥) → channelsOf t ≡ 4
+unfolding isModel channelsOf
+channels-four t e a b = some (modelOf t) e a b
+
+module _ (a b c d : ℕ) (o₀ o₁ : List ℕ) (at : ℕ) (e₁ : o₁ ≡ stored o₀ at (be 4 a)) where
+  one : at + 4 ≤ length o₀ → o₁ ≡ sets o₀ at (joined (be 4) (take 1 (a ∷ b ∷ c ∷ d ∷ [])))
+  unfolding joined
+  one h = sym (peel-be 4 a o₀ o₁ [] at (at + 4) refl h e₁)
+
+  module _ (o₂ o₃ : List ℕ) (e₂ : o₂ ≡ stored o₁ (at + 4) (be 4 b)) (e₃ : o₃ ≡ stored o₂ (at + 8) (be 4 c)) where
+    three-by : at + 12 ≤ length o₀ → (l : List ℕ) → sets o₀ at (be 4 a ++ (be 4 b ++ (be 4 c ++ l))) ≡ sets o₃ (at + 12) l
+    three-by h l =
+        let l₁ = length-kept o₁ o₀ at (be 4 a) e₁ in
+        let l₂ = length-kept o₂ o₁ (at + 4) (be 4 b) e₂ in
+        peel-be 4 a o₀ o₁ _ at (at + 4) refl (omega arith) e₁ ∙ peel-be 4 b o₁ o₂ _ (at + 4) (at + 8) (omega arith) (omega arith) e₂ ∙ peel-be 4 c o₂ o₃ l (at + 8) (at + 12) (omega arith) (omega arith) e₃
+
+    three : at + 12 ≤ length o₀ → o₃ ≡ sets o₀ at (joined (be 4) (take 3 (a ∷ b ∷ c ∷ d ∷ [])))
+    unfolding joined
+    three h = sym (three-by h [])
+
+    four : at + 16 ≤ length o₀ → (o₄ : List ℕ) → o₄ ≡ stored o₃ (at + 12) (be 4 d) → o₄ ≡ sets o₀ at (joined (be 4) (take 4 (a ∷ b ∷ c ∷ d ∷ [])))
+    unfolding joined
+    four h o₄ e₄ =
+        let l₁ = length-kept o₁ o₀ at (be 4 a) e₁ in
+        let l₂ = length-kept o₂ o₁ (at + 4) (be 4 b) e₂ in
+        let l₃ = length-kept o₃ o₂ (at + 8) (be 4 c) e₃ in
+        sym (three-by (omega arith) (be 4 d ++ []) ∙ peel-be 4 d o₃ o₄ [] (at + 12) (at + 16) (omega arith) (omega arith) e₄)
+
+-- as many as the model has
+module _ (t n a b c d : ℕ) (o₀ o₁ : List ℕ) (at : ℕ) (count : n ≡ channelsOf t) (room : at + 4 * n ≤ length o₀) (e₁ : o₁ ≡ stored o₀ at (be 4 a)) where
+  taken : (k : ℕ) → n ≡ k → (o : List ℕ) → o ≡ sets o₀ at (joined (be 4) (take k (a ∷ b ∷ c ∷ d ∷ []))) → o ≡ sets o₀ at (joined (be 4) (take (channelsOf t) (a ∷ b ∷ c ∷ d ∷ [])))
+  taken k z o e = e ∙ ap (λ (x : ℕ). sets o₀ at (joined (be 4) (take x (a ∷ b ∷ c ∷ d ∷ [])))) (sym z ∙ count)
+
+  pub put-one : n ≡ 1 → o₁ ≡ sets o₀ at (joined (be 4) (take (channelsOf t) (a ∷ b ∷ c ∷ d ∷ [])))
+  put-one z = taken 1 z o₁ (one a b c d o₀ o₁ at e₁ (omega arith))
+
+  module _ (o₂ o₃ : List ℕ) (e₂ : o₂ ≡ stored o₁ (at + 4) (be 4 b)) (e₃ : o₃ ≡ stored o₂ (at + 8) (be 4 c)) where
+    pub put-three : n ≡ 3 → o₃ ≡ sets o₀ at (joined (be 4) (take (channelsOf t) (a ∷ b ∷ c ∷ d ∷ [])))
+    put-three z = taken 3 z o₃ (three a b c d o₀ o₁ at e₁ o₂ o₃ e₂ e₃ (omega arith))
+
+    pub put-four : isModel t ≡ true → (n ≡ 1 → ⊥) → (n ≡ 3 → ⊥) → (o₄ : List ℕ) → o₄ ≡ stored o₃ (at + 12) (be 4 d) → o₄ ≡ sets o₀ at (joined (be 4) (take (channelsOf t) (a ∷ b ∷ c ∷ d ∷ [])))
+    put-four known x y o₄ e₄ =
+        let z : n ≡ 4 = count ∙ channels-four t known (λ k. x (count ∙ k)) (λ k. y (count ∙ k)) in
+        taken 4 z o₄ (four a b c d o₀ o₁ at e₁ o₂ o₃ e₂ e₃ (omega arith) o₄ e₄)
+
+length-take-in : (n : ℕ) (l : List ℕ) → n ≤ length l → length (take n l) ≡ n
+length-take-in zero l h = refl
+length-take-in (suc n) [] h = absurd (omega arith)
+length-take-in (suc n) (x ∷ l) h = ap suc (length-take-in n l (omega arith))
+
+module _ (g : Given) (l : length (g .channels) ≡ 4) where
+  length-channels : length (joined (be 4) (channelsIn g)) ≡ 4 * channelsOf (g .model)
+  length-channels = omega (arith, length-bes 4 (channelsIn g), length-take-in (channelsOf (g .model)) (g .channels) (omega (arith, channels-few (g .model))))
+
+  length-shade : length (shadeBytes g) ≡ 6 + 4 * channelsOf (g .model)
+  length-shade =
+      let x = length-append (be 4 (g .model)) (joined (be 4) (channelsIn g) ++ be 2 (g .type)) in
+      let y = length-append (joined (be 4) (channelsIn g)) (be 2 (g .type)) in
+      omega (arith, x, y, length-be 4 (g .model), length-be 2 (g .type), length-channels)
+
+  pub put-shade : (o₀ o₁ o₂ o₃ : List ℕ) (at n : ℕ) → n ≡ channelsOf (g .model) → at + 6 + 4 * channelsOf (g .model) ≤ length o₀ → o₁ ≡ stored o₀ at (be 4 (g .model))
+      → o₂ ≡ sets o₁ (at + 4) (joined (be 4) (channelsIn g)) → length o₂ ≡ length o₁ → o₃ ≡ stored o₂ (at + 4 + 4 * n) (be 2 (g .type)) → o₃ ≡ sets o₀ at (shadeBytes g)
+  put-shade o₀ o₁ o₂ o₃ at n m h e₁ e₂ l₂ e₃ =
+      let l₁ = length-kept o₁ o₀ at (be 4 (g .model)) e₁ in
+      let p : at + 4 + 4 * channelsOf (g .model) ≡ at + 4 + 4 * n = omega arith in
+      sym (
+      peel-be 4 (g .model) o₀ o₁ _ at (at + 4) refl (omega arith) e₁ ∙ peel o₁ o₂ (joined (be 4) (channelsIn g)) (be 2 (g .type)) (at + 4) (4 * channelsOf (g .model)) (at + 4 + 4 * n) length-channels p e₂
+      ∙ sym (as-sets o₃ o₂ (at + 4 + 4 * n) (be 2 (g .type)) 2 e₃ (length-be 2 (g .type)) (omega arith)))
+
+-- ---- a record
+
+module _ (names : List ℕ) (g : Given) where
+  block-start : g .block ≡ 0xC001 → blockIn names g ≡ start (unitsIn names g)
+  block-start e = rw e
+
+  block-stop : g .block ≡ 0xC002 → blockIn names g ≡ stop
+  block-stop e = rw e
+
+  block-colour : g .block ≡ 0x0001 → blockIn names g ≡ colour (unitsIn names g) (g .model) (channelsIn g) (g .type)
+  block-colour e = rw e
+
+  -- one of the three types, where it has no fault of its own
+  pub sort : ownFault names g ≡ 0 → Sort 1 (g .block)
+  sort e = head-fine 1 (g .block) (block-head names 1 g e)
+
+  type-is : Sort 1 (g .block) → typeOf (blockIn names g) ≡ g .block
+  type-is (is-start e k) = ap typeOf (block-start e) ∙ sym e
+  type-is (is-stop e k) = ap typeOf (block-stop e) ∙ sym e
+  type-is (is-colour e) = ap typeOf (block-colour e) ∙ sym e
+
+  pub type-small : Sort 1 (g .block) → g .block < 65536
+  type-small (is-start e k) = omega arith
+  type-small (is-stop e k) = omega arith
+  type-small (is-colour e) = omega arith
+
+  -- a record that does not end a group has a name
+  pub size-name : Sort 1 (g .block) → (g .block ≡ 0xC002 → ⊥) → 6 + nameSize g ≤ sizeIn g
+  size-name (is-start e k) x = omega (arith, size-start g e)
+  size-name (is-stop e k) x = absurd (x e)
+  size-name (is-colour e) x = omega (arith, size-colour g e)
+
+  -- and one that starts none either is a colour
+  pub sort-colour : Sort 1 (g .block) → (g .block ≡ 0xC002 → ⊥) → (g .block ≡ 0xC001 → ⊥) → g .block ≡ 0x0001
+  sort-colour (is-start e k) x y = absurd (y e)
+  sort-colour (is-stop e k) x y = absurd (x e)
+  sort-colour (is-colour e) x y = e
+
+  module _ (l : length (g .channels) ≡ 4) where
+    length-payload : Sort 1 (g .block) → 6 + length (payload (blockIn names g)) ≡ sizeIn g
+    length-payload (is-start e k) = omega (arith, ap (λ (b : Block). length (payload b)) (block-start e), length-name names g, size-start g e)
+    length-payload (is-stop e k) = omega (arith, ap (λ (b : Block). length (payload b)) (block-stop e), size-stop g e)
+    length-payload (is-colour e) =
+        let a = length-append (nameBytes 2 (unitsIn names g)) (shadeBytes g) in
+        omega (arith, ap (λ (b : Block). length (payload b)) (block-colour e), a, length-name names g, length-shade g l, size-colour g e)
+
+    length-block : Sort 1 (g .block) → length (blockBytes (blockIn names g)) ≡ sizeIn g
+    unfolding blockBytes
+    length-block s =
+        let b : Block = blockIn names g in
+        let x = length-append (be 2 (typeOf b)) (be 4 (length (payload b)) ++ payload b) in
+        let y = length-append (be 4 (length (payload b))) (payload b) in
+        omega (arith, x, y, length-be 2 (typeOf b), length-be 4 (length (payload b)), length-payload s)
+
+    module _ (s : Sort 1 (g .block)) (o₀ o₁ o₂ : List ℕ) (at n : ℕ) (m : n ≡ sizeIn g) (room : at + sizeIn g ≤ length o₀)
+        (e₁ : o₁ ≡ stored o₀ at (be 2 (g .block))) (e₂ : o₂ ≡ stored o₁ (at + 2) (be 4 (n - 6))) where
+      -- the six bytes before the payload
+      head : sets o₀ at (blockBytes (blockIn names g)) ≡ sets o₂ (at + 6) (payload (blockIn names g))
+      unfolding blockBytes
+      head =
+          let b : Block = blockIn names g in
+          let w : n - 6 ≡ length (payload b) = omega (arith, length-payload s) in
+          let l₁ = length-kept o₁ o₀ at (be 2 (g .block)) e₁ in
+          let h = length-payload s in
+          peel-be 2 (typeOf b) o₀ o₁ _ at (at + 2) refl (omega arith) (e₁ ∙ ap (λ (t : ℕ). stored o₀ at (be 2 t)) (sym (type-is s)))
+          ∙ peel-be 4 (length (payload b)) o₁ o₂ (payload b) (at + 2) (at + 6) (omega arith) (omega arith) (e₂ ∙ ap (λ (v : ℕ). stored o₁ (at + 2) (be 4 v)) w)
+
+      pub put-stop : g .block ≡ 0xC002 → o₂ ≡ sets o₀ at (blockBytes (blockIn names g))
+      put-stop e = sym (head ∙ ap (λ (b : Block). sets o₂ (at + 6) (payload b)) (block-stop e))
+
+      module _ (o₃ : List ℕ) (e₃ : o₃ ≡ sets o₂ (at + 6) (nameBytes 2 (unitsIn names g))) where
+        pub put-start : g .block ≡ 0xC001 → o₃ ≡ sets o₀ at (blockBytes (blockIn names g))
+        put-start e = e₃ ∙ sym (head ∙ ap (λ (b : Block). sets o₂ (at + 6) (payload b)) (block-start e))
+
+        pub put-colour : (g .block ≡ 0xC002 → ⊥) → (g .block ≡ 0xC001 → ⊥) → (o₄ : List ℕ) (k : ℕ) → k ≡ g .units → o₄ ≡ sets o₃ (at + 10 + 2 * k) (shadeBytes g) → o₄ ≡ sets o₀ at (blockBytes (blockIn names g))
+        put-colour x y o₄ k z e₄ =
+            let p : at + 6 + nameSize g ≡ at + 10 + 2 * k = omega arith in
+            e₄ ∙ sym (
+            head ∙ ap (λ (b : Block). sets o₂ (at + 6) (payload b)) (block-colour (sort-colour s x y))
+            ∙ peel o₂ o₃ (nameBytes 2 (unitsIn names g)) (shadeBytes g) (at + 6) (nameSize g) (at + 10 + 2 * k) (length-name names g) p e₃)
+
+-- ---- a loop that stores the records of a run
+
+module _ (run names all out : List ℕ) (n i at : ℕ) where
+  pub puts-start : all ≡ sets out at (joined blockBytes (map (blockIn names) (givens run n 0))) → all ≡ sets out at (joined blockBytes (map (blockIn names) (givens run (n - 0) 0)))
+  puts-start e = e ∙ ap (λ (gs : List Given). sets out at (joined blockBytes (map (blockIn names) gs))) (givens-start run n)
+
+  module _ (inv : all ≡ sets out at (joined blockBytes (map (blockIn names) (givens run (n - i) i)))) where
+    pub puts-turn : i < n → (o : List ℕ) (k : ℕ) → k ≡ sizeIn (givenAt run i) → ownFault names (givenAt run i) ≡ 0 → (g : Given) → g ≡ givenAt run i → o ≡ sets out at (blockBytes (blockIn names g))
+        → all ≡ sets o (at + k) (joined blockBytes (map (blockIn names) (givens run (n - (i + 1)) (i + 1))))
+    unfolding joined
+    puts-turn h o k w f g z s =
+        let b : List ℕ = blockBytes (blockIn names (givenAt run i)) in
+        let l : length b ≡ k = length-block names (givenAt run i) refl (sort names (givenAt run i) f) ∙ sym w in
+        inv ∙ ap (λ (gs : List Given). sets out at (joined blockBytes (map (blockIn names) gs))) (givens-turn run n i h)
+        ∙ peel out o b (joined blockBytes (map (blockIn names) (givens run (n - (i + 1)) (i + 1)))) at k (at + k) l refl (s ∙ ap (λ (x : Given). sets out at (blockBytes (blockIn names x))) z)
+
+    pub puts-end : n ≤ i → out ≡ all
+    unfolding joined
+    puts-end h = sym (inv ∙ ap (λ (gs : List Given). sets out at (joined blockBytes (map (blockIn names) gs))) (givens-end run n i h))
+
+-- ---- the whole file
+
+module _ (run names : List ℕ) where
+  length-blocks : (n k : ℕ) → faults (ownFault names) (givens run n k) ≡ 0 → length (joined blockBytes (map (blockIn names) (givens run n k))) ≡ sizes (givens run n k)
+  unfolding joined givens sizes faults
+  length-blocks zero k e = refl
+  length-blocks (suc n) k e =
+      let g : Given = givenAt run k in
+      let x = first-inv (ownFault names g) (faults (ownFault names) (givens run n (k + 1))) e in
+      let a = length-append (blockBytes (blockIn names g)) (joined blockBytes (map (blockIn names) (givens run n (k + 1)))) in
+      omega (arith, a, length-block names g refl (sort names g (x .0)), length-blocks n (k + 1) (x .1))
+
+  module _ (n : ℕ) where
+    length-all : length (map (blockIn names) (givens run n 0)) ≡ n
+    length-all = length-map (blockIn names) (givens run n 0) ∙ length-givens run n 0
+
+    length-file : faults (ownFault names) (givens run n 0) ≡ 0 → length (fileBytes (map (blockIn names) (givens run n 0))) ≡ size (givens run n 0)
+    unfolding fileBytes
+    length-file e =
+        let bs : List Block = map (blockIn names) (givens run n 0) in
+        let a = length-append (be 4 0x4153_4546) (be 2 1 ++ (be 2 0 ++ (be 4 (length bs) ++ joined blockBytes bs))) in
+        let b = length-append (be 2 1) (be 2 0 ++ (be 4 (length bs) ++ joined blockBytes bs)) in
+        let c = length-append (be 2 0) (be 4 (length bs) ++ joined blockBytes bs) in
+        let d = length-append (be 4 (length bs)) (joined blockBytes bs) in
+        omega (arith, a, b, c, d, length-be 4 0x4153_4546, length-be 2 1, length-be 2 0, length-be 4 (length bs), length-blocks n 0 e)
+
+    pub put-file : (o₀ o₁ o₂ o₃ o₄ o₅ : List ℕ) → 12 ≤ length o₀ → o₁ ≡ stored o₀ 0 (be 4 0x4153_4546) → o₂ ≡ stored o₁ 4 (be 2 1) → o₃ ≡ stored o₂ 6 (be 2 0)
+        → o₄ ≡ stored o₃ 8 (be 4 n) → o₅ ≡ sets o₄ 12 (joined blockBytes (map (blockIn names) (givens run n 0))) → o₅ ≡ sets o₀ 0 (fileBytes (map (blockIn names) (givens run n 0)))
+    unfolding fileBytes
+    put-file o₀ o₁ o₂ o₃ o₄ o₅ h e₁ e₂ e₃ e₄ e₅ =
+        let bs : List Block = map (blockIn names) (givens run n 0) in
+        let l₁ = length-kept o₁ o₀ 0 (be 4 0x4153_4546) e₁ in
+        let l₂ = length-kept o₂ o₁ 4 (be 2 1) e₂ in
+        let l₃ = length-kept o₃ o₂ 6 (be 2 0) e₃ in
+        e₅ ∙ sym (
+        peel-be 4 0x4153_4546 o₀ o₁ _ 0 4 refl (omega arith) e₁
+        ∙ peel-be 2 1 o₁ o₂ _ 4 6 refl (omega arith) e₂
+        ∙ peel-be 2 0 o₂ o₃ _ 6 8 refl (omega arith) e₃
+        ∙ peel-be 4 (length bs) o₃ o₄ _ 8 12 refl (omega arith) (e₄ ∙ ap (λ (k : ℕ). stored o₃ 8 (be 4 k)) (sym length-all)))
+
+    -- a file stored in front of what was there
+    pub file-front : faults (ownFault names) (givens run n 0) ≡ 0 → (out o : List ℕ) → size (givens run n 0) ≤ length out → o ≡ sets out 0 (fileBytes (map (blockIn names) (givens run n 0)))
+        → o ≡ fileBytes (map (blockIn names) (givens run n 0)) ++ drop (size (givens run n 0)) out
+    file-front f out o h e =
+        let l : List ℕ = fileBytes (map (blockIn names) (givens run n 0)) in
+        let m : length l ≡ size (givens run n 0) = length-file f in
+        let z : 0 + length l ≡ size (givens run n 0) = omega arith in
+        e ∙ sets-eq l out 0 (omega arith) ∙ ap (λ (k : ℕ). l ++ drop k out) z

@@ -1,0 +1,51 @@
+use Rattle.ase_write.proofs.Judging.{sizes-all, length-givens}
+use Rattle.ase_write.proofs.Puts.{put-file}
+use native.Mathlib.Omega.{arith}
+use Rattle.ase_write.specs.Writing.{givens}
+use Prim.Native.Nat.{_-_}
+use borrow.Author.Needs.{needs}
+use Rattle.ase_write.proofs.put_file.Statement.{statement}
+use Rattle.ase_write.proofs.put_file.Tie as tie
+
+put-u32-requires : tie.Need-put-u32-requires
+put-u32-requires c κs = search needs
+
+put-u16-requires : tie.Need-put-u16-requires
+put-u16-requires c κs = search needs
+
+put-u16-requires-2 : tie.Need-put-u16-requires-2
+put-u16-requires-2 c κs = search needs
+
+cast-put-u32 : tie.Need-cast-put-u32
+cast-put-u32 c =
+    let s = c .before .before .before .before .before .before .before .before .before .before .before .before .before .before .before .before in
+    let a = s .args in
+    omega (arith, sizes-all (givens (a .run .now) (a .n) 0), length-givens (a .run .now) (a .n) 0, s .pre .1 .short)
+
+put-u32-requires-2 : tie.Need-put-u32-requires-2
+put-u32-requires-2 c κs = search needs
+
+put-blocks-requires : tie.Need-put-blocks-requires
+put-blocks-requires c κs = search needs
+
+same-length : tie.Need-same-length
+same-length c = search needs
+
+returns : tie.Need-returns
+returns c =
+    let s = c .before .before .before .before .before .before .before .before .before .before .before .before .before .before .before .before .before .before .before .before .before .before .before in
+    let a = s .args in
+    put-file (a .run .now) (a .text .now) (a .n) (a .out .now) _ _ _ _ _ (omega (arith, s .pre .1 .inside)) (c .before .before .before .before .before .before .before .before .before .before .before .before .before .before .before .before .before .before .put-u32 .ensures) (c .before .before .before .before .before .before .before .before .before .before .before .before .before .before .put-u16 .ensures) (c .before .before .before .before .before .before .before .before .before .before .put-u162 .ensures) (c .before .before .before .before .before .before .put-u322 .ensures) (c .before .before .put-blocks .ensures)
+
+pub put-file-spec : {M : Type 1} → statement M
+put-file-spec =
+    tie.close
+    (tie.spec
+    put-u32-requires
+    put-u16-requires
+    put-u16-requires-2
+    cast-put-u32
+    put-u32-requires-2
+    put-blocks-requires
+    same-length
+    returns)
