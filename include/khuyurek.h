@@ -82,6 +82,69 @@ khuyurek_aco_written khuyurek_aco_write(const uint32_t *records, size_t records_
                                         const uint8_t *text, size_t text_len,
                                         uint8_t *out, size_t out_len);
 
+/* ---- ASE */
+
+/* The numbers of a record in a table or run: the block's type, place of the name's
+ * first unit in the file or text, number of its units (as for ACO), model, bits of
+ * four channels, colour type (0 global, 1 spot, 2 normal). A reader fills places that
+ * a record does not use with 0; a writer ignores them. */
+#define KHUYUREK_ASE_WIDTH 9
+
+/* The types of a block. */
+#define KHUYUREK_ASE_START 0xC001u
+#define KHUYUREK_ASE_STOP 0xC002u
+#define KHUYUREK_ASE_COLOUR 0x0001u
+
+/* number 0: accepted, with the number of blocks and of those that are colours. Else
+ * the refusal and its place. */
+typedef struct {
+    uint32_t number;
+    size_t place;
+    size_t blocks;
+    size_t colours;
+} khuyurek_ase_answer;
+
+/* number 0: accepted, with the record. Else the refusal and its place, and all the
+ * rest is 0. */
+typedef struct {
+    uint32_t number;
+    uint32_t block;
+    size_t place;
+    size_t name;
+    uint32_t units;
+    uint32_t model;
+    uint32_t channels[4];
+    uint32_t type;
+} khuyurek_ase_record;
+
+/* number 0: accepted, with the length in bytes. Else the refusal; its place is 0. */
+typedef struct {
+    uint32_t number;
+    size_t length;
+} khuyurek_ase_written;
+
+khuyurek_ase_answer khuyurek_ase_judge(const uint8_t *file, size_t file_len);
+
+/* Needs KHUYUREK_ASE_WIDTH * blocks numbers of the table, else 11; the rest of it
+ * keeps its contents. */
+khuyurek_ase_answer khuyurek_ase_read(const uint8_t *file, size_t file_len,
+                                      uint32_t *table, size_t table_len);
+
+/* Judges the whole file, then 12 where it has no such record. */
+khuyurek_ase_record khuyurek_ase_record_at(const uint8_t *file, size_t file_len,
+                                           size_t index);
+
+/* The exact length that writing needs. A remainder of fewer than
+ * KHUYUREK_ASE_WIDTH numbers is left alone. */
+khuyurek_ase_written khuyurek_ase_length(const uint32_t *records, size_t records_len,
+                                         const uint8_t *text, size_t text_len);
+
+khuyurek_ase_written khuyurek_ase_write(const uint32_t *records, size_t records_len,
+                                        const uint8_t *text, size_t text_len,
+                                        uint8_t *out, size_t out_len);
+
+/* ---- samples and channels */
+
 /* The colour models of ASE, by their tags. */
 #define KHUYUREK_RGB 0x52474220u
 #define KHUYUREK_CMYK 0x434D594Bu

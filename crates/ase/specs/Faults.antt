@@ -10,7 +10,7 @@ use Rattle.fields.specs.Text.{anyZero}
 use Rattle.fields.specs.Faults.{firstOf, faultsFrom, faultsIn}
 use Rattle.colour.specs.Models.{isModel, channelsOf}
 use Rattle.colour.specs.Channels.{allowsBits}
-use Rattle.ase.specs.Grammar.{Block, start, stop, colour, payload}
+use Rattle.ase.specs.Grammar.{Block, start, stop, colour}
 use Rattle.ase.specs.Reading.{deepest, standing}
 
 -- a name with a zero unit is 8

@@ -1,13 +1,19 @@
 -- What each exported answer says: refusal number 0 is accepted, and all that an answer does not have is 0.
 use Prim.Native.Nat.{ℕ}
-use mathlib.Core.List.{List}
+use mathlib.Core.List.{List, [], _∷_}
 use Rattle.colour.specs.declared.space.Colour.{Colour}
 use Rattle.aco.specs.Answer.{Verdict, accepted, refused}
 use Rattle.aco_read.specs.Table.{Where, lies, refusal}
 use Rattle.aco_write.specs.Writing.{Outcome, bytes, refused as unwritten}
 use lib.Ieee.{Float, binary32, toBits}
 use Rattle.colour.specs.Convert.{Converted, gives, refused as noChannel}
+use Rattle.ase.specs.Answer as palette
+use Rattle.ase_read.specs.Answer.{Shown, group, close, colour, refusal as refusalAse}
+use Rattle.fields.specs.Writing as writing
 use Rattle.khuyurek.specs.declared.AcoAnswer.{AcoAnswer}
+use Rattle.khuyurek.specs.declared.AseAnswer.{AseAnswer}
+use Rattle.khuyurek.specs.declared.AseRecord.{AseRecord}
+use Rattle.khuyurek.specs.declared.AseWritten.{AseWritten}
 use Rattle.khuyurek.specs.declared.AcoRecord.{AcoRecord}
 use Rattle.khuyurek.specs.declared.AcoWritten.{AcoWritten}
 use Rattle.khuyurek.specs.declared.ChannelBits.{ChannelBits}
@@ -42,3 +48,29 @@ channelOf (noChannel n p) = record { number = n; bits = 0 }
 abbrev pub sampleOf : Converted ℕ → SampleValue
 sampleOf (gives v) = record { number = 0; sample = v }
 sampleOf (noChannel n p) = record { number = n; sample = 0 }
+
+-- ---- ASE
+
+abbrev pub paletteOf : palette.Verdict → AseAnswer
+paletteOf (palette.accepted n k) = record { number = 0; place = 0; blocks = n; colours = k }
+paletteOf (palette.refused x p) = record { number = x; place = p; blocks = 0; colours = 0 }
+
+abbrev pub paletteReadOf : palette.Verdict × List ℕ → AseAnswer × List ℕ
+paletteReadOf v = (paletteOf (v .0), v .1)
+
+-- a record that is no colour, or a refusal
+abbrev pub plain : ℕ → ℕ → ℕ → ℕ → ℕ → AseRecord
+plain x b p n u = record { number = x; block = b; place = p; name = n; units = u; model = 0; channels = 0 ∷ 0 ∷ 0 ∷ 0 ∷ []; kind = 0 }
+
+abbrev pub blockOf : Shown → AseRecord
+blockOf (group p u) = plain 0 0xC001 0 p u
+blockOf close = plain 0 0xC002 0 0 0
+blockOf (colour p u t bs k) = record { number = 0; block = 0x0001; place = 0; name = p; units = u; model = t; channels = bs; kind = k }
+blockOf (refusalAse x p) = plain x 0 p 0 0
+
+abbrev pub wroteOfAse : writing.Outcome → AseWritten
+wroteOfAse (writing.bytes n) = record { number = 0; size = n }
+wroteOfAse (writing.refused x) = record { number = x; size = 0 }
+
+abbrev pub wroteAseOf : writing.Outcome × List ℕ → AseWritten × List ℕ
+wroteAseOf o = (wroteOfAse (o .0), o .1)

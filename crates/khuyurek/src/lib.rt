@@ -7,11 +7,21 @@ ghost use Rattle.aco_read.specs.Table.{filled, recordAt, lies, refusal};
 ghost use Rattle.aco_write.specs.Writing.{given, needed, written};
 ghost use Rattle.aco_write.specs.Answer.{told as toldWritten};
 ghost use Rattle.colour.specs.Convert.{toChannel, toSample, toldChannel, toldSample};
-ghost use Rattle.khuyurek.specs.Exported.{answerOf, placed, recordOf, writtenOf, readOf, wroteOf, channelOf, sampleOf};
+ghost use Rattle.colour.specs.Models.{traitsOf};
+ghost use Rattle.colour.specs.Channels.{bitsOf, modelIn};
+ghost use Rattle.ase.specs.Reading.{ase};
+ghost use Rattle.ase.specs.Answer.{verdict as verdictAse, told as toldAse};
+ghost use Rattle.ase_read.specs.Table.{filled as filledAse, recordAt as recordAtAse};
+ghost use Rattle.ase_read.specs.Answer.{shown, colour as coloured};
+ghost use Rattle.ase_write.specs.Writing.{given as givenAse, needed as neededAse, written as writtenAse};
+ghost use Rattle.ase_write.specs.Answer.{told as toldWrittenAse};
+ghost use Rattle.khuyurek.specs.Exported.{paletteOf, paletteReadOf, plain, blockOf, wroteOfAse, wroteAseOf, answerOf, placed, recordOf, writtenOf, readOf, wroteOf, channelOf, sampleOf};
 use aco::Answer;
 use aco_read::NamePlace;
 use aco_write::Written;
+use ase_read::Record;
 use colour::Channel;
+use colour::Channels;
 use colour::Colour;
 use colour::Sample;
 
@@ -224,4 +234,142 @@ pub extern "C" fn khuyurek_to_sample(model: u32, bits: u32) -> SampleValue
     ensures { λ r. ⌜ r ≡ sampleOf (toSample model bits) ⌝ }
 {
     exported_sample(colour::to_sample(model, bits))
+}
+
+// Number 0 is accepted, with the number of blocks and of colours; else the refusal.
+#[repr(C)]
+pub struct AseAnswer {
+    pub number: u32,
+    pub place: usize,
+    pub blocks: usize,
+    pub colours: usize,
+}
+
+// Number 0 is accepted, with the block's type, the place of the name's first unit and its units,
+// and a colour's model, channels and type; else the refusal.
+#[repr(C)]
+pub struct AseRecord {
+    pub number: u32,
+    pub block: u32,
+    pub place: usize,
+    pub name: usize,
+    pub units: u32,
+    pub model: u32,
+    pub channels: [u32; 4],
+    pub kind: u32,
+}
+
+// Number 0 is accepted, with the length in bytes; else the refusal, whose place is 0.
+#[repr(C)]
+pub struct AseWritten {
+    pub number: u32,
+    pub size: usize,
+}
+
+fn exported_palette(a: ase::Answer) -> AseAnswer
+    ensures { λ r. ⌜ r ≡ paletteOf (toldAse a) ⌝ }
+{
+    match a {
+        ase::Answer::Accepted { blocks, colours } => AseAnswer {
+            number: 0,
+            place: 0,
+            blocks,
+            colours,
+        },
+        ase::Answer::Refused { number, place } => AseAnswer {
+            number,
+            place,
+            blocks: 0,
+            colours: 0,
+        },
+    }
+}
+
+// Judges an ASE file.
+#[no_mangle]
+pub extern "C" fn khuyurek_ase_judge(file: &[u8]) -> AseAnswer
+    ensures { λ r. ⌜ r ≡ paletteOf (verdictAse (ase (now (file .entry)))) ⌝ }
+{
+    exported_palette(ase::judge(file))
+}
+
+// Reads an ASE file into a table, nine numbers a record.
+#[no_mangle]
+pub extern "C" fn khuyurek_ase_read(file: &[u8], table: &mut [u32]) -> AseAnswer
+    ensures { λ r. ⌜ (r, now (table .exit)) ≡ paletteReadOf (filledAse (ase (now (file .entry))) (now (table .entry))) ⌝ }
+{
+    exported_palette(ase_read::read(file, table))
+}
+
+fn no_colour(number: u32, block: u16, place: usize, name: usize, units: u32) -> AseRecord
+    ensures { λ r. ⌜ r ≡ plain number block place name units ⌝ }
+{
+    AseRecord {
+        number,
+        block: block as u32,
+        place,
+        name,
+        units,
+        model: 0,
+        channels: [0, 0, 0, 0],
+        kind: 0,
+    }
+}
+
+fn exported_colour(name: usize, units: u32, colour: Channels, kind: u16) -> AseRecord
+    ensures { λ r. ⌜ r ≡ blockOf (coloured name units (traitsOf (modelIn colour) .tag) (bitsOf colour) kind) ⌝ }
+{
+    AseRecord {
+        number: 0,
+        block: ase::COLOUR as u32,
+        place: 0,
+        name,
+        units,
+        model: colour.model().traits().tag,
+        channels: colour.bits(),
+        kind: kind as u32,
+    }
+}
+
+// Record i of an ASE file.
+#[no_mangle]
+pub extern "C" fn khuyurek_ase_record_at(file: &[u8], i: usize) -> AseRecord
+    ensures { λ r. ⌜ r ≡ blockOf (shown (recordAtAse i (ase (now (file .entry))))) ⌝ }
+{
+    match ase_read::record_at(file, i) {
+        Record::Group { place, units } => no_colour(0, ase::START, 0, place, units),
+        Record::Close => no_colour(0, ase::STOP, 0, 0, 0),
+        Record::Colour {
+            place,
+            units,
+            colour,
+            kind,
+        } => exported_colour(place, units, colour, kind),
+        Record::Refused { number, place } => no_colour(number, 0, place, 0, 0),
+    }
+}
+
+fn exported_size(w: ase_write::Written) -> AseWritten
+    ensures { λ r. ⌜ r ≡ wroteOfAse (toldWrittenAse w) ⌝ }
+{
+    match w {
+        ase_write::Written::Bytes(size) => AseWritten { number: 0, size },
+        ase_write::Written::Refused(number) => AseWritten { number, size: 0 },
+    }
+}
+
+// How many bytes writing ASE records takes.
+#[no_mangle]
+pub extern "C" fn khuyurek_ase_length(records: &[u32], text: &[u8]) -> AseWritten
+    ensures { λ r. ⌜ r ≡ wroteOfAse (neededAse (now (text .entry)) (givenAse (now (records .entry)))) ⌝ }
+{
+    exported_size(ase_write::write_length(records, text))
+}
+
+// Writes ASE records.
+#[no_mangle]
+pub extern "C" fn khuyurek_ase_write(records: &[u32], text: &[u8], out: &mut [u8]) -> AseWritten
+    ensures { λ r. ⌜ (r, now (out .exit)) ≡ wroteAseOf (writtenAse (now (text .entry)) (givenAse (now (records .entry))) (now (out .entry))) ⌝ }
+{
+    exported_size(ase_write::write(records, text, out))
 }
