@@ -2,8 +2,8 @@ use borrow.Author.Needs.{needs}
 use Prim.Native.Nat.{_-_}
 use lib.ListN.{length}
 use mathlib.Core.Path.{_≡_}
-use Rattle.aco_list.proofs.pass_rest.Statement.{statement}
-use Rattle.aco_list.proofs.pass_rest.Tie as tie
+use Rattle.listing.proofs.pass_rest.Statement.{statement}
+use Rattle.listing.proofs.pass_rest.Tie as tie
 
 abbrev Inv-loop : tie.InvT-loop
 Inv-loop space₀ turns₀ space turns = length space ≡ 65536

@@ -1,12 +1,13 @@
 use borrow.Author.Needs.{needs}
-use Prim.Native.Nat.{_-_, _≤_}
+use native.Mathlib.Omega.{arith}
+use Prim.Native.Nat.{_-_, _≤_, _<_}
 use lib.ListN.{length}
 use mathlib.Core.Path.{_≡_}
-use Rattle.aco_list.proofs.put_text.Statement.{statement}
-use Rattle.aco_list.proofs.put_text.Tie as tie
+use Rattle.listing.proofs.put_text.Statement.{statement}
+use Rattle.listing.proofs.put_text.Tie as tie
 
 abbrev Inv-loop : tie.InvT-loop
-Inv-loop out₀ n text at₀ i₀ out at i = (i ≤ length text) × (length out ≡ length out₀)
+Inv-loop out₀ n text at₀ i₀ out at i = (i ≤ length text) × (length out ≡ length out₀) × (n ≤ length out₀ → at ≤ length out₀) × (0 < i → at ≤ length out₀)
 
 abbrev μ-loop : tie.MeasureT-loop
 μ-loop out₀ n text at₀ i₀ out at i = length text - i
@@ -33,7 +34,7 @@ same-length : tie.Need-same-length Inv-loop μ-loop
 same-length c = search needs
 
 returns : tie.Need-returns Inv-loop μ-loop
-returns c = search needs
+returns c = (search needs, λ h. c .before .loop .inv .3 (omega arith))
 
 pub put-text-spec : {M : Type 1} → statement M
 put-text-spec =

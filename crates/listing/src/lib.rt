@@ -1,0 +1,147 @@
+// What every listing program needs: text in a buffer that is written out when full, the units of
+// names, refusals, and input that is too long.
+ghost use mathlib.Core.Path.{_≡_};
+ghost use Prim.Native.Nat.{_≤_, _<_};
+ghost use lib.Dec.{leb};
+ghost use lib.ListN.{length};
+ghost use Rattle.fields.specs.Reader.{pick};
+ghost use Rattle.listing.specs.Units.{unitsOf};
+use libc::STDIN_FILENO;
+use libc::STDOUT_FILENO;
+
+// Puts a byte into the buffer, of which n are full, and answers how many are full then. A full
+// buffer is written out first.
+pub fn put(out: &mut [u8], n: usize, b: u8) -> usize
+    ensures { λ r. ⌜ r ≤ length (now (out .entry)) ⌝ }
+{
+    if n < out.len() {
+        out[n] = b;
+        return n + 1;
+    }
+    io::write_all(STDOUT_FILENO, out);
+    if 0 < out.len() {
+        out[0] = b;
+        return 1;
+    }
+    0
+}
+
+pub fn put_text(out: &mut [u8], n: usize, text: &[u8]) -> usize
+    ensures { λ r. ⌜ (n ≤ length (now (out .entry)) → r ≤ length (now (out .entry))) ⌝ }
+    ensures { λ r. ⌜ (0 < length (now (text .entry)) → r ≤ length (now (out .entry))) ⌝ }
+{
+    let mut at = n;
+    let mut i: usize = 0;
+    while i < text.len() {
+        at = put(out, at, text[i]);
+        i += 1;
+    }
+    at
+}
+
+pub fn put_number(out: &mut [u8], n: usize, v: u64) -> usize
+    ensures { λ r. ⌜ r ≤ length (now (out .entry)) ⌝ }
+{
+    let mut digits = [0u8; 20];
+    let k = io::decimal(v, &mut digits);
+    put_text(out, n, &digits[..k])
+}
+
+fn glyph(d: u8) -> u8 {
+    let x = d % 16;
+    if x < 10 { b'0' + x } else { b'A' - 10 + x }
+}
+
+// Bytes, two capital hexadecimal digits each.
+fn put_bytes(out: &mut [u8], n: usize, bytes: &[u8]) -> usize
+    ensures { λ r. ⌜ (0 < length (now (bytes .entry)) → r ≤ length (now (out .entry))) ⌝ }
+{
+    let mut at = n;
+    let mut i: usize = 0;
+    while i < bytes.len() {
+        let b = bytes[i];
+        at = put(out, at, glyph(b / 16));
+        at = put(out, at, glyph(b));
+        i += 1;
+    }
+    at
+}
+
+// The units of a name, four capital hexadecimal digits each, or `-` for none.
+pub fn put_name(out: &mut [u8], n: usize, units: &[u8]) -> usize
+    ensures { λ r. ⌜ r ≤ length (now (out .entry)) ⌝ }
+{
+    if units.len() == 0 {
+        return put(out, n, b'-');
+    }
+    put_bytes(out, n, units)
+}
+
+// The bits of a number, eight capital hexadecimal digits.
+pub fn put_bits(out: &mut [u8], n: usize, v: u32) -> usize
+    ensures { λ r. ⌜ r ≤ length (now (out .entry)) ⌝ }
+{
+    let mut bytes = [0u8; 4];
+    fields::put_u32(&mut bytes, 0, v);
+    put_bytes(out, n, &bytes)
+}
+
+// The units of a name that lies in the file.
+pub fn units_of(file: &[u8], place: u32, units: u32) -> &[u8]
+    ensures { λ r. ⌜ now r ≡ unitsOf (now (file .entry)) place units ⌝ }
+{
+    let start = place as usize;
+    let size = 2 * (units as usize);
+    if file.len() < start {
+        return &file[..0];
+    }
+    if file.len() - start < size {
+        return &file[..0];
+    }
+    let end = start + size;
+    &file[start..end]
+}
+
+// The line of a refused file, in a buffer of which nothing is full.
+pub fn put_refusal(out: &mut [u8], number: u32, place: usize) -> usize
+    ensures { λ r. ⌜ r ≤ length (now (out .entry)) ⌝ }
+{
+    let mut at = put_text(out, 0, b"refused ");
+    at = put_number(out, at, number as u64);
+    at = put_text(out, at, b" at ");
+    at = put_number(out, at, place as u64);
+    put(out, at, b'\n')
+}
+
+// Reads on to the end of an input that is too long, by a loop that counts down, since nothing
+// says that an input ends.
+fn pass_rest() {
+    let mut space = io::large_buffer();
+    let mut turns = u64::MAX;
+    while turns > 0 && 0 < io::read_full(STDIN_FILENO, &mut space) {
+        turns -= 1;
+    }
+}
+
+// Takes standard input to its end: as much as the buffer holds, and passes over the rest.
+pub fn take_input(input: &mut [u8]) -> usize
+    ensures { λ r. ⌜ r ≤ length (now (input .entry)) ⌝ }
+{
+    let n = io::read_full(STDIN_FILENO, input);
+    if n < input.len() {
+        return n;
+    }
+    pass_rest();
+    n
+}
+
+// Writes out what is left in the buffer, and answers how many bytes that were.
+pub fn finish(out: &[u8], full: usize) -> usize
+    ensures { λ r. ⌜ r ≡ pick (leb full (length (now (out .entry)))) full 0 ⌝ }
+{
+    if out.len() < full {
+        return 0;
+    }
+    io::write_all(STDOUT_FILENO, &out[..full]);
+    full
+}
