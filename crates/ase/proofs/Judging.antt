@@ -15,9 +15,11 @@ use Rattle.fields.proofs.Inverse.{then-inv, ok-value, clash}
 use Rattle.colour.specs.Models.{traitsOf, modelOf, channelsOf}
 use Rattle.colour.proofs.Models.{tag-known, tag-channels, model-bad, model-good}
 use Rattle.colour.specs.declared.model.Model.{Model}
+use Rattle.colour.specs.declared.model.Model.the-variants as vm
+use Rattle.colour.specs.Channels.{wide, allowsBits}
 use Rattle.colour.specs.declared.model.Known.the-variants.{Is, Unknown}
 use Rattle.ase.specs.Reading.{Entry, started, stopped, coloured, group, model, channel, type, shade, inside, deepest, isType, content, block, standingAfter, heading, blocks, palette, ase}
-use Rattle.ase.specs.Parts.{paint, startOf, stopOf, colourOf, whole}
+use Rattle.ase.specs.Parts.{channelIn, paint, startOf, stopOf, colourOf, whole}
 use Rattle.ase.specs.Answer.{colourIn, colours, passed, tally, accepted, refused, verdict}
 
 -- ---- answers with their value changed
@@ -75,6 +77,14 @@ done-place (refuse x p r f) = refl
 pub group-done : (s : List ℕ) (at : ℕ) → done (group s at) ≡ done (place (name 2 s at))
 unfolding group
 group-done s at = then-ok started (name 2 s at) ∙ sym (done-place (name 2 s at))
+
+-- what a model allows, looked at once
+pub channel-in : (m : Model) → channel (traitsOf m .tag) ≡ channelIn (wide m)
+unfolding allowsBits modelOf
+channel-in vm.Rgb = refl
+channel-in vm.Cmyk = refl
+channel-in vm.Lab = refl
+channel-in vm.Gray = refl
 
 -- ---- what stands behind a colour's name
 

@@ -1,11 +1,19 @@
 -- Parts of the reading that the code goes by.
 use Prim.Native.Nat.{ℕ, _+_}
 use mathlib.Core.List.{List}
+use mathlib.Core.Bool.{Bool}
 use lib.Dec.{ltb, eqb}
 use lib.ListN.{take}
-use Rattle.fields.specs.Reader.{Res, ok, Reader, then, rule, unless, judged, each, ended}
+use Rattle.fields.specs.Reader.{Res, ok, Reader, then, pick, rule, Judged, unless, judged, each, ended}
+use lib.Ieee.{binary32, ofBits}
+use lib.Ieee.Scale.{finite}
 use Rattle.colour.specs.Models.{channelsOf}
+use Rattle.colour.specs.Channels.{inUnit}
 use Rattle.ase.specs.Reading.{Entry, stopped, model, channel, type, shade, group, inside, deepest, blocks}
+
+-- a channel that may be any finite float where it is wide, else one from 0 to 1
+abbrev pub channelIn : Bool → ℕ → Judged
+channelIn w b = unless (pick w (finite (ofBits binary32 b)) (inUnit (ofBits binary32 b))) 5
 
 -- what stands behind a colour's name
 unfoldable pub paint : Reader Unit

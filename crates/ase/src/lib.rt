@@ -4,9 +4,8 @@ ghost use Prim.Native.Nat.{_+_, _≤_, _<_};
 ghost use lib.ListN.{length};
 ghost use Rattle.fields.specs.Reader.{done, each, judged, mapRes, chain};
 ghost use Rattle.fields.specs.Answer.{toldStep};
-ghost use Rattle.colour.specs.Models.{traitsOf};
-ghost use Rattle.ase.specs.Reading.{channel, type, shade, group, inside, isType, block, standingAfter, heading, ase};
-ghost use Rattle.ase.specs.Parts.{paint, startOf, stopOf, colourOf, whole};
+ghost use Rattle.ase.specs.Reading.{type, shade, group, inside, isType, block, standingAfter, heading, ase};
+ghost use Rattle.ase.specs.Parts.{channelIn, paint, startOf, stopOf, colourOf, whole};
 ghost use Rattle.ase.specs.Answer.{verdict, told, toldPassed, toldHeading, passed, tally};
 use colour::Known;
 use colour::Model;
@@ -62,9 +61,9 @@ pub enum Heading {
 
 // ---- a payload's content, in a file that ends with it
 
-// The n channels from `at` of a colour of a model.
-fn channels_at(file: &[u8], at: usize, model: Model, n: u16) -> Step
-    ensures { λ r. ⌜ toldStep r ≡ done (each n 0 (λ i. judged 4 (channel (traitsOf model .tag))) (now (file .entry)) at) ⌝ }
+// The n channels from `at`, which may be any finite float where they are wide, else one from 0 to 1.
+fn channels_at(file: &[u8], at: usize, wide: bool, n: u16) -> Step
+    ensures { λ r. ⌜ toldStep r ≡ done (each n 0 (λ i. judged 4 (channelIn wide)) (now (file .entry)) at) ⌝ }
 {
     let mut p = at;
     let mut i: u16 = 0;
@@ -72,7 +71,7 @@ fn channels_at(file: &[u8], at: usize, model: Model, n: u16) -> Step
         let Number32::Is(bits, next) = fields::u32_at(file, p) else {
             return Step::Refused(2, p);
         };
-        if !model.allows(bits) {
+        if !colour::is_channel(wide, bits) {
             return Step::Refused(5, p);
         }
         p = next;
@@ -91,7 +90,7 @@ fn paint_at(file: &[u8], at: usize) -> Step
     let Known::Is(model) = Model::from_tag(tag) else {
         return Step::Refused(4, at);
     };
-    match channels_at(file, first, model, model.traits().channels) {
+    match channels_at(file, first, model.is_wide(), model.traits().channels) {
         Step::Refused(x, p) => Step::Refused(x, p),
         Step::Next(p) => type_at(file, p),
     }

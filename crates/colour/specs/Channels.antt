@@ -1,6 +1,6 @@
 -- Channels: which floats a model allows, a sample as a channel and back, and a colour by its channels' bits.
 use Prim.Native.Nat.{ℕ, _+_, _*_, _/_}
-use mathlib.Core.Bool.{Bool, false, _&&_}
+use mathlib.Core.Bool.{Bool, true, false, _&&_}
 use mathlib.Core.List.{List, [], _∷_}
 use lib.IntN.{pos}
 use lib.Ieee.{Float, fin, binary32, div, ofInt, le, ofBits, toBits}
@@ -23,12 +23,16 @@ use Rattle.colour.specs.declared.channel.Made.the-variants as vm
 unfoldable pub inUnit : Float → Bool
 inUnit x = le (fin false 0 (pos 0)) x && le x (fin false 1 (pos 0))
 
+-- Lab's channels may be any finite float
+abbrev pub wide : Model → Bool
+wide model.Rgb = false
+wide model.Cmyk = false
+wide model.Lab = true
+wide model.Gray = false
+
 -- finite, and from 0 to 1 save in Lab
 abbrev pub allows : Model → Float → Bool
-allows model.Rgb x = inUnit x
-allows model.Cmyk x = inUnit x
-allows model.Lab x = finite x
-allows model.Gray x = inUnit x
+allows m x = pick (wide m) (finite x) (inUnit x)
 
 abbrev pub allowsIn : Known → ℕ → Bool
 allowsIn (Is m) b = allows m (ofBits binary32 b)

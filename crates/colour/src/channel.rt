@@ -3,6 +3,7 @@ ghost use mathlib.Core.Path.{_≡_};
 ghost use Prim.Native.Nat.{_%_, _≤_};
 ghost use lib.Ieee.{binary32, ofBits, toBits};
 ghost use lib.Ieee.Scale.{finite};
+ghost use Rattle.fields.specs.Reader.{pick};
 ghost use Rattle.colour.specs.Channels.{inUnit, channelOf, sampleOf, made, bitsOf, modelIn};
 use crate::model::Model;
 
@@ -45,6 +46,17 @@ pub(crate) fn is_unit(bits: u32) -> bool
         return true;
     }
     bits <= ONE
+}
+
+// Whether a channel may have these bits: any finite float where it is wide, else one from 0 to 1.
+// A loop asks it, and looks at the model once.
+pub fn is_channel(wide: bool, bits: u32) -> bool
+    ensures { λ r. ⌜ r ≡ pick wide (finite (ofBits binary32 bits)) (inUnit (ofBits binary32 bits)) ⌝ }
+{
+    if wide {
+        return is_finite(bits);
+    }
+    is_unit(bits)
 }
 
 // The bits of a float.

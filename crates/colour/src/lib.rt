@@ -8,6 +8,7 @@ mod space;
 pub use channel::Channels;
 pub use channel::Made;
 pub use channel::bits_of;
+pub use channel::is_channel;
 pub use convert::Channel;
 pub use convert::Sample;
 pub use convert::to_channel;

@@ -2,9 +2,8 @@
 ghost use mathlib.Core.Path.{_≡_};
 ghost use lib.Ieee.{binary32, ofBits};
 ghost use Rattle.colour.specs.Models.{traitsOf, modelOf};
-ghost use Rattle.colour.specs.Channels.{allows};
-use crate::channel::is_finite;
-use crate::channel::is_unit;
+ghost use Rattle.colour.specs.Channels.{wide, allows};
+use crate::channel::is_channel;
 
 // What a model has: its four characters as a number, its channels, and the sample that is 1.
 pub struct Traits {
@@ -79,15 +78,22 @@ impl Model {
         }
     }
 
+    // Whether a channel may be any finite float, and not only one from 0 to 1.
+    pub fn is_wide(self) -> bool
+        ensures { λ r. ⌜ r ≡ wide self ⌝ }
+    {
+        match self {
+            Model::Rgb => false,
+            Model::Cmyk => false,
+            Model::Lab => true,
+            Model::Gray => false,
+        }
+    }
+
     // Whether a channel may have these bits: finite, and from 0 to 1 save in Lab.
     pub fn allows(self, bits: u32) -> bool
         ensures { λ r. ⌜ r ≡ allows self (ofBits binary32 bits) ⌝ }
     {
-        match self {
-            Model::Rgb => is_unit(bits),
-            Model::Cmyk => is_unit(bits),
-            Model::Lab => is_finite(bits),
-            Model::Gray => is_unit(bits),
-        }
+        is_channel(self.is_wide(), bits)
     }
 }
