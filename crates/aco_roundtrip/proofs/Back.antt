@@ -1,11 +1,11 @@
 -- What writing answers, and what it makes of the records of an accepted file. Assumes nothing.
 use Prim.Native.Nat.{ℕ, _+_, _*_, _≤_}
-use mathlib.Core.Path.{_≡_, refl, sym, ap, ap₂, _∙_, subst}
+use mathlib.Core.Path.{_≡_, sym, ap, ap₂, _∙_, subst}
 use mathlib.Core.List.{List, [], _++_, map}
-use mathlib.Core.Bool.{Bool, true, false}
+use mathlib.Core.Bool.{Bool}
 use lib.Dec.{leb, eqb}
 use lib.ListN.{length, drop}
-use borrow.Author.Tests.{le-leb, leb-true, eqb-true}
+use borrow.Author.Tests.{le-leb}
 use native.Mathlib.Omega.{arith}
 use Rattle.fields.specs.Numbers.{Bytes, All}
 use Rattle.fields.specs.Reader.{ok, pick, limit}
@@ -16,32 +16,19 @@ use Rattle.aco.specs.Faults.{paletteFault}
 use Rattle.aco.proofs.Inverse.{aco-inv}
 use Rattle.aco.proofs.Faultless.{allowed-faultless}
 use Rattle.aco.proofs.RoundTrip.{accepted-allowed, allowed-written}
-use Rattle.aco_write.specs.Writing.{Given, size, fault, Outcome, bytes, refused, needed, written}
-use Rattle.aco_write.proofs.Outcomes.{room}
+use Rattle.aco_write.specs.Writing.{Given, size, fault, needed, written}
+use Rattle.fields.specs.Writing.{bytes, refused}
+use Rattle.fields.proofs.Writing.{Wrote, writes-inv, writes-all}
 use Rattle.aco_roundtrip.specs.Tie.{made, tabled}
 use Rattle.aco_roundtrip.proofs.Fitting.{length-made, all-four, fault-same}
 use Rattle.aco_roundtrip.proofs.Records.{palette-of, bare-of, length-bare, given-swatches, given-fit}
 
 -- what is known where a writer wrote n bytes
-pub record Wrote (text : List ℕ) (gs : List Given) (out : List ℕ) (n : ℕ) (out′ : List ℕ) : Type 0 where
-  pub none : fault text gs ≡ 0
-  pub size-is : size gs ≡ n
-  pub inside : n ≤ length out
-  pub is : out′ ≡ made text gs ++ drop n out
+abbrev pub Written : (text : List ℕ) (gs : List Given) (out : List ℕ) (n : ℕ) (out′ : List ℕ) → Type 0
+Written text gs out n out′ = Wrote (fault text gs) (size gs) (made text gs) out n out′
 
-pub written-inv : (text : List ℕ) (gs : List Given) (out : List ℕ) {n : ℕ} {out′ : List ℕ} → written text gs out ≡ (bytes n, out′) → Wrote text gs out n out′
-written-inv text gs out {n} {out′} e =
-    go (eqb (fault text gs) 0) (leb (size gs) (length out)) refl refl (ap (λ (w : Outcome × List ℕ). w .0) e) (ap (λ (w : Outcome × List ℕ). w .1) e)
-  where
-    answer : Bool → Bool → Outcome × List ℕ
-    answer x y = pick x (pick y (bytes (size gs), made text gs ++ drop (size gs) out) (refused 11, out)) (refused (fault text gs), out)
-
-    go : (x y : Bool) → eqb (fault text gs) 0 ≡ x → leb (size gs) (length out) ≡ y → answer x y .0 ≡ bytes n → answer x y .1 ≡ out′ → Wrote text gs out n out′
-    go true true h k f g =
-        let z : size gs ≡ n = cc in
-        record { none = eqb-true _ _ h; size-is = z; inside = omega (arith, leb-true (size gs) (length out) k); is = sym g ∙ ap (λ (m : ℕ). made text gs ++ drop m out) z }
-    go true false h k f g = let z : _≡_ {A = ℕ} 0 1 = cc in absurd (omega arith)
-    go false y h k f g = let z : _≡_ {A = ℕ} 0 1 = cc in absurd (omega arith)
+pub written-inv : (text : List ℕ) (gs : List Given) (out : List ℕ) {n : ℕ} {out′ : List ℕ} → written text gs out ≡ (bytes n, out′) → Written text gs out n out′
+written-inv text gs out e = writes-inv (fault text gs) (size gs) (made text gs) out e
 
 module _ (s : List ℕ) (b : Bytes s) {c : Contents} {q : ℕ} (e : aco s ≡ ok c q) where
   -- the records of an accepted file as a file of two lists, where that is not too long
@@ -61,7 +48,7 @@ module _ (s : List ℕ) (b : Bytes s) {c : Contents} {q : ℕ} (e : aco s ≡ ok
         ap (λ (k : ℕ). pick (eqb k 0) (bytes (size (tabled c))) (refused k)) none ∙ ap bytes file-size
 
     pub writes : (out : List ℕ) → length file ≤ length out → written s (tabled c) out ≡ (bytes (length file), file ++ drop (length file) out)
-    writes out h = sym (room s (tabled c) out (length file) (sym needs) h _ (sym (ap₂ (λ (f : List ℕ) (k : ℕ). f ++ drop k out) made-is file-size)))
+    writes out h = sym (writes-all (fault s (tabled c)) (size (tabled c)) (made s (tabled c)) out (length file) (sym needs) h _ (sym (ap₂ (λ (f : List ℕ) (k : ℕ). f ++ drop k out) made-is file-size)))
 
   -- two lists: it is the file itself
   pub itself : c .lists ≡ 2 → (s ≡ twoLists (map swatch (c .records))) × (length s ≤ limit)

@@ -13,7 +13,7 @@ use Rattle.fields.specs.Numbers.{be, nums, joined, Bytes}
 use Rattle.fields.specs.Store.{stored, part}
 use Rattle.fields.specs.Text.{nameBytes, countedUnits}
 use Rattle.fields.proofs.Stores.{stored-in, sets-append, length-stored}
-use Rattle.fields.proofs.Places.{length-be, length-bes, length-nums, length-part, part-nums}
+use Rattle.fields.proofs.Places.{length-be, length-nums, length-part, part-nums}
 use Rattle.fields.proofs.Exact.{length-map, length-nameBytes}
 use Rattle.colour.specs.declared.space.Colour.{Colour}
 use Rattle.aco.specs.Grammar.{Swatch, colourBytes, entryBytes, listOne, listTwo, twoLists}

@@ -1,6 +1,5 @@
 -- What each answer of the code says.
-use Prim.Native.Nat.{ℕ}
-use Rattle.aco_write.specs.Writing.{Outcome, bytes, refused}
+use Rattle.fields.specs.Writing.{Outcome, bytes, refused}
 use Rattle.aco_write.specs.declared.Written.{Written}
 use Rattle.aco_write.specs.declared.Written.the-variants as vw
 

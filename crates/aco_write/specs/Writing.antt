@@ -1,11 +1,12 @@
 -- Writing records of a run of numbers: what is judged first, and the bytes that are made.
 use Prim.Native.Nat.{ℕ, zero, suc, _+_, _*_, _/_}
-use mathlib.Core.List.{List, [], _∷_, _++_, map}
-use lib.ListN.{length, getD, drop}
-use lib.Dec.{leb, eqb}
+use mathlib.Core.List.{List, [], _∷_, map}
+use lib.ListN.{length, getD}
+use lib.Dec.{leb}
 use Rattle.fields.specs.Numbers.{nums}
 use Rattle.fields.specs.Reader.{pick, numberOf, limit}
 use Rattle.fields.specs.Text.{text}
+use Rattle.fields.specs.Writing.{Outcome, needs, writes}
 use Rattle.fields.specs.Faults.{firstOf, faults, faultsFrom}
 use Rattle.colour.specs.Spaces.{known, allowed}
 use Rattle.aco.specs.Grammar.{Swatch, twoLists}
@@ -78,18 +79,10 @@ fault names gs =
 
 -- ---- the answer
 
--- how many bytes were written, or the refusal's number, always at place 0
-pub data Outcome : Type 0 where
-  bytes : ℕ → Outcome
-  refused : ℕ → Outcome
-
 -- the exact length that writing needs, or the refusal
 abbrev pub needed : List ℕ → List Given → Outcome
-needed names gs = pick (eqb (fault names gs) 0) (bytes (size gs)) (refused (fault names gs))
+needed names gs = needs (fault names gs) (size gs)
 
--- what writing does with the lent bytes: 11 comes last; past what it needs they keep their contents, and a refusal changes nothing
+-- what writing does with the lent bytes
 abbrev pub written : List ℕ → List Given → List ℕ → Outcome × List ℕ
-written names gs out =
-    pick (eqb (fault names gs) 0)
-    (pick (leb (size gs) (length out)) (bytes (size gs), twoLists (map (swatchIn names) gs) ++ drop (size gs) out) (refused 11, out))
-    (refused (fault names gs), out)
+written names gs out = writes (fault names gs) (size gs) (twoLists (map (swatchIn names) gs)) out

@@ -1,44 +1,30 @@
 -- What writing answers, and what it makes of the records of an accepted file. Assumes nothing.
 use Prim.Native.Nat.{ℕ, _≤_}
-use mathlib.Core.Path.{_≡_, refl, sym, ap, ap₂, _∙_}
+use mathlib.Core.Path.{_≡_, sym, ap, ap₂, _∙_}
 use mathlib.Core.List.{List, _++_, map}
-use mathlib.Core.Bool.{Bool, true, false}
-use lib.Dec.{leb, eqb}
+use mathlib.Core.Bool.{Bool}
+use lib.Dec.{leb}
 use lib.ListN.{length, drop}
-use borrow.Author.Tests.{le-leb, leb-true, eqb-true}
-use native.Mathlib.Omega.{arith}
+use borrow.Author.Tests.{le-leb}
 use Rattle.fields.specs.Numbers.{Bytes}
 use Rattle.fields.specs.Reader.{ok, pick, limit}
-use Rattle.fields.specs.Writing.{Outcome, bytes, refused, needs, writes}
+use Rattle.fields.specs.Writing.{bytes, refused, needs, writes}
 use Rattle.ase.specs.Grammar.{Block, fileBytes, File, file}
 use Rattle.ase.specs.Reading.{Entry, blockOf, ase}
 use Rattle.ase.specs.Faults.{paletteFault}
 use Rattle.ase.proofs.RoundTrip.{accepted-allowed, allowed-written}
+use Rattle.fields.proofs.Writing.{Wrote, writes-inv}
 use Rattle.ase_write.specs.Writing.{Given, size, fault, needed, written}
 use Rattle.ase_roundtrip.specs.Tie.{made, tabled}
 use Rattle.ase_roundtrip.proofs.Fitting.{length-made, fault-same}
 use Rattle.ase_roundtrip.proofs.Records.{given-blocks, given-fit}
 
 -- what is known where a writer wrote n bytes
-pub record Wrote (text : List ℕ) (gs : List Given) (out : List ℕ) (n : ℕ) (out′ : List ℕ) : Type 0 where
-  pub none : fault text gs ≡ 0
-  pub size-is : size gs ≡ n
-  pub inside : n ≤ length out
-  pub is : out′ ≡ made text gs ++ drop n out
+abbrev pub Written : (text : List ℕ) (gs : List Given) (out : List ℕ) (n : ℕ) (out′ : List ℕ) → Type 0
+Written text gs out n out′ = Wrote (fault text gs) (size gs) (made text gs) out n out′
 
-pub written-inv : (text : List ℕ) (gs : List Given) (out : List ℕ) {n : ℕ} {out′ : List ℕ} → written text gs out ≡ (bytes n, out′) → Wrote text gs out n out′
-written-inv text gs out {n} {out′} e =
-    go (eqb (fault text gs) 0) (leb (size gs) (length out)) refl refl (ap (λ (w : Outcome × List ℕ). w .0) e) (ap (λ (w : Outcome × List ℕ). w .1) e)
-  where
-    answer : Bool → Bool → Outcome × List ℕ
-    answer x y = pick x (pick y (bytes (size gs), made text gs ++ drop (size gs) out) (refused 11, out)) (refused (fault text gs), out)
-
-    go : (x y : Bool) → eqb (fault text gs) 0 ≡ x → leb (size gs) (length out) ≡ y → answer x y .0 ≡ bytes n → answer x y .1 ≡ out′ → Wrote text gs out n out′
-    go true true h k f g =
-        let z : size gs ≡ n = cc in
-        record { none = eqb-true _ _ h; size-is = z; inside = omega (arith, leb-true (size gs) (length out) k); is = sym g ∙ ap (λ (m : ℕ). made text gs ++ drop m out) z }
-    go true false h k f g = let z : _≡_ {A = ℕ} 0 1 = cc in absurd (omega arith)
-    go false y h k f g = let z : _≡_ {A = ℕ} 0 1 = cc in absurd (omega arith)
+pub written-inv : (text : List ℕ) (gs : List Given) (out : List ℕ) {n : ℕ} {out′ : List ℕ} → written text gs out ≡ (bytes n, out′) → Written text gs out n out′
+written-inv text gs out e = writes-inv (fault text gs) (size gs) (made text gs) out e
 
 -- a file of the grammar is within the limit
 short-file : {bs : List Block} {b : List ℕ} → File bs b → length b ≤ limit

@@ -7,5 +7,6 @@ pub mod Exact
 pub mod Tells
 pub mod Chain
 pub mod Stores
+pub mod Writing
 pub mod Texts
 pub mod Floats

@@ -1,5 +1,5 @@
 use Rattle.aco_write.proofs.Judging.{sizes-turn, sizes-end, givens-start}
-use Rattle.aco_write.proofs.Outcomes.{size-fits, size-over}
+use Rattle.fields.proofs.Writing.{size-fits, size-over}
 use borrow.Author.Needs.{needs}
 use native.Mathlib.Omega.{arith}
 use Prim.Native.Nat.{_+_, _-_, _≤_}

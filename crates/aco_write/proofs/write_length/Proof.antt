@@ -5,7 +5,8 @@ use lib.ListN.{length}
 use Rattle.aco_write.specs.Writing.{givens, sizes}
 use Rattle.aco_write.specs.Answer.{told}
 use Rattle.aco_write.proofs.Judging.{length-givens}
-use Rattle.aco_write.proofs.Outcomes.{size-is, size-passes, too-long, too-many, bad-colour, bad-name, all-fine}
+use Rattle.aco_write.proofs.Outcomes.{too-long, too-many, bad-colour, bad-name, all-fine}
+use Rattle.fields.proofs.Writing.{size-is, size-passes}
 use borrow.Author.Needs.{needs}
 use Rattle.aco_write.proofs.write_length.Statement.{statement}
 use Rattle.aco_write.proofs.write_length.Tie as tie

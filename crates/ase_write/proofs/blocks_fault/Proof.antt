@@ -54,7 +54,7 @@ returns-2 : tie.Need-returns-2 Inv-loop μ-loop
 returns-2 c =
     let l = c .before .before .loop in
     let a = c .before .before .before .before .before .args in
-    blocks-open (a .text .now) (a .run .now) _ (l .depth) (a .n) (l .i) (l .inv .2) (c .before .loop-test .left) (c .if2 .taken)
+    blocks-open (a .text .now) (a .run .now) _ (l .depth) (a .n) (l .i) (l .inv .2) (c .before .loop-test .left) (λ z. omega (arith, c .if2 .taken))
 
 returns-3 : tie.Need-returns-3 Inv-loop μ-loop
 returns-3 c =

@@ -7,6 +7,12 @@ use borrow.Author.Needs.{needs}
 use Rattle.ase_write.proofs.put_file.Statement.{statement}
 use Rattle.ase_write.proofs.put_file.Tie as tie
 
+returns : tie.Need-returns
+returns c =
+    let s = c .before .before .before .before .before .before .before .before .before .before .before .before .before .before .before .before .before .before .before .before .before .before .before in
+    let a = s .args in
+    put-file (a .run .now) (a .text .now) (a .n) (a .out .now) _ _ _ _ _ (omega (arith, s .pre .1 .inside)) (c .before .before .before .before .before .before .before .before .before .before .before .before .before .before .before .before .before .before .put-u32 .ensures) (c .before .before .before .before .before .before .before .before .before .before .before .before .before .before .put-u16 .ensures) (c .before .before .before .before .before .before .before .before .before .before .put-u162 .ensures) (c .before .before .before .before .before .before .put-u322 .ensures) (c .before .before .put-blocks .ensures)
+
 put-u32-requires : tie.Need-put-u32-requires
 put-u32-requires c κs = search needs
 
@@ -30,12 +36,6 @@ put-blocks-requires c κs = search needs
 
 same-length : tie.Need-same-length
 same-length c = search needs
-
-returns : tie.Need-returns
-returns c =
-    let s = c .before .before .before .before .before .before .before .before .before .before .before .before .before .before .before .before .before .before .before .before .before .before .before in
-    let a = s .args in
-    put-file (a .run .now) (a .text .now) (a .n) (a .out .now) _ _ _ _ _ (omega (arith, s .pre .1 .inside)) (c .before .before .before .before .before .before .before .before .before .before .before .before .before .before .before .before .before .before .put-u32 .ensures) (c .before .before .before .before .before .before .before .before .before .before .before .before .before .before .put-u16 .ensures) (c .before .before .before .before .before .before .before .before .before .before .put-u162 .ensures) (c .before .before .before .before .before .before .put-u322 .ensures) (c .before .before .put-blocks .ensures)
 
 pub put-file-spec : {M : Type 1} → statement M
 put-file-spec =

@@ -1,5 +1,5 @@
 use Rattle.ase_write.proofs.Judging.{sizes-turn, sizes-end, givens-start}
-use Rattle.ase_write.proofs.Outcomes.{size-fits, size-over}
+use Rattle.fields.proofs.Writing.{size-fits, size-over}
 use mathlib.Core.Path.{_≡_, sym, ap, _∙_}
 use native.Mathlib.Omega.{arith}
 use Rattle.ase_write.specs.Writing.{givens, sizeIn, sizes}

@@ -1,5 +1,6 @@
 use Rattle.ase_write.proofs.Puts.{file-front}
-use Rattle.ase_write.proofs.Outcomes.{needed-bytes, no-fault, writes-no, writes-none, writes-all}
+use Rattle.ase_write.proofs.Outcomes.{needed-bytes, no-fault}
+use Rattle.fields.proofs.Writing.{writes-no, writes-none, writes-all}
 use Rattle.ase_write.specs.Answer.{told}
 use Rattle.ase_write.specs.Writing.{fault, size, blockIn, givens}
 use Rattle.ase.specs.Grammar.{fileBytes}

@@ -1,4 +1,5 @@
-use Rattle.ase_write.proofs.Outcomes.{size-is, size-passes, too-long, bad-block, all-fine}
+use Rattle.ase_write.proofs.Outcomes.{too-long, bad-block, all-fine}
+use Rattle.fields.proofs.Writing.{size-is, size-passes}
 use Rattle.ase_write.specs.Answer.{told}
 use mathlib.Core.Path.{sym, ap, _∙_}
 use Rattle.ase_write.specs.Writing.{givens, sizes}
