@@ -173,7 +173,7 @@ block-inv s d at {e} {q} h =
     let u = then-inv (field 4 s (t .1)) _ (t .3) in
     let y = field-inv 4 s (t .1) (u .2) in
     let r = rule-inv (unless (isType (t .0)) 4) at _ (u .3) in
-    let v = pick-inv (leb (u .0) (length s - u .1)) (content (t .0) d (u .0) s at) 2 (u .1) 0 0 (r .1) in
+    let v = pick-inv (leb (u .0) (length s - u .1)) (content (t .0) d (u .0) s at) _ (u .1) 0 0 (r .1) in
     let n : u .0 ≡ num 4 s (at + 2) = sym (y .1) ∙ ap (λ (p : ℕ). num 4 s p) (sym (x .2)) in
     go (t .0) (u .0) (x .1) (sym n) (omega (arith, leb-true (u .0) (length s - u .1) (v .0), x .0, y .0, x .2, y .2)) (unless-fine (isType (t .0)) 4 (r .0)) (v .1)
   where

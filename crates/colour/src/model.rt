@@ -3,7 +3,8 @@ ghost use mathlib.Core.Path.{_≡_};
 ghost use lib.Ieee.{binary32, ofBits};
 ghost use Rattle.colour.specs.Models.{traitsOf, modelOf};
 ghost use Rattle.colour.specs.Channels.{wide, allows};
-use crate::channel::is_channel;
+use crate::channel::is_finite;
+use crate::channel::is_unit;
 
 // What a model has: its four characters as a number, its channels, and the sample that is 1.
 pub struct Traits {
@@ -94,6 +95,11 @@ impl Model {
     pub fn allows(self, bits: u32) -> bool
         ensures { λ r. ⌜ r ≡ allows self (ofBits binary32 bits) ⌝ }
     {
-        is_channel(self.is_wide(), bits)
+        match self {
+            Model::Rgb => is_unit(bits),
+            Model::Cmyk => is_unit(bits),
+            Model::Lab => is_finite(bits),
+            Model::Gray => is_unit(bits),
+        }
     }
 }
