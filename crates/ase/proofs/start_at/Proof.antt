@@ -1,3 +1,4 @@
+use native.Mathlib.Omega.{arith}
 use Rattle.fields.specs.Reader.{mapRes}
 use Rattle.fields.specs.Answer.{toldStep}
 use Rattle.ase.specs.Reading.{inside}
@@ -10,7 +11,7 @@ use Rattle.ase.proofs.start_at.Statement.{statement}
 use Rattle.ase.proofs.start_at.Tie as tie
 
 returns : tie.Need-returns
-returns c = start-deep _ _ _ _ (c .if1 .taken)
+returns c = let a = c .before .before .args in start-deep (a .depth) (a .end) (a .file .now) (a .at) (omega (arith, c .if1 .taken))
 
 slice-aggregate-group-at : tie.Need-slice-aggregate-group-at
 slice-aggregate-group-at c = sym (length-take-le (c .before .before .before .args .end) (c .before .before .before .args .file .now) (c .before .before .before .pre .1))

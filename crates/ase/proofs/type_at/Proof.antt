@@ -1,3 +1,4 @@
+use native.Mathlib.Omega.{arith}
 use mathlib.Core.Path.{sym, ap, _∙_}
 use Prim.Native.Nat.{_-_}
 use borrow.Author.Tests.{le-leb, lt-leb}
@@ -27,7 +28,7 @@ returns-2 : tie.Need-returns-2
 returns-2 c =
     let v = c .before .before in
     let a = v .before .before .before .before .args in
-    sym (ap done (judged-bad 2 _ _ type 5 0 0 (sym (ap (told16 (a .at)) (v .kind .given .1)) ∙ v .before .before .u16-at .ensures) (rw (lt-leb _ 2 (c .if1 .taken)))))
+    sym (ap done (judged-bad 2 _ _ type 5 0 0 (sym (ap (told16 (a .at)) (v .kind .given .1)) ∙ v .before .before .u16-at .ensures) (rw (lt-leb (v .kind .given .0 .0) 2 (omega (arith, c .if1 .taken))))))
 
 returns-3 : tie.Need-returns-3
 returns-3 c =
