@@ -15,6 +15,7 @@ use Rattle.fields.proofs.Laws.{field-in}
 use Rattle.fields.proofs.Places.{length-be, at-in, at-next, at-left, at-after, at-all, at-whole, num-be, be-num, num-lt, bytes-nil, bytes-append, bytes-be, bytes-joined}
 use Rattle.fields.proofs.Inverse.{then-inv, rule-inv, pick-inv, unless-fine, field-inv, ended-inv, ok-value, ok-place}
 use Rattle.fields.proofs.Exact.{all-map, judged-exact, same-exact, one-exact, bind-exact}
+use Rattle.fields.proofs.Sequence.{field-exact, mark-exact}
 use Rattle.fields.proofs.Chain.{in-map, in-both, all-in, in-all, chain-exact, state-map}
 use Rattle.ase.specs.Grammar.{Block, start, stop, colour, typeOf, payload, blockBytes, fileBytes, Allowed, Nested, File, file}
 use Rattle.ase.specs.Reading.{Entry, blockOf, block, standing, standingAfter, heading, blocks, palette, ase}
@@ -40,31 +41,9 @@ file-parts bs =
     ∙ ap (λ (x : List ℕ). be 4 0x4153_4546 ++ x) (append-assoc (be 2 1) (be 2 0 ++ n) l ∙ ap (λ (x : List ℕ). be 2 1 ++ x) (append-assoc (be 2 0) n l)))
 
 module _ (s : List ℕ) (bytes : Bytes s) where
-  field-exact : (w : ℕ) → Exact s (field w) (λ v. v) (λ v. v < 256 ^ w) (be w)
-  field-exact w = record {
-    reads = λ at v fit h.
-        let l : length (be w v) ≡ w = length-be w v in
-        let e : at + w ≡ at + length (be w v) = omega arith in
-        (v, field-in w s at (omega (arith, at-in s at (be w v) h)) ∙ ap₂ (λ (x y : ℕ). ok x y) (num-be s w at v fit h) e, refl);
-    writes = λ at le v q e.
-        let i = field-inv w s at e in
-        let l : length (be w v) ≡ w = length-be w v in
-        (subst (λ (x : ℕ). x < 256 ^ w) (i .1) (num-lt s bytes w at), subst (λ (x : ℕ). At s at (be w x)) (i .1) (be-num s bytes w at (omega arith)), omega arith);
-  }
-
-  -- a field that is v, else 3, and then more
-  mark-exact : {A B : Type 0} {m : Reader A} {view : A → B} {Ok : B → Type 0} {rest : B → List ℕ} (w v : ℕ) → v < 256 ^ w → Exact s m view Ok rest
-      → Exact s (judged w (λ x. unless (eqb x v) 3) >>= (λ x. m)) view Ok (λ b. be w v ++ rest b)
-  mark-exact {A} {B} {m} {view} {Ok} {rest} w v small more =
-      same-exact
-      (bind-exact {k = λ x. m} {OkD = Ok} {rest = rest} (λ b. tt {0})
-      (one-exact (judged-exact s bytes w (λ x. unless (eqb x v) 3)) v (small, ap (λ (b : Bool). unless b 3) (eq-eqb v v refl)) (λ x h. eqb-true x v (unless-fine (eqb x v) 3 (h .1))))
-      (λ x. same-exact more (λ b. Ok b × (tt {0} ≡ tt)) rest (λ b h. (h, refl)) (λ b h. h .0) (λ b h. refl)))
-      Ok (λ b. be w v ++ rest b) (λ b h. h .1) (λ b h. (tt, h)) (λ b h. refl)
-
   pub heading-exact : Exact s heading (λ n. n) (λ n. n < 256 ^ 4) headBytes
   unfolding heading
-  heading-exact = mark-exact 4 0x4153_4546 (omega arith) (mark-exact 2 1 (omega arith) (mark-exact 2 0 (omega arith) (field-exact 4)))
+  heading-exact = mark-exact s bytes 4 0x4153_4546 (omega arith) (mark-exact s bytes 2 1 (omega arith) (mark-exact s bytes 2 0 (omega arith) (field-exact s bytes 4)))
 
   -- ---- the blocks
 

@@ -6,3 +6,4 @@ pub mod Store
 pub mod Writing
 pub mod Algebra
 pub mod Answer
+pub mod Sets
