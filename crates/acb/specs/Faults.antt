@@ -1,0 +1,25 @@
+-- The first fault of a book that is written, by its number of the refusal table; 0 is none.
+use Prim.Native.Nat.{ℕ, _^_, _<_}
+use mathlib.Core.Path.{_≡_}
+use lib.Dec.{ltb}
+use lib.ListN.{length}
+use Rattle.fields.specs.Numbers.{All}
+use Rattle.fields.specs.Reader.{pick}
+use Rattle.fields.specs.Faults.{firstOf}
+use Rattle.acb.specs.Grammar.{Book, String, Swatch}
+use Rattle.acb.specs.Reading.{isSpace, componentsOf}
+
+-- page size 0 is 5, an unknown space 4; all else that fits its field is allowed
+unfoldable pub bookFault : Book → ℕ
+bookFault b = firstOf (pick (ltb 0 (b .size)) 0 5) (pick (isSpace (b .space)) 0 4)
+
+-- a book whose numbers fit their fields, whether or not they are allowed
+pub record BookFits (b : Book) : Type 0 where
+  pub identifier : b .identifier < 256 ^ 2
+  pub four : length (b .texts) ≡ 4
+  pub texts : All (λ k us. String us) 0 (b .texts)
+  pub count : length (b .colours) < 256 ^ 2
+  pub size : b .size < 256 ^ 2
+  pub offset : b .offset < 256 ^ 2
+  pub space : b .space < 256 ^ 2
+  pub colours : All (λ k c. Swatch (componentsOf (b .space)) c) 0 (b .colours)
