@@ -1,0 +1,4 @@
+pub mod Texts
+pub mod Components
+pub mod Pages
+pub mod Answer
