@@ -1,0 +1,219 @@
+-- The records of an accepted file, from a table to a writer. Assumes nothing.
+use Prim.Native.Nat.{ℕ, zero, suc, _+_, _*_, _/_, _^_, _≤_, _<_}
+use mathlib.Core.Path.{_≡_, refl, sym, ap, ap₂, _∙_, subst}
+use mathlib.Core.List.{List, [], _∷_, _++_, map, append-assoc}
+use lib.Dec.{leb}
+use lib.ListN.{length, getD, take, length-append}
+use lib.Seq.{getD-append-add}
+use native.Mathlib.Omega.{arith}
+use native.Mathlib.Nat.{add-zero}
+use Rattle.fields.specs.Numbers.{nums, joined, Bytes, All}
+use Rattle.fields.specs.Reader.{Reader, ok, field, body, each, limit}
+use Rattle.fields.specs.Text.{Name}
+use Rattle.fields.proofs.Places.{length-nums}
+use Rattle.fields.proofs.Inverse.{then-inv, pick-inv, body-inv, ok-value, each-none, each-inv}
+use Rattle.fields.proofs.Exact.{all-map, all-both, length-map}
+use Rattle.fields.proofs.Firsts.{all-image, all-source}
+use Rattle.acb.specs.Grammar.{Colour, Book, String, Swatch, Allowed, File, file}
+use Rattle.acb.specs.Reading.{string, Entry, colour, componentsOf, Header, strings, numbers, opening, header, closing, Contents, book, acb, colourOf, bookOf}
+use Rattle.acb.specs.Answer.{lies, shown}
+use Rattle.acb.proofs.Laws.{space-components, space-small}
+use Rattle.acb.proofs.RoundTrip.{accepted-allowed}
+use Rattle.acb_read.specs.Table.{sixOf, fourOf, row}
+use Rattle.acb_write.specs.Writing.{Given, givenAt, givens, given, unitsIn, colourIn, bookIn}
+use Rattle.acb_write.proofs.Judging.{components-some}
+use Rattle.acb_roundtrip.specs.Tie.{taken, tabled, TextFitting, Fitting, BookFitting}
+
+-- ---- a run made of rows gives the records
+
+row-back : (p : List ℕ) (k : ℕ) (e : Entry) (more : List ℕ) → length p ≡ 12 * k → givenAt (p ++ (row e ++ more)) k ≡ taken e
+row-back p k e more l =
+    let y : List ℕ = row e ++ more in
+    let s : List ℕ = p ++ y in
+    let at : (i : ℕ) → getD s (12 * k + i) 0 ≡ getD y i 0 = λ i. ap (λ (n : ℕ). getD s (n + i) 0) (sym l) ∙ getD-append-add p y i 0 in
+    let at0 : getD s (12 * k) 0 ≡ e .name .first = ap (λ (n : ℕ). getD s n 0) (sym (add-zero (12 * k))) ∙ at 0 in
+    λ i. record {
+      name = (at0 i, at 1 i);
+      code = at 2 i ∷ at 3 i ∷ at 4 i ∷ at 5 i ∷ at 6 i ∷ at 7 i ∷ [];
+      components = at 8 i ∷ at 9 i ∷ at 10 i ∷ at 11 i ∷ [];
+    }
+
+length-row : (e : Entry) → length (row e) ≡ 12
+length-row e = refl
+
+rows-back : (p : List ℕ) (k : ℕ) (es : List Entry) → length p ≡ 12 * k → givens (p ++ joined row es) (length es) k ≡ map taken es
+unfolding givens joined
+rows-back p k [] l = refl
+rows-back p k (e ∷ es) l =
+    let len : length (p ++ row e) ≡ 12 * (k + 1) = omega (arith, length-append p (row e), length-row e) in
+    ap₂ (λ (x : Given) (xs : List Given). x ∷ xs) (row-back p k e (joined row es) l)
+    (ap (λ (r : List ℕ). givens r (length es) (k + 1)) (sym (append-assoc p (row e) (joined row es))) ∙ rows-back (p ++ row e) (k + 1) es len)
+
+length-rows : (es : List Entry) → length (joined row es) ≡ 12 * length es
+unfolding joined
+length-rows [] = refl
+length-rows (e ∷ es) = omega (arith, length-append (row e) (joined row es), length-row e, length-rows es)
+
+pub given-rows : (es : List Entry) → given (joined row es) ≡ tabled es
+given-rows es =
+    let n : length (joined row es) / 12 ≡ length es = omega (arith, length-rows es) in
+    ap (λ (k : ℕ). givens (joined row es) k 0) n ∙ rows-back [] 0 es refl
+
+-- ---- the strings and names of an accepted file lie in it
+
+pub record NameIn (s : List ℕ) (nm : Name) : Type 0 where
+  pub are : nums 2 (length (nm .units)) s (nm .first) ≡ nm .units
+  pub inside : 0 < length (nm .units) → nm .first + 2 * length (nm .units) ≤ length s
+
+string-lies : (s : List ℕ) (at : ℕ) (nm : Name) (q : ℕ) → string s at ≡ ok nm q → NameIn s nm
+unfolding string
+string-lies s at nm q e =
+    let t = then-inv (field 4 s at) _ e in
+    let u = then-inv (body 2 (t .0) s (t .1)) _ (t .3) in
+    let b = body-inv 2 s (t .1) (t .0) (u .2) in
+    let l : length (u .0) ≡ t .0 = ap length (sym (b .1)) ∙ length-nums 2 (t .0) s (t .1) in
+    subst (λ (x : Name). NameIn s x) (ok-value (u .3)) (record {
+      are = ap (λ (k : ℕ). nums 2 k s (t .1)) l ∙ b .1;
+      inside = λ h. omega (arith, b .0, l);
+    })
+
+-- what holds of every item that is read holds of all
+each-all : {A : Type 0} (p : ℕ → Reader A) (s : List ℕ) (P : A → Type 0) → ((i at : ℕ) (a : A) (q : ℕ) → p i s at ≡ ok a q → P a)
+    → (n i at j : ℕ) (l : List A) (q : ℕ) → each n i p s at ≡ ok l q → All (λ k a. P a) j l
+each-all p s P h zero i at j l q e = subst (λ x. All (λ k a. P a) j x) (each-none p s i at e .0) tt
+each-all p s P h (suc n) i at j l q e =
+    let t = each-inv p s n i at e in
+    subst (λ x. All (λ k a. P a) j x) (t .5) (h i at (t .0) (t .1) (t .3), each-all p s P h n (i + 1) (t .1) (j + 1) (t .2) q (t .4))
+
+module _ (s : List ℕ) where
+  colour-lies : (n at : ℕ) (e : Entry) (q : ℕ) → colour n s at ≡ ok e q → NameIn s (e .name)
+  unfolding colour
+  colour-lies n at e q h =
+      let a = then-inv (string s at) _ h in
+      let b = then-inv (body 1 6 s (a .1)) _ (a .3) in
+      let c = then-inv (each n 0 (λ i. field 1) s (b .1)) _ (b .3) in
+      subst (λ (x : Entry). NameIn s (x .name)) (ok-value (c .3)) (string-lies s at (a .0) (a .1) (a .2))
+
+  header-lies : (at : ℕ) (h : Header) (q : ℕ) → header s at ≡ ok h q → All (λ k nm. NameIn s nm) 0 (h .texts)
+  unfolding header strings
+  header-lies at h q e =
+      let a = then-inv (opening s at) _ e in
+      let b = then-inv (strings s (a .1)) _ (a .3) in
+      let c = then-inv (numbers s (b .1)) _ (b .3) in
+      subst (λ (x : Header). All (λ k nm. NameIn s nm) 0 (x .texts)) (ok-value (c .3))
+      (each-all (λ k. string) s (NameIn s) (λ i p nm r g. string-lies s p nm r g) 4 0 (a .1) 0 (b .0) (b .1) (b .2))
+
+  pub all-lie : {c : Contents} {q : ℕ} → acb s ≡ ok c q → All (λ k nm. NameIn s nm) 0 (c .header .texts) × All (λ k e. NameIn s (e .name)) 0 (c .entries)
+  unfolding acb book
+  all-lie e =
+      let p = pick-inv (leb (length s) limit) (book s 0) 1 0 0 0 e in
+      let t = then-inv (header s 0) _ (p .1) in
+      let n : ℕ = componentsOf (t .0 .numbers .space) in
+      let u = then-inv (each (t .0 .numbers .count) 0 (λ i. colour n) s (t .1)) _ (t .3) in
+      let v = then-inv (closing s (u .1)) _ (u .3) in
+      subst (λ (x : Contents). All (λ k nm. NameIn s nm) 0 (x .header .texts) × All (λ k e. NameIn s (e .name)) 0 (x .entries)) (ok-value (v .3))
+      (header-lies 0 (t .0) (t .1) (t .2), each-all (λ i. colour n) s (λ e. NameIn s (e .name)) (λ i at e r g. colour-lies n at e r g) (t .0 .numbers .count) 0 (t .1) 0 (u .0) (u .1) (u .2))
+
+-- ---- the book of an accepted file, as it is given
+
+six-back : (cs : List ℕ) → length cs ≡ 6 → sixOf cs ≡ cs
+six-back [] h = absurd (omega arith)
+six-back (a ∷ []) h = absurd (omega arith)
+six-back (a ∷ b ∷ []) h = absurd (omega arith)
+six-back (a ∷ b ∷ c ∷ []) h = absurd (omega arith)
+six-back (a ∷ b ∷ c ∷ d ∷ []) h = absurd (omega arith)
+six-back (a ∷ b ∷ c ∷ d ∷ e ∷ []) h = absurd (omega arith)
+six-back (a ∷ b ∷ c ∷ d ∷ e ∷ f ∷ []) h = refl
+six-back (a ∷ b ∷ c ∷ d ∷ e ∷ f ∷ g ∷ more) h = absurd (omega arith)
+
+-- four components of a table are those of the space, and then spare
+four-take : (ks : List ℕ) → length ks ≤ 4 → take (length ks) (fourOf ks) ≡ ks
+four-take [] h = refl
+four-take (a ∷ []) h = refl
+four-take (a ∷ b ∷ []) h = refl
+four-take (a ∷ b ∷ c ∷ []) h = refl
+four-take (a ∷ b ∷ c ∷ d ∷ []) h = refl
+four-take (a ∷ b ∷ c ∷ d ∷ e ∷ more) h = absurd (omega arith)
+
+four-back : (n : ℕ) (ks : List ℕ) → n ≤ 4 → length ks ≡ n → take n (fourOf ks) ≡ ks
+four-back n ks h l = ap (λ (j : ℕ). take j (fourOf ks)) (sym l) ∙ four-take ks (omega arith)
+
+module _ (s : List ℕ) (n : ℕ) (few : n ≤ 4) where
+  abbrev Sound : Entry → Type 0
+  Sound e = NameIn s (e .name) × Swatch n (colourOf e)
+
+  colour-back : (e : Entry) → Sound e → colourIn s n (taken e) ≡ colourOf e
+  colour-back e h =
+      let a = h .0 .are in
+      let b = six-back (e .code) (h .1 .code .count) in
+      let c = four-back n (e .components) few (h .1 .components .count) in
+      λ i. record { name = a i; code = b i; components = c i }
+
+  colours-back : (i : ℕ) (es : List Entry) → All (λ k e. Sound e) i es → map (colourIn s n) (map taken es) ≡ map colourOf es
+  colours-back i [] h = refl
+  colours-back i (e ∷ es) h = ap₂ (λ (x : Colour) (xs : List Colour). x ∷ xs) (colour-back e (h .0)) (colours-back (i + 1) es (h .1))
+
+  taken-fits : (e : Entry) → Sound e → Fitting s n (taken e)
+  taken-fits e h = record {
+    named = record { counted = h .1 .name .counted; inside = h .0 .inside };
+    six = refl;
+    code-small = subst (λ (l : List ℕ). All (λ i b. b < 256) 0 l) (sym (six-back (e .code) (h .1 .code .count))) (h .1 .code .each);
+    four = refl;
+    components-small = subst (λ (l : List ℕ). All (λ i b. b < 256) 0 l) (sym (four-back n (e .components) few (h .1 .components .count))) (h .1 .components .each);
+  }
+
+texts-back : (s : List ℕ) (i : ℕ) (ts : List Name) → All (λ k nm. NameIn s nm) i ts → map (unitsIn s) (map lies ts) ≡ map (λ (nm : Name). nm .units) ts
+texts-back s i [] h = refl
+texts-back s i (nm ∷ ts) h = ap₂ (λ (x : List ℕ) (xs : List (List ℕ)). x ∷ xs) (h .0 .are) (texts-back s (i + 1) ts (h .1))
+
+texts-fit : (s : List ℕ) (nm : Name) → NameIn s nm → String (nm .units) → TextFitting s (lies nm)
+texts-fit s nm h k = record { counted = k .counted; inside = h .inside }
+
+allowed-in : {b : Book} {s : List ℕ} → File b s → Allowed b
+allowed-in (file allowed short) = allowed
+
+module _ (s : List ℕ) (bytes : Bytes s) {c : Contents} {q : ℕ} (e : acb s ≡ ok c q) where
+  allowed : Allowed (bookOf c)
+  allowed = allowed-in (accepted-allowed bytes e .0)
+
+  abbrev n : ℕ
+  n = componentsOf (c .header .numbers .space)
+
+  swatches : All (λ k x. Swatch n x) 0 (map colourOf (c .entries))
+  swatches = subst (λ (m : ℕ). All (λ k x. Swatch m x) 0 (map colourOf (c .entries))) (sym (space-components (allowed .space))) (allowed .colours)
+
+  sounds : All (λ k x. NameIn s (x .name) × Swatch n (colourOf x)) 0 (c .entries)
+  sounds = all-both (λ k x. NameIn s (x .name)) (λ k x. Swatch n (colourOf x)) 0 (c .entries) (all-lie s e .1) (all-source colourOf (λ k x. Swatch n x) 0 (c .entries) swatches)
+
+  -- it is the book that was read
+  pub given-book : bookIn s (shown (c .header)) (c .tag) (tabled (c .entries)) ≡ bookOf c
+  given-book =
+      let a = texts-back s 0 (c .header .texts) (all-lie s e .0) in
+      let b = colours-back s n (components-some (c .header .numbers .space) .1) 0 (c .entries) sounds in
+      λ i. record {
+        identifier = c .header .identifier;
+        texts = a i;
+        size = c .header .numbers .size;
+        offset = c .header .numbers .offset;
+        space = c .header .numbers .space;
+        colours = b i;
+        tag = c .tag;
+      }
+
+  -- it fits
+  pub given-fit : BookFitting s (shown (c .header)) (tabled (c .entries))
+  given-fit = record {
+    headed = record {
+      four = length-map lies (c .header .texts) ∙ sym (length-map (λ (nm : Name). nm .units) (c .header .texts)) ∙ allowed .four;
+      identifier-small = allowed .identifier;
+      size-small = allowed .size .1;
+      offset-small = allowed .offset;
+      space-small = space-small (allowed .space);
+    };
+    strings = all-image lies (λ k l. TextFitting s l) 0 (c .header .texts)
+        (all-map (λ k nm. NameIn s nm × String (nm .units)) (λ k nm. TextFitting s (lies nm)) (λ k nm h. texts-fit s nm (h .0) (h .1)) 0 (c .header .texts)
+        (all-both (λ k nm. NameIn s nm) (λ k nm. String (nm .units)) 0 (c .header .texts) (all-lie s e .0) (all-source (λ (nm : Name). nm .units) (λ k us. String us) 0 (c .header .texts) (allowed .texts))));
+    count = subst (λ (k : ℕ). k < 256 ^ 2) (length-map colourOf (c .entries) ∙ sym (length-map taken (c .entries))) (allowed .count);
+    records = all-image taken (λ k g. Fitting s n g) 0 (c .entries)
+        (all-map (λ k x. NameIn s (x .name) × Swatch n (colourOf x)) (λ k x. Fitting s n (taken x)) (λ k x h. taken-fits s n (components-some (c .header .numbers .space) .1) x h) 0 (c .entries) sounds);
+  }

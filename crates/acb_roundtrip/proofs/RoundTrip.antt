@@ -1,0 +1,83 @@
+-- What is promised of writing and reading ACB files together. Assumes nothing.
+use Prim.Native.Nat.{ℕ, _≤_}
+use mathlib.Core.Path.{_≡_, sym, ap, _∙_, subst}
+use mathlib.Core.List.{List, _++_}
+use lib.Dec.{leb}
+use lib.ListN.{length, take, drop, length-append, length-drop}
+use lib.Seq.{take-at, drop-at}
+use borrow.Author.Tests.{leb-true}
+use native.Mathlib.Omega.{arith}
+use Rattle.fields.specs.Numbers.{joined, Bytes}
+use Rattle.fields.specs.Reader.{ok, numberOf, limit}
+use Rattle.fields.specs.Writing.{bytes}
+use Rattle.fields.proofs.Firsts.{test-holds}
+use Rattle.acb.specs.Grammar.{Tag, Book, fileBytes}
+use Rattle.acb.specs.Reading.{Entry, Contents, componentsOf, acb}
+use Rattle.acb.specs.Answer.{Shown, shown}
+use Rattle.acb.specs.Faults.{bookFault}
+use Rattle.acb.proofs.RoundTrip.{allowed-reads, written-number, written-allowed}
+use Rattle.acb_read.specs.Table.{row}
+use Rattle.acb_write.specs.Writing.{Given, given, colourIn, bookIn, sizeIn, size, colourFault, fault, needed, written}
+use Rattle.acb_write.proofs.Puts.{givens-shaped}
+use Rattle.acb_roundtrip.specs.Tie.{Headed, Holds, made, tabled, BookFitting, Alike, AllAlike}
+use Rattle.acb_roundtrip.proofs.Fitting.{length-made, book-fits, fault-same, faultless-fit}
+use Rattle.acb_roundtrip.proofs.Records.{given-rows}
+use Rattle.acb_roundtrip.proofs.Back.{written-inv, needs-all, writes-all}
+use Rattle.acb_roundtrip.proofs.Spare.{colour-alike, fault-alike, size-alike, needed-alike, written-alike}
+
+-- ---- what is written reads back
+
+-- a header, records and a tag without a fault are made into a file that holds their book, and that is as long as the writer says
+pub written-reads : (text : List ℕ) (h : Shown) (t : Tag) (run : List ℕ) → Bytes text → Headed h → fault text h t (given run) ≡ 0
+    → Holds (made text h t (given run)) (bookIn text h t (given run)) × (length (made text h t (given run)) ≡ size h t (given run))
+written-reads text h t run b hd e =
+    let gs : List Given = given run in
+    let d : Book = bookIn text h t gs in
+    let fit = faultless-fit text h t gs hd (givens-shaped run _ 0 0) e in
+    let x = test-holds (leb (length (fileBytes d)) limit) (bookFault d) 1 (omega arith) (sym (fault-same text h t gs fit) ∙ e) in
+    (allowed-reads (written-allowed d (book-fits text h t gs fit b) (x .1) (leb-true (length (fileBytes d)) limit (x .0))), length-made text h t gs fit)
+
+-- where the writer says that it wrote n bytes, the first n bytes are a file that holds the book that was given, and the rest is as it was
+pub written-holds : (text : List ℕ) (h : Shown) (t : Tag) (run out out′ : List ℕ) (n : ℕ) → Bytes text → Headed h → written text h t (given run) out ≡ (bytes n, out′)
+    → (n ≤ length out′) × (length out′ ≡ length out) × Holds (take n out′) (bookIn text h t (given run)) × (drop n out′ ≡ drop n out)
+written-holds text h t run out out′ n b hd e =
+    let file : List ℕ = made text h t (given run) in
+    let i = written-inv text h t (given run) out e in
+    let r = written-reads text h t run b hd (i .none) in
+    let l : length file ≡ n = r .1 ∙ i .size-is in
+    let m : length out′ ≡ length out = ap length (i .is) ∙ length-append file (drop n out) ∙ omega (arith, length-drop n out, i .inside) in
+    let k : take n out′ ≡ file = ap (take n) (i .is) ∙ take-at file (drop n out) n l in
+    (omega (arith, i .inside), m, subst (λ (f : List ℕ). Holds f (bookIn text h t (given run))) (sym k) (r .0), ap (drop n) (i .is) ∙ drop-at file (drop n out) n l)
+
+-- ---- what is read is written back
+
+-- the table that reading fills gives the records of the file
+pub read-gives : (es : List Entry) → given (joined row es) ≡ tabled es
+read-gives es = given-rows es
+
+-- the header, the records and the tag of an accepted file, written back with the file itself for their strings and names, are the file, byte for byte
+pub read-writes : (s : List ℕ) → Bytes s → {c : Contents} {q : ℕ} → acb s ≡ ok c q
+    → (out : List ℕ) → length s ≤ length out → written s (shown (c .header)) (c .tag) (tabled (c .entries)) out ≡ (bytes (length s), s ++ drop (length s) out)
+read-writes s b e out h = writes-all s b e out h
+
+-- and they need as many bytes as the file has
+pub read-needs : (s : List ℕ) → Bytes s → {c : Contents} {q : ℕ} → acb s ≡ ok c q → needed s (shown (c .header)) (c .tag) (tabled (c .entries)) ≡ bytes (length s)
+read-needs s b e = needs-all s b e
+
+-- ---- refusals
+
+-- of a header and records that fit their fields the writer's refusal, 11 aside, has the number that the reader gives for the bytes made of them; 0 is none
+pub refusals-agree : (text : List ℕ) → Bytes text → (h : Shown) (t : Tag) (gs : List Given) → BookFitting text h gs → fault text h t gs ≡ numberOf (acb (made text h t gs))
+refusals-agree text b h t gs fit = fault-same text h t gs fit ∙ sym (written-number (bookIn text h t gs) (book-fits text h t gs fit b))
+
+-- ---- spare places
+
+-- records that differ only in spare places are the same colour, of the same fault and length
+pub spare-ignored : (text : List ℕ) (n : ℕ) (g h : Given) → Alike n g h
+    → (colourIn text n g ≡ colourIn text n h) × (colourFault text n g ≡ colourFault text n h) × (sizeIn n g ≡ sizeIn n h)
+spare-ignored text n g h x = (colour-alike text n g h x, fault-alike text n g h x, size-alike text n g h x)
+
+-- and so they are written the same
+pub spare-writes : (text : List ℕ) (h : Shown) (t : Tag) (gs hs : List Given) → AllAlike (componentsOf (h .space)) gs hs
+    → (needed text h t gs ≡ needed text h t hs) × ((out : List ℕ) → written text h t gs out ≡ written text h t hs out)
+spare-writes text h t gs hs x = (needed-alike text h t gs hs x, written-alike text h t gs hs x)

@@ -1,0 +1,73 @@
+-- What the theorems say of a file, and of a book that is given to a writer.
+use Prim.Native.Nat.{ℕ, _+_, _*_, _^_, _≤_, _<_}
+use mathlib.Core.Path.{_≡_}
+use mathlib.Core.List.{List, [], _∷_, map}
+use lib.ListN.{length}
+use Rattle.fields.specs.Numbers.{All}
+use Rattle.fields.specs.Reader.{ok}
+use Rattle.acb.specs.Grammar.{Tag, Book, fileBytes}
+use Rattle.acb.specs.Reading.{Entry, Contents, bookOf, componentsOf, acb}
+use Rattle.acb.specs.Answer.{Shown}
+use Rattle.acb_read.specs.Table.{sixOf, fourOf}
+use Rattle.acb_write.specs.Writing.{Given, componentsIn, bookIn}
+
+-- four strings and numbers of 16 bits, as in a `Header`
+pub record Headed (h : Shown) : Type 0 where
+  pub four : length (h .texts) ≡ 4
+  pub identifier-small : h .identifier < 256 ^ 2
+  pub size-small : h .size < 256 ^ 2
+  pub offset-small : h .offset < 256 ^ 2
+  pub space-small : h .space < 256 ^ 2
+
+-- the file s is accepted to its end, and holds the book b
+abbrev pub Holds : List ℕ → Book → Type 0
+Holds s b = (c : Contents) × (acb s ≡ ok c (length s)) × (bookOf c ≡ b)
+
+-- the bytes that are made of a header, given records and a tag, whose strings and names lie in `text`
+abbrev pub made : List ℕ → Shown → Tag → List Given → List ℕ
+made text h t gs = fileBytes (bookIn text h t gs)
+
+-- ---- the records of a file that was read, as they are given to a writer
+
+-- a spare place is 0
+abbrev pub taken : Entry → Given
+taken e = record { name = (e .name .first, length (e .name .units)); code = sixOf (e .code); components = fourOf (e .components) }
+
+abbrev pub tabled : List Entry → List Given
+tabled es = map taken es
+
+-- ---- what is given and fits its fields; it may be refused all the same
+
+-- the count fits 32 bits, and the units, unless there are none, lie in `text`
+pub record TextFitting (text : List ℕ) (l : ℕ × ℕ) : Type 0 where
+  pub counted : l .1 < 256 ^ 4
+  pub inside : 0 < l .1 → l .0 + 2 * l .1 ≤ length text
+
+-- six code bytes; the n components that the space has are bytes, another is spare
+pub record Fitting (text : List ℕ) (n : ℕ) (g : Given) : Type 0 where
+  pub named : TextFitting text (g .name)
+  pub six : length (g .code) ≡ 6
+  pub code-small : All (λ i b. b < 256) 0 (g .code)
+  pub four : length (g .components) ≡ 4
+  pub components-small : All (λ i b. b < 256) 0 (componentsIn n g)
+
+-- the number of records fits 16 bits
+pub record BookFitting (text : List ℕ) (h : Shown) (gs : List Given) : Type 0 where
+  pub headed : Headed h
+  pub strings : All (λ k l. TextFitting text l) 0 (h .texts)
+  pub count : length gs < 256 ^ 2
+  pub records : All (λ k g. Fitting text (componentsOf (h .space)) g) 0 gs
+
+-- ---- records of n components that differ only in spare places
+
+pub record Alike (n : ℕ) (g h : Given) : Type 0 where
+  pub same-name : g .name ≡ h .name
+  pub same-code : g .code ≡ h .code
+  pub same-components : componentsIn n g ≡ componentsIn n h
+
+-- one by one
+abbrev pub AllAlike : ℕ → List Given → List Given → Type 0
+AllAlike n [] [] = Unit
+AllAlike n [] (h ∷ hs) = ⊥
+AllAlike n (g ∷ gs) [] = ⊥
+AllAlike n (g ∷ gs) (h ∷ hs) = Alike n g h × AllAlike n gs hs

@@ -1,0 +1,128 @@
+-- Writing a header, the records of a run of numbers and a tag: what is judged first, and the bytes that are made.
+use Prim.Native.Nat.{ℕ, zero, suc, _+_, _*_, _/_}
+use mathlib.Core.List.{List, [], _∷_, map}
+use lib.ListN.{length, getD, take}
+use lib.Dec.{leb, ltb}
+use Rattle.fields.specs.Numbers.{nums}
+use Rattle.fields.specs.Reader.{pick, body, numberOf, limit}
+use Rattle.fields.specs.Faults.{firstOf, faults}
+use Rattle.fields.specs.Writing.{Outcome, needs, writes}
+use Rattle.acb.specs.Grammar.{Colour, Tag, none, spot, process, Book, fileBytes}
+use Rattle.acb.specs.Reading.{isSpace, componentsOf}
+use Rattle.acb.specs.Answer.{Shown}
+
+-- ---- the records of a run
+
+-- a record as it is given: its name by place and number of units in lent bytes, its code, four components
+pub record Given : Type 0 where
+  pub name : ℕ × ℕ
+  pub code : List ℕ
+  pub components : List ℕ
+
+-- record k of a run, twelve numbers to a record
+abbrev pub givenAt : List ℕ → ℕ → Given
+givenAt run k = record {
+  name = (getD run (12 * k) 0, getD run (12 * k + 1) 0);
+  code = getD run (12 * k + 2) 0 ∷ getD run (12 * k + 3) 0 ∷ getD run (12 * k + 4) 0 ∷ getD run (12 * k + 5) 0 ∷ getD run (12 * k + 6) 0 ∷ getD run (12 * k + 7) 0 ∷ [];
+  components = getD run (12 * k + 8) 0 ∷ getD run (12 * k + 9) 0 ∷ getD run (12 * k + 10) 0 ∷ getD run (12 * k + 11) 0 ∷ [];
+}
+
+-- the n records from record k
+unfoldable pub givens : List ℕ → ℕ → ℕ → List Given
+givens run zero k = []
+givens run (suc n) k = givenAt run k ∷ givens run n (k + 1)
+
+-- as many records as fit whole in a run
+abbrev pub given : List ℕ → List Given
+given run = givens run (length run / 12) 0
+
+-- ---- the book that is given: a spare component is no part of it
+
+-- the units of a string that lies in lent bytes
+abbrev pub unitsIn : List ℕ → ℕ × ℕ → List ℕ
+unitsIn text l = nums 2 (l .1) text (l .0)
+
+-- the n components that the space has
+abbrev pub componentsIn : ℕ → Given → List ℕ
+componentsIn n g = take n (g .components)
+
+abbrev pub colourIn : List ℕ → ℕ → Given → Colour
+colourIn text n g = record { name = unitsIn text (g .name); code = g .code; components = componentsIn n g }
+
+abbrev pub bookIn : List ℕ → Shown → Tag → List Given → Book
+bookIn text h t gs = record {
+  identifier = h .identifier;
+  texts = map (unitsIn text) (h .texts);
+  size = h .size;
+  offset = h .offset;
+  space = h .space;
+  colours = map (colourIn text (componentsOf (h .space))) gs;
+  tag = t;
+}
+
+-- ---- how long the file is
+
+-- the sizes of some values together
+unfoldable pub sizes : {A : Type 0} → (A → ℕ) → List A → ℕ
+sizes f [] = 0
+sizes f (a ∷ more) = f a + sizes f more
+
+-- a count and the units
+abbrev pub stringSize : ℕ × ℕ → ℕ
+stringSize l = 4 + 2 * l .1
+
+-- name, code, n components
+abbrev pub sizeIn : ℕ → Given → ℕ
+sizeIn n g = stringSize (g .name) + (6 + n)
+
+abbrev pub tagSize : Tag → ℕ
+tagSize none = 0
+tagSize spot = 8
+tagSize process = 8
+
+-- seven numbers, and the strings
+abbrev pub headSize : Shown → ℕ
+headSize h = 16 + sizes stringSize (h .texts)
+
+-- an unknown space counts three components
+abbrev pub size : Shown → Tag → List Given → ℕ
+size h t gs = headSize h + sizes (sizeIn (componentsOf (h .space))) gs + tagSize t
+
+-- ---- which fault comes first: a number of the refusal table, 0 where there is none
+
+-- a string that runs past the lent bytes is 2; its units are not judged
+abbrev pub textFault : List ℕ → ℕ × ℕ → ℕ
+textFault text l = numberOf (body 2 (l .1) text (l .0))
+
+-- strings, number of records, page size, space
+unfoldable pub headFault : List ℕ → Shown → ℕ → ℕ
+headFault text h count =
+    firstOf (faults (textFault text) (h .texts))
+    (firstOf (pick (leb count 65535) 0 5)
+    (firstOf (pick (ltb 0 (h .size)) 0 5)
+    (pick (isSpace (h .space)) 0 4)))
+
+-- a number that a byte cannot hold is 5
+abbrev pub byteFault : ℕ → ℕ
+byteFault v = pick (leb v 255) 0 5
+
+-- name, code, n components
+unfoldable pub colourFault : List ℕ → ℕ → Given → ℕ
+colourFault text n g = firstOf (textFault text (g .name)) (firstOf (faults byteFault (g .code)) (faults byteFault (componentsIn n g)))
+
+-- first the limit, on the whole output's length; then the header; then the records in their order
+unfoldable pub fault : List ℕ → Shown → Tag → List Given → ℕ
+fault text h t gs =
+    pick (leb (size h t gs) limit)
+    (firstOf (headFault text h (length gs)) (faults (colourFault text (componentsOf (h .space))) gs))
+    1
+
+-- ---- the answer
+
+-- the exact length that writing needs, or the refusal
+abbrev pub needed : List ℕ → Shown → Tag → List Given → Outcome
+needed text h t gs = needs (fault text h t gs) (size h t gs)
+
+-- what writing does with the lent bytes
+abbrev pub written : List ℕ → Shown → Tag → List Given → List ℕ → Outcome × List ℕ
+written text h t gs out = writes (fault text h t gs) (size h t gs) (fileBytes (bookIn text h t gs)) out
