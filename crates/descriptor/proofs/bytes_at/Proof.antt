@@ -1,0 +1,39 @@
+use Rattle.descriptor.proofs.Fields.{run-short, run-is}
+use Rattle.fields.specs.Answer.{told32}
+use mathlib.Core.Path.{sym, ap, _∙_}
+use borrow.Author.Needs.{needs}
+use Rattle.descriptor.proofs.bytes_at.Statement.{statement}
+use Rattle.descriptor.proofs.bytes_at.Tie as tie
+
+u32-at-requires : tie.Need-u32-at-requires
+u32-at-requires c κs = search needs
+
+enum-known-n : tie.Need-enum-known-n
+enum-known-n c = search needs
+
+enum-told : tie.Need-enum-told
+enum-told c = search needs
+
+returns : tie.Need-returns
+returns c =
+    let call = c .before .before in
+    let a = call .before .before .args in
+    sym (run-short (a .file .now) (a .at) (sym (ap (told32 (a .at)) (c .enum-told .given .1)) ∙ call .u32-at .ensures))
+
+cast-run-at : tie.Need-cast-run-at
+cast-run-at c = search needs
+
+run-at-requires : tie.Need-run-at-requires
+run-at-requires c κs = search needs
+
+returns-2 : tie.Need-returns-2
+returns-2 c =
+    let nn = c .before .before in
+    let call = nn .before .before in
+    let a = call .before .before .args in
+    c .run-at .ensures ∙ sym (run-is (a .file .now) (a .at) _ _ (sym (ap (told32 (a .at)) (nn .n .given .1)) ∙ call .u32-at .ensures))
+
+pub bytes-at-spec : {M : Type 1} → statement M
+bytes-at-spec =
+    tie.close
+    (tie.spec u32-at-requires enum-known-n enum-told returns cast-run-at run-at-requires returns-2)

@@ -1,0 +1,54 @@
+use Rattle.descriptor.proofs.Fields.{unit-short, unit-bad, unit-is}
+use Rattle.fields.specs.Answer.{told32}
+use mathlib.Core.Path.{sym, ap, _∙_}
+use borrow.Author.Needs.{needs}
+use Rattle.descriptor.proofs.unit_double_at.Statement.{statement}
+use Rattle.descriptor.proofs.unit_double_at.Tie as tie
+
+u32-at-requires : tie.Need-u32-at-requires
+u32-at-requires c κs = search needs
+
+enum-known-unit : tie.Need-enum-known-unit
+enum-known-unit c = search needs
+
+enum-told : tie.Need-enum-told
+enum-told c = search needs
+
+returns : tie.Need-returns
+returns c =
+    let call = c .before .before in
+    let a = call .before .before .args in
+    sym (unit-short (a .file .now) (a .at) (sym (ap (told32 (a .at)) (c .enum-told .given .1)) ∙ call .u32-at .ensures))
+
+is-unit-requires : tie.Need-is-unit-requires
+is-unit-requires c κs = search needs
+
+double-at-requires : tie.Need-double-at-requires
+double-at-requires c κs = search needs
+
+returns-2 : tie.Need-returns-2
+returns-2 c =
+    let nn = c .before .before .before .before in
+    let call = nn .before .before in
+    let a = call .before .before .args in
+    c .double-at .ensures ∙ sym (unit-is (a .file .now) (a .at) (sym (ap (told32 (a .at)) (nn .unit .given .1)) ∙ call .u32-at .ensures) (sym (c .before .before .is-unit .ensures) ∙ c .before .if1 .taken))
+
+returns-3 : tie.Need-returns-3
+returns-3 c =
+    let nn = c .before .before .before in
+    let call = nn .before .before in
+    let a = call .before .before .args in
+    sym (unit-bad (a .file .now) (a .at) (sym (ap (told32 (a .at)) (nn .unit .given .1)) ∙ call .u32-at .ensures) (sym (c .before .is-unit .ensures) ∙ c .if1 .left))
+
+pub unit-double-at-spec : {M : Type 1} → statement M
+unit-double-at-spec =
+    tie.close
+    (tie.spec
+    u32-at-requires
+    enum-known-unit
+    enum-told
+    returns
+    is-unit-requires
+    double-at-requires
+    returns-2
+    returns-3)

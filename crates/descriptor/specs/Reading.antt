@@ -1,0 +1,249 @@
+-- Descriptors as they are read: what each field must be, which fault is found first, and the rows.
+use Prim.Native.Nat.{ℕ, zero, suc, _+_, _-_}
+use mathlib.Core.List.{List, [], _∷_, _++_}
+use mathlib.Core.Bool.{Bool, true, false}
+use lib.Dec.{leb, eqb}
+use lib.ListN.{length}
+use lib.Ieee.{binary64, ofBits}
+use lib.Ieee.Scale.{finite}
+use Rattle.fields.specs.Reader.{Res, ok, refuse, Reader, then, pick, field, body, rule, unless, judged, give, _>>=_, each, ended, done, limit}
+
+-- ---- tables by a tag
+
+pub data Known (A : Type 0) : Type 0 where
+  is : A → Known A
+  unknown : Known A
+
+-- what stands beside a tag
+abbrev pub beside : {A : Type 0} → List (ℕ × A) → ℕ → Known A
+beside [] t = unknown
+beside (c ∷ cs) t = pick (eqb t (c .0)) (is (c .1)) (beside cs t)
+
+-- a tag is one of a list
+abbrev pub among : List ℕ → ℕ → Bool
+among [] t = false
+among (c ∷ cs) t = pick (eqb t c) true (among cs t)
+
+-- what follows a tag at the place p that is known; one that is not is 4
+abbrev pub known : {A B : Type 0} → Known A → ℕ → (A → Res B) → Res B
+known (is a) p k = k a
+known unknown p k = refuse 4 p 0 0
+
+-- ---- fields
+
+-- only where a field ends
+abbrev pub passing : {A : Type 0} → Reader A → Reader Unit
+passing p s at = done (p s at)
+
+-- n bytes
+abbrev pub skip : ℕ → Reader Unit
+skip n = passing (body 1 n)
+
+-- an ID: a length, and that many bytes, or 4 where it is 0
+unfoldable pub id : Reader Unit
+id = do
+  n ← field 4
+  skip (pick (eqb n 0) 4 n)
+
+-- the last unit is zero, or there is none
+unfoldable pub shut : List ℕ → Bool
+shut [] = true
+shut (u ∷ []) = eqb u 0
+shut (u ∷ v ∷ us) = shut (v ∷ us)
+
+-- a Unicode string: a count and the units, 2 where they pass the end; a last unit that is not zero is 8 at the count
+unfoldable pub unicode : Reader Unit
+unicode s at = then (field 4 s at) (λ n first. then (body 2 n s first) (λ us end. rule (unless (shut us) 8) at (ok tt end)))
+
+-- a class: a Unicode string and an ID
+unfoldable pub class : Reader Unit
+class = do
+  u ← unicode
+  id
+
+-- 0 or 1, else 5
+unfoldable pub flag : Reader Unit
+flag = passing (judged 1 (λ b. unless (leb b 1) 5))
+
+-- a finite double, else 5
+unfoldable pub double : Reader Unit
+double = passing (judged 8 (λ b. unless (finite (ofBits binary64 b)) 5))
+
+-- two IDs, of the type and of the value
+unfoldable pub enumerated : Reader Unit
+enumerated = do
+  t ← id
+  id
+
+-- a length and that many bytes
+unfoldable pub run : Reader Unit
+run = do
+  n ← field 4
+  skip n
+
+-- `#Ang`, `#Rsl`, `#Rlt`, `#Nne`, `#Prc`, `#Pxl`
+abbrev pub units : List ℕ
+units = 0x2341_6e67 ∷ 0x2352_736c ∷ 0x2352_6c74 ∷ 0x234e_6e65 ∷ 0x2350_7263 ∷ 0x2350_786c ∷ []
+
+-- those of object arrays: `#Rlt`, `#Prc`, `#Pxl`
+abbrev pub arrayUnits : List ℕ
+arrayUnits = 0x2352_6c74 ∷ 0x2350_7263 ∷ 0x2350_786c ∷ []
+
+unfoldable pub isUnit : ℕ → Bool
+isUnit u = among units u
+
+unfoldable pub isArrayUnit : ℕ → Bool
+isArrayUnit u = among arrayUnits u
+
+-- a unit, else 4, and a double
+unfoldable pub unitDouble : Reader Unit
+unitDouble = do
+  u ← judged 4 (λ u. unless (isUnit u) 4)
+  double
+
+-- ---- types and forms
+
+-- what stands after an item's type: fields alone, or members
+pub data Sort : Type 0 where
+  leaf : Reader Unit → Sort
+  list object reference array : Sort
+
+-- `bool`, `type`, `GlbC`, `doub`, `enum`, `alis`, `Pth `, `tdta`, `long`, `comp`, `TEXT`, `UntF`; `VlLs`, `Objc`, `GlbO`, `obj `, `ObAr`
+abbrev pub types : List (ℕ × Sort)
+types =
+    (0x626f_6f6c, leaf flag) ∷ (0x7479_7065, leaf class) ∷ (0x476c_6243, leaf class) ∷ (0x646f_7562, leaf double) ∷ (0x656e_756d, leaf enumerated)
+    ∷ (0x616c_6973, leaf run) ∷ (0x5074_6820, leaf run) ∷ (0x7464_7461, leaf run) ∷ (0x6c6f_6e67, leaf (skip 4)) ∷ (0x636f_6d70, leaf (skip 8))
+    ∷ (0x5445_5854, leaf unicode) ∷ (0x556e_7446, leaf unitDouble)
+    ∷ (0x566c_4c73, list) ∷ (0x4f62_6a63, object) ∷ (0x476c_624f, object) ∷ (0x6f62_6a20, reference) ∷ (0x4f62_4172, array) ∷ []
+
+unfoldable pub sortOf : ℕ → Known Sort
+sortOf t = beside types t
+
+-- what stands after a reference item's class: `Clss`, `Enmr`, `prop`, `name`, `Idnt`, `indx`, `rele`
+abbrev pub forms : List (ℕ × Reader Unit)
+forms =
+    (0x436c_7373, skip 0) ∷ (0x456e_6d72, enumerated) ∷ (0x7072_6f70, id) ∷ (0x6e61_6d65, unicode) ∷ (0x4964_6e74, skip 4)
+    ∷ (0x696e_6478, skip 4) ∷ (0x7265_6c65, skip 4) ∷ []
+
+unfoldable pub formOf : ℕ → Known (Reader Unit)
+formOf t = beside forms t
+
+-- ---- rows
+
+-- a row: its kind, its parent's row number, its first byte, how many bytes it has, its depth, and the place at which its value begins
+pub record Row : Type 0 where
+  pub kind : ℕ
+  pub parent : ℕ
+  pub first : ℕ
+  pub size : ℕ
+  pub depth : ℕ
+  pub value : ℕ
+
+-- the row of a member under the row p, with d levels left below it, before the rows below it, which end where it ends
+abbrev pub headed : ℕ → ℕ → ℕ → ℕ → ℕ → Res (List Row) → Res (List Row)
+headed t d p first v m = then m (λ rs q. ok (record { kind = t; parent = p; first = first; size = q - first; depth = 32 - d; value = v } ∷ rs) q)
+
+-- fields with no member among them
+abbrev pub plain : Reader Unit → Reader (List Row)
+plain p = do
+  u ← p
+  give []
+
+-- n members one after the other, the first with row number k; f reads one, given its row number
+unfoldable pub siblings : (ℕ → Reader (List Row)) → ℕ → ℕ → Reader (List Row)
+siblings f zero k s at = ok [] at
+siblings f (suc n) k s at = then (f k s at) (λ rs q. then (siblings f n (k + length rs) s q) (λ qs e. ok (rs ++ qs) e))
+
+-- a count and that many children of the row k
+unfoldable pub children : (ℕ → Reader (List Row)) → ℕ → Reader (List Row)
+children f k = do
+  n ← field 4
+  siblings f n (k + 1)
+
+-- ---- references. In each reader of members the first number is the levels left: with none, a child is 10 at its first byte, before any of it is read
+
+-- after the form: a class, and the form's value
+unfoldable pub refValue : Reader Unit → Reader Unit
+refValue r = do
+  c ← class
+  r
+
+-- the reference item with row number k under the row p
+unfoldable pub refItem : ℕ → ℕ → ℕ → Reader (List Row)
+refItem zero p k s at = refuse 10 at 0 0
+refItem (suc d) p k s at = then (field 4 s at) (λ t v. known (formOf t) at (λ r. headed t d p at v (plain (refValue r) s v)))
+
+-- the items of the reference with row number k
+abbrev pub referenceOf : ℕ → ℕ → Reader (List Row)
+referenceOf d k = children (refItem d k) k
+
+-- ---- object arrays
+
+-- after `UnFl`: a unit, else 4, and as many doubles as there are objects, m; another count is 5
+unfoldable pub column : ℕ → Reader Unit
+column m = do
+  u ← judged 4 (λ u. unless (isArrayUnit u) 4)
+  n ← judged 4 (λ n. unless (eqb n m) 5)
+  passing (each n 0 (λ i. double))
+
+-- a key, `UnFl`, else 4, and its column
+unfoldable pub arrayPair : ℕ → ℕ → ℕ → ℕ → Reader (List Row)
+arrayPair m zero p k s at = refuse 10 at 0 0
+arrayPair m (suc d) p k s at =
+    then (id s at) (λ u e.
+    then (judged 4 (λ t. unless (eqb t 0x556e_466c) 4) s e) (λ t v.
+    headed t d p at v (plain (column m) s v)))
+
+-- the number of objects, a class, and the pairs
+unfoldable pub arrayOf : ℕ → ℕ → Reader (List Row)
+arrayOf d k = do
+  m ← field 4
+  c ← class
+  children (arrayPair m d k) k
+
+-- ---- items. A reader of items takes the parent's row number, the row's own and the row's first byte, which in a pair is the key's
+
+-- a key and an item
+unfoldable pub keyed : (ℕ → ℕ → ℕ → Reader (List Row)) → ℕ → ℕ → ℕ → Reader (List Row)
+keyed f zero p k s at = refuse 10 at 0 0
+keyed f (suc d) p k s at = then (id s at) (λ u e. f p k at s e)
+
+abbrev pub listOf : (ℕ → ℕ → ℕ → Reader (List Row)) → ℕ → Reader (List Row)
+listOf f k = children (λ j s q. f k j q s q) k
+
+-- a class and the pairs
+unfoldable pub objectOf : (ℕ → ℕ → ℕ → Reader (List Row)) → ℕ → ℕ → Reader (List Row)
+objectOf f d k = do
+  c ← class
+  children (keyed f d k) k
+
+-- what follows the type of the row k, with d levels left below it; f reads an item below
+abbrev pub valueOf : (ℕ → ℕ → ℕ → Reader (List Row)) → ℕ → ℕ → Sort → Reader (List Row)
+valueOf f d k (leaf p) = plain p
+valueOf f d k list = listOf f k
+valueOf f d k object = objectOf f d k
+valueOf f d k reference = referenceOf d k
+valueOf f d k array = arrayOf d k
+
+unfoldable pub item : ℕ → ℕ → ℕ → ℕ → Reader (List Row)
+item zero p k first s at = refuse 10 first 0 0
+item (suc d) p k first s at = then (field 4 s at) (λ t v. known (sortOf t) at (λ sort. headed t d p first v (valueOf (item d) d k sort s v)))
+
+-- a key and an item, with as many levels left
+abbrev pub pair : ℕ → ℕ → ℕ → Reader (List Row)
+pair d p k = keyed (item d) d p k
+
+-- ---- the file
+
+-- version 16, else 3, and an object of which all 32 levels are left
+unfoldable pub root : Reader (List Row)
+root s at = then (judged 4 (λ v. unless (eqb v 16) 3) s at) (λ v e. headed 0x4f62_6a63 32 0 at e (objectOf (item 32) 32 0 s e))
+
+unfoldable pub whole : Reader (List Row)
+whole = do
+  rs ← root
+  ended rs
+
+-- a whole file; 1 where it is longer than the limit
+unfoldable pub descriptor : List ℕ → Res (List Row)
+descriptor s = pick (leb (length s) limit) (whole s 0) (refuse 1 0 0 0)

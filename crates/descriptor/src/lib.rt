@@ -1,0 +1,368 @@
+// Descriptors: the layout, and its fields at a place of a file.
+//
+// Each reader takes any place, and answers where its field ends, or a refusal.
+ghost use mathlib.Core.Path.{_≡_};
+ghost use Prim.Native.Nat.{_+_, _*_, _≤_, _<_};
+ghost use lib.Dec.{eqb};
+ghost use lib.ListN.{length};
+ghost use Rattle.fields.specs.Numbers.{num};
+ghost use Rattle.fields.specs.Answer.{toldStep};
+ghost use lib.Ieee.{binary64, ofBits};
+ghost use lib.Ieee.Scale.{finite};
+ghost use Rattle.fields.specs.Reader.{done, each};
+ghost use Rattle.descriptor.specs.Reading.{id, unicode, class, flag, double, enumerated, run, isUnit, isArrayUnit, unitDouble, sortOf, formOf, refValue, column};
+ghost use Rattle.descriptor.specs.Answer.{endOf, begun, known, readerOf, counted};
+use fields::Number8;
+use fields::Number32;
+use fields::Number64;
+use fields::Step;
+
+// The types of an item.
+pub const BOOL: u32 = 0x626f_6f6c;
+
+pub const CLASS: u32 = 0x7479_7065;
+
+pub const GLOBAL_CLASS: u32 = 0x476c_6243;
+
+pub const DOUBLE: u32 = 0x646f_7562;
+
+pub const ENUMERATED: u32 = 0x656e_756d;
+
+pub const ALIAS: u32 = 0x616c_6973;
+
+pub const PATH: u32 = 0x5074_6820;
+
+pub const RAW: u32 = 0x7464_7461;
+
+pub const LONG: u32 = 0x6c6f_6e67;
+
+pub const COMP: u32 = 0x636f_6d70;
+
+pub const TEXT: u32 = 0x5445_5854;
+
+pub const UNIT_DOUBLE: u32 = 0x556e_7446;
+
+pub const LIST: u32 = 0x566c_4c73;
+
+pub const OBJECT: u32 = 0x4f62_6a63;
+
+pub const GLOBAL_OBJECT: u32 = 0x476c_624f;
+
+pub const REFERENCE: u32 = 0x6f62_6a20;
+
+pub const ARRAY: u32 = 0x4f62_4172;
+
+// The type in an object array's pair: `UnFl`.
+pub const COLUMN: u32 = 0x556e_466c;
+
+// The forms of a reference item: `Clss`, `Enmr`, `prop`, `name`, `Idnt`, `indx`, `rele`.
+const FORM_CLASS: u32 = 0x436c_7373;
+
+const FORM_ENUMERATED: u32 = 0x456e_6d72;
+
+const FORM_PROPERTY: u32 = 0x7072_6f70;
+
+const FORM_NAME: u32 = 0x6e61_6d65;
+
+const FORM_IDENTIFIER: u32 = 0x4964_6e74;
+
+const FORM_INDEX: u32 = 0x696e_6478;
+
+const FORM_OFFSET: u32 = 0x7265_6c65;
+
+// The six units: `#Ang`, `#Rsl`, `#Rlt`, `#Nne`, `#Prc`, `#Pxl`.
+pub const ANGLE: u32 = 0x2341_6e67;
+
+pub const DENSITY: u32 = 0x2352_736c;
+
+pub const DISTANCE: u32 = 0x2352_6c74;
+
+pub const NONE: u32 = 0x234e_6e65;
+
+pub const PERCENT: u32 = 0x2350_7263;
+
+pub const PIXELS: u32 = 0x2350_786c;
+
+// What stands after an item's type: fields alone, with their end, or members; or a refusal.
+pub enum Value {
+    Ends(usize),
+    List,
+    Object,
+    Reference,
+    Array,
+    Unknown,
+    Refused(u32, usize),
+}
+
+// What stands after a reference item's class.
+pub enum Form {
+    Nothing,
+    Enumerated,
+    Id,
+    Text,
+    Long,
+}
+
+pub enum KnownForm {
+    Is(Form),
+    Unknown,
+}
+
+// The bits of infinity, and of minus zero.
+const INFINITY: u64 = 0x7ff0_0000_0000_0000;
+
+const MINUS_ZERO: u64 = 0x8000_0000_0000_0000;
+
+// An ID: a length, and that many bytes, or 4 where it is 0.
+pub fn id_at(file: &[u8], at: usize) -> Step
+    ensures { λ r. ⌜ toldStep r ≡ id (now (file .entry)) at ⌝ }
+{
+    let Number32::Is(n, body) = fields::u32_at(file, at) else {
+        return Step::Refused(2, at);
+    };
+    if n == 0 {
+        return fields::run_at(file, body, 4);
+    }
+    fields::run_at(file, body, n as usize)
+}
+
+// A Unicode string: a count and the units, of which only the last is looked at.
+pub fn unicode_at(file: &[u8], at: usize) -> Step
+    ensures { λ r. ⌜ toldStep r ≡ unicode (now (file .entry)) at ⌝ }
+{
+    let Number32::Is(n, first) = fields::u32_at(file, at) else {
+        return Step::Refused(2, at);
+    };
+    if n == 0 {
+        return Step::Next(first);
+    }
+    let k = 2 * (n as usize);
+    if file.len() - first < k {
+        return Step::Refused(2, first);
+    }
+    if fields::u16_or_zero(file, first + k - 2) != 0 {
+        return Step::Refused(8, at);
+    }
+    Step::Next(first + k)
+}
+
+// A class: a Unicode string and an ID.
+pub fn class_at(file: &[u8], at: usize) -> Step
+    ensures { λ r. ⌜ toldStep r ≡ class (now (file .entry)) at ⌝ }
+{
+    match unicode_at(file, at) {
+        Step::Refused(x, p) => Step::Refused(x, p),
+        Step::Next(next) => id_at(file, next),
+    }
+}
+
+// Two IDs.
+pub fn enumerated_at(file: &[u8], at: usize) -> Step
+    ensures { λ r. ⌜ toldStep r ≡ enumerated (now (file .entry)) at ⌝ }
+{
+    match id_at(file, at) {
+        Step::Refused(x, p) => Step::Refused(x, p),
+        Step::Next(next) => id_at(file, next),
+    }
+}
+
+// A length and that many bytes.
+pub fn bytes_at(file: &[u8], at: usize) -> Step
+    ensures { λ r. ⌜ toldStep r ≡ run (now (file .entry)) at ⌝ }
+{
+    let Number32::Is(n, body) = fields::u32_at(file, at) else {
+        return Step::Refused(2, at);
+    };
+    fields::run_at(file, body, n as usize)
+}
+
+// Whether a tag is one of the six units.
+pub fn is_unit(tag: u32) -> bool
+    ensures { λ r. ⌜ r ≡ isUnit tag ⌝ }
+{
+    match tag {
+        ANGLE => true,
+        DENSITY => true,
+        DISTANCE => true,
+        NONE => true,
+        PERCENT => true,
+        PIXELS => true,
+        _ => false,
+    }
+}
+
+// Whether a tag is one of the three units of object arrays.
+pub fn is_array_unit(tag: u32) -> bool
+    ensures { λ r. ⌜ r ≡ isArrayUnit tag ⌝ }
+{
+    match tag {
+        DISTANCE => true,
+        PERCENT => true,
+        PIXELS => true,
+        _ => false,
+    }
+}
+
+// A `bool`: 0 or 1.
+pub fn flag_at(file: &[u8], at: usize) -> Step
+    ensures { λ r. ⌜ toldStep r ≡ flag (now (file .entry)) at ⌝ }
+{
+    let Number8::Is(v, next) = fields::u8_at(file, at) else {
+        return Step::Refused(2, at);
+    };
+    if 1 < v {
+        return Step::Refused(5, at);
+    }
+    Step::Next(next)
+}
+
+// Whether the double with these bits is finite.
+fn is_finite(bits: u64) -> bool
+    ensures { λ r. ⌜ r ≡ finite (ofBits binary64 bits) ⌝ }
+{
+    bits % MINUS_ZERO < INFINITY
+}
+
+// A finite double.
+pub fn double_at(file: &[u8], at: usize) -> Step
+    ensures { λ r. ⌜ toldStep r ≡ double (now (file .entry)) at ⌝ }
+{
+    let Number64::Is(bits, next) = fields::u64_at(file, at) else {
+        return Step::Refused(2, at);
+    };
+    if is_finite(bits) {
+        return Step::Next(next);
+    }
+    Step::Refused(5, at)
+}
+
+// A unit and a double.
+pub fn unit_double_at(file: &[u8], at: usize) -> Step
+    ensures { λ r. ⌜ toldStep r ≡ unitDouble (now (file .entry)) at ⌝ }
+{
+    let Number32::Is(unit, next) = fields::u32_at(file, at) else {
+        return Step::Refused(2, at);
+    };
+    if is_unit(unit) {
+        return double_at(file, next);
+    }
+    Step::Refused(4, at)
+}
+
+// A field's end as the end of a value.
+fn ending(step: Step) -> Value
+    ensures { λ r. ⌜ r ≡ endOf (toldStep step) ⌝ }
+{
+    match step {
+        Step::Next(next) => Value::Ends(next),
+        Step::Refused(x, p) => Value::Refused(x, p),
+    }
+}
+
+// What stands at `at`, after an item's type: fields alone are read to their end.
+pub fn begin(file: &[u8], kind: u32, at: usize) -> Value
+    ensures { λ r. ⌜ r ≡ begun (sortOf kind) (now (file .entry)) at ⌝ }
+{
+    match kind {
+        BOOL => ending(flag_at(file, at)),
+        CLASS | GLOBAL_CLASS => ending(class_at(file, at)),
+        DOUBLE => ending(double_at(file, at)),
+        ENUMERATED => ending(enumerated_at(file, at)),
+        ALIAS | PATH | RAW => ending(bytes_at(file, at)),
+        LONG => ending(fields::run_at(file, at, 4)),
+        COMP => ending(fields::run_at(file, at, 8)),
+        TEXT => ending(unicode_at(file, at)),
+        UNIT_DOUBLE => ending(unit_double_at(file, at)),
+        LIST => Value::List,
+        OBJECT | GLOBAL_OBJECT => Value::Object,
+        REFERENCE => Value::Reference,
+        ARRAY => Value::Array,
+        _ => Value::Unknown,
+    }
+}
+
+// ---- reference items
+
+pub fn form_of(kind: u32) -> KnownForm
+    ensures { λ r. ⌜ known r ≡ formOf kind ⌝ }
+{
+    match kind {
+        FORM_CLASS => KnownForm::Is(Form::Nothing),
+        FORM_ENUMERATED => KnownForm::Is(Form::Enumerated),
+        FORM_PROPERTY => KnownForm::Is(Form::Id),
+        FORM_NAME => KnownForm::Is(Form::Text),
+        FORM_IDENTIFIER | FORM_INDEX | FORM_OFFSET => KnownForm::Is(Form::Long),
+        _ => KnownForm::Unknown,
+    }
+}
+
+// What stands after a reference item's class.
+fn form_at(file: &[u8], form: Form, at: usize) -> Step
+    ensures { λ r. ⌜ toldStep r ≡ readerOf form (now (file .entry)) at ⌝ }
+{
+    match form {
+        Form::Nothing => fields::run_at(file, at, 0),
+        Form::Enumerated => enumerated_at(file, at),
+        Form::Id => id_at(file, at),
+        Form::Text => unicode_at(file, at),
+        Form::Long => fields::run_at(file, at, 4),
+    }
+}
+
+// What stands after a reference item's form: a class, and what the form says.
+pub fn ref_value_at(file: &[u8], form: Form, at: usize) -> Step
+    ensures { λ r. ⌜ toldStep r ≡ refValue (readerOf form) (now (file .entry)) at ⌝ }
+{
+    match class_at(file, at) {
+        Step::Refused(x, p) => Step::Refused(x, p),
+        Step::Next(next) => form_at(file, form, next),
+    }
+}
+
+// ---- object arrays
+
+// n doubles.
+fn doubles_at(file: &[u8], at: usize, n: u32) -> Step
+    ensures { λ r. ⌜ toldStep r ≡ done (each n 0 (λ i. double) (now (file .entry)) at) ⌝ }
+{
+    let mut p = at;
+    let mut i: u32 = 0;
+    while i < n {
+        match double_at(file, p) {
+            Step::Refused(x, q) => {
+                return Step::Refused(x, q);
+            }
+            Step::Next(next) => {
+                p = next;
+            }
+        }
+        i += 1;
+    }
+    Step::Next(p)
+}
+
+// As many doubles as there are objects, after their count.
+fn counted_at(file: &[u8], objects: u32, at: usize) -> Step
+    ensures { λ r. ⌜ toldStep r ≡ counted objects (now (file .entry)) at ⌝ }
+{
+    let Number32::Is(n, next) = fields::u32_at(file, at) else {
+        return Step::Refused(2, at);
+    };
+    if n == objects {
+        return doubles_at(file, next, n);
+    }
+    Step::Refused(5, at)
+}
+
+// What stands after `UnFl`: a unit, and as many doubles as there are objects.
+pub fn column_at(file: &[u8], objects: u32, at: usize) -> Step
+    ensures { λ r. ⌜ toldStep r ≡ column objects (now (file .entry)) at ⌝ }
+{
+    let Number32::Is(unit, next) = fields::u32_at(file, at) else {
+        return Step::Refused(2, at);
+    };
+    if is_array_unit(unit) {
+        return counted_at(file, objects, next);
+    }
+    Step::Refused(4, at)
+}

@@ -1,0 +1,37 @@
+use Rattle.descriptor_read.proofs.Whole.{too-long, of-walk}
+use Rattle.descriptor_read.specs.Answer.{verdict}
+use mathlib.Core.Path.{sym, ap, _∙_}
+use borrow.Author.Needs.{needs}
+use Rattle.descriptor_read.proofs.judge.Statement.{statement}
+use Rattle.descriptor_read.proofs.judge.Tie as tie
+
+returns : tie.Need-returns
+returns c =
+    sym (ap verdict (too-long (c .before .before .args .file .now) (c .if1 .taken)))
+
+array-borrow-prefix-none : tie.Need-array-borrow-prefix-none
+array-borrow-prefix-none c = search needs
+
+slice-aggregate-root : tie.Need-slice-aggregate-root
+slice-aggregate-root c = search needs
+
+root-requires : tie.Need-root-requires
+root-requires c κs = search needs
+
+ended-requires : tie.Need-ended-requires
+ended-requires c κs = search needs
+
+returns-2 : tie.Need-returns-2
+returns-2 c =
+    c .ended .ensures ∙ of-walk (c .before .before .before .before .before .before .args .file .now) _ (c .before .before .before .before .if1 .left) (c .before .before .root .ensures .answer)
+
+pub judge-spec : {M : Type 1} → statement M
+judge-spec =
+    tie.close
+    (tie.spec
+    returns
+    array-borrow-prefix-none
+    slice-aggregate-root
+    root-requires
+    ended-requires
+    returns-2)

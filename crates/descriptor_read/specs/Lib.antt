@@ -1,0 +1,5 @@
+pub mod Table
+pub mod Answer
+pub mod Values
+pub mod Filled
+pub mod Typed

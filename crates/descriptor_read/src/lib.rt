@@ -1,0 +1,594 @@
+// Descriptors into a lent table, and the value of one row.
+//
+// The readers of item, list, object and pair call each other in a cycle while the remaining bytes
+// fall. Siblings are read in loops, so that the stack grows with the nesting alone, and that stops
+// at 32. A row is written after those below it, where the table has room: a first reading, over no
+// table, judges and counts; a second one fills.
+ghost use mathlib.Core.Path.{_≡_};
+ghost use Prim.Native.Nat.{_+_, _-_, _/_, _≤_, _<_};
+ghost use lib.Dec.{eqb};
+ghost use lib.ListN.{length};
+ghost use lib.Ieee.{binary64, ofBits};
+ghost use lib.Ieee.Scale.{finite};
+ghost use mathlib.Core.Bool.{true};
+ghost use Rattle.fields.specs.Numbers.{num};
+ghost use Rattle.fields.specs.Reader.{field, orZero};
+ghost use Rattle.descriptor.specs.Leaves.{Leafed};
+ghost use Rattle.descriptor.specs.Reading.{headed, children, refItem, referenceOf, arrayPair, arrayOf, item, pair, listOf, objectOf, root, descriptor};
+ghost use Rattle.descriptor_read.specs.Table.{putRow, Done, Within, Inside};
+ghost use Rattle.descriptor_read.specs.Answer.{verdict, told, closing};
+ghost use Rattle.descriptor_read.specs.Filled.{filled, rowsIn};
+ghost use Rattle.descriptor_read.specs.Values.{rowIn, extentOf, toldExtent, placeOf, toldValue, valueIn};
+ghost use Rattle.descriptor_read.specs.Typed.{typedIn, typedOf};
+use descriptor::BOOL;
+use descriptor::COMP;
+use descriptor::DOUBLE;
+use descriptor::KnownForm;
+use descriptor::LONG;
+use descriptor::UNIT_DOUBLE;
+use descriptor::Value;
+use fields::Number8;
+use fields::Number32;
+use fields::Step;
+
+// The longest file that is read.
+pub const LIMIT: usize = 16777216;
+
+// How many numbers a row has in a table: kind, parent, first byte, length, depth.
+pub const WIDTH: usize = 5;
+
+// How many rows a file has, or a refusal.
+pub enum Answer {
+    Accepted { rows: usize },
+    Refused { number: u32, place: usize },
+}
+
+// Where a row's value lies: its first byte and its length; or a refusal.
+pub enum ValueAt {
+    Is { first: usize, length: usize },
+    Refused { number: u32, place: usize },
+}
+
+// A row's value by its kind: a `bool`; the bits of a `long` and of a `comp`; a `doub`; the unit and the
+// double of an `UntF`. Rows of other kinds have none. Or a refusal.
+pub enum Typed {
+    Bool(bool),
+    Long(u32),
+    Comp(u64),
+    Double(f64),
+    UnitDouble(u32, f64),
+    Other,
+    Refused { number: u32, place: usize },
+}
+
+// A row's kind, and its value's first byte and length; or a refusal.
+enum Extent {
+    Is(u32, usize, usize),
+    Refused(u32, usize),
+}
+
+// The next place and the next row's number; or a refusal.
+enum Walk {
+    Next(usize, usize),
+    Refused(u32, usize),
+}
+
+// The row of a member that ends at `end`, with `left` levels below it, where the table has room for
+// it. With `only` 0 every row is written; else only the row `only` - 1, by its kind, where its value
+// begins, and its value's length.
+fn put_row(
+    table: &mut [u32],
+    only: usize,
+    row: usize,
+    kind: u32,
+    parent: usize,
+    first: usize,
+    end: usize,
+    left: usize,
+    value: usize,
+)
+    requires { ⌜ (row ≤ 16777216) × (parent ≤ row) × (first ≤ value) × (value ≤ end) × (end ≤ 16777216) × (left ≤ 32) ⌝ }
+    ensures { λ _. ⌜ now (table .exit) ≡ putRow only (now (table .entry)) row (record { kind = kind; parent = parent; first = first; size = end - first; depth = 32 - left; value = value }) ⌝ }
+{
+    if only == 0 {
+        let b = 5 * row;
+        if b + 5 <= table.len() {
+            table[b] = kind;
+            table[b + 1] = parent as u32;
+            table[b + 2] = first as u32;
+            table[b + 3] = (end - first) as u32;
+            table[b + 4] = (32 - left) as u32;
+        }
+        return;
+    }
+    if row == only - 1 {
+        if 3 <= table.len() {
+            table[0] = kind;
+            table[1] = value as u32;
+            table[2] = (end - value) as u32;
+        }
+    }
+}
+
+// The reference item at `at`.
+fn ref_item(
+    file: &[u8],
+    table: &mut [u32],
+    only: usize,
+    left: usize,
+    parent: usize,
+    row: usize,
+    at: usize,
+) -> Walk
+    requires { ⌜ Within (now file) left parent row at at ⌝ }
+    ensures { λ r. ⌜ Done r only (now (table .entry)) (now (table .exit)) row (refItem left parent row (now (file .entry)) at) ⌝ }
+{
+    if left == 0 {
+        return Walk::Refused(10, at);
+    }
+    let Number32::Is(kind, value) = fields::u32_at(file, at) else {
+        return Walk::Refused(2, at);
+    };
+    let KnownForm::Is(form) = descriptor::form_of(kind) else {
+        return Walk::Refused(4, at);
+    };
+    match descriptor::ref_value_at(file, form, value) {
+        Step::Refused(x, p) => Walk::Refused(x, p),
+        Step::Next(end) => {
+            put_row(table, only, row, kind, parent, at, end, left - 1, value);
+            Walk::Next(end, row + 1)
+        }
+    }
+}
+
+// The pair of an object array at `at`.
+fn array_pair(
+    file: &[u8],
+    table: &mut [u32],
+    only: usize,
+    objects: u32,
+    left: usize,
+    parent: usize,
+    row: usize,
+    at: usize,
+) -> Walk
+    requires { ⌜ Within (now file) left parent row at at ⌝ }
+    ensures { λ r. ⌜ Done r only (now (table .entry)) (now (table .exit)) row (arrayPair objects left parent row (now (file .entry)) at) ⌝ }
+{
+    if left == 0 {
+        return Walk::Refused(10, at);
+    }
+    match descriptor::id_at(file, at) {
+        Step::Refused(x, p) => Walk::Refused(x, p),
+        Step::Next(key) => {
+            let Number32::Is(kind, value) = fields::u32_at(file, key) else {
+                return Walk::Refused(2, key);
+            };
+            if kind != descriptor::COLUMN {
+                return Walk::Refused(4, key);
+            }
+            match descriptor::column_at(file, objects, value) {
+                Step::Refused(x, p) => Walk::Refused(x, p),
+                Step::Next(end) => {
+                    put_row(table, only, row, kind, parent, at, end, left - 1, value);
+                    Walk::Next(end, row + 1)
+                }
+            }
+        }
+    }
+}
+
+// ---- members in loops, from their count on: the row is the one that they stand under
+
+// The reference with the row `row`, from its count on.
+fn reference(
+    file: &[u8],
+    table: &mut [u32],
+    only: usize,
+    kind: u32,
+    left: usize,
+    parent: usize,
+    row: usize,
+    first: usize,
+    at: usize,
+) -> Walk
+    requires { ⌜ Inside (now file) left parent row first at ⌝ }
+    ensures { λ r. ⌜ Done r only (now (table .entry)) (now (table .exit)) row (headed kind left parent first at (referenceOf left row (now (file .entry)) at)) ⌝ }
+{
+    let Number32::Is(n, from) = fields::u32_at(file, at) else {
+        return Walk::Refused(2, at);
+    };
+    let mut next = from;
+    let mut child = row + 1;
+    let mut i: u32 = 0;
+    while i < n {
+        match ref_item(file, table, only, left, row, child, next) {
+            Walk::Refused(x, p) => {
+                return Walk::Refused(x, p);
+            }
+            Walk::Next(q, k) => {
+                next = q;
+                child = k;
+            }
+        }
+        i += 1;
+    }
+    put_row(table, only, row, kind, parent, first, next, left, at);
+    Walk::Next(next, child)
+}
+
+// The pairs of an object array, from their count on; `value` is where its value begins.
+fn array_pairs(
+    file: &[u8],
+    table: &mut [u32],
+    only: usize,
+    kind: u32,
+    objects: u32,
+    left: usize,
+    parent: usize,
+    row: usize,
+    first: usize,
+    value: usize,
+    at: usize,
+) -> Walk
+    requires { ⌜ (Inside (now file) left parent row first value) × (value ≤ at) × (at ≤ length (now file)) ⌝ }
+    ensures { λ r. ⌜ Done r only (now (table .entry)) (now (table .exit)) row (headed kind left parent first value (children (arrayPair objects left row) row (now (file .entry)) at)) ⌝ }
+{
+    let Number32::Is(n, from) = fields::u32_at(file, at) else {
+        return Walk::Refused(2, at);
+    };
+    let mut next = from;
+    let mut child = row + 1;
+    let mut i: u32 = 0;
+    while i < n {
+        match array_pair(file, table, only, objects, left, row, child, next) {
+            Walk::Refused(x, p) => {
+                return Walk::Refused(x, p);
+            }
+            Walk::Next(q, k) => {
+                next = q;
+                child = k;
+            }
+        }
+        i += 1;
+    }
+    put_row(table, only, row, kind, parent, first, next, left, value);
+    Walk::Next(next, child)
+}
+
+// The object array with the row `row`, from its number of objects on.
+fn array(
+    file: &[u8],
+    table: &mut [u32],
+    only: usize,
+    kind: u32,
+    left: usize,
+    parent: usize,
+    row: usize,
+    first: usize,
+    at: usize,
+) -> Walk
+    requires { ⌜ Inside (now file) left parent row first at ⌝ }
+    ensures { λ r. ⌜ Done r only (now (table .entry)) (now (table .exit)) row (headed kind left parent first at (arrayOf left row (now (file .entry)) at)) ⌝ }
+{
+    let Number32::Is(objects, class) = fields::u32_at(file, at) else {
+        return Walk::Refused(2, at);
+    };
+    match descriptor::class_at(file, class) {
+        Step::Refused(x, p) => Walk::Refused(x, p),
+        Step::Next(pairs) => array_pairs(
+            file,
+            table,
+            only,
+            kind,
+            objects,
+            left,
+            parent,
+            row,
+            first,
+            at,
+            pairs,
+        ),
+    }
+}
+
+// ---- the cycle
+
+// The item at `at`, whose row starts at `first`: at its key in a pair, else at its own first byte.
+fn item(
+    file: &[u8],
+    table: &mut [u32],
+    only: usize,
+    left: usize,
+    parent: usize,
+    row: usize,
+    first: usize,
+    at: usize,
+) -> Walk
+    requires { ⌜ Within (now file) left parent row first at ⌝ }
+    ensures { λ r. ⌜ Done r only (now (table .entry)) (now (table .exit)) row (item left parent row first (now (file .entry)) at) ⌝ }
+{
+    if left == 0 {
+        return Walk::Refused(10, first);
+    }
+    let Number32::Is(kind, value) = fields::u32_at(file, at) else {
+        return Walk::Refused(2, at);
+    };
+    match descriptor::begin(file, kind, value) {
+        Value::Ends(end) => {
+            put_row(table, only, row, kind, parent, first, end, left - 1, value);
+            Walk::Next(end, row + 1)
+        }
+        Value::List => list(file, table, only, kind, left - 1, parent, row, first, value),
+        Value::Object => object(file, table, only, kind, left - 1, parent, row, first, value),
+        Value::Reference => reference(file, table, only, kind, left - 1, parent, row, first, value),
+        Value::Array => array(file, table, only, kind, left - 1, parent, row, first, value),
+        Value::Unknown => Walk::Refused(4, at),
+        Value::Refused(x, p) => Walk::Refused(x, p),
+    }
+}
+
+// The list with the row `row`, from its count on.
+fn list(
+    file: &[u8],
+    table: &mut [u32],
+    only: usize,
+    kind: u32,
+    left: usize,
+    parent: usize,
+    row: usize,
+    first: usize,
+    at: usize,
+) -> Walk
+    requires { ⌜ Inside (now file) left parent row first at ⌝ }
+    ensures { λ r. ⌜ Done r only (now (table .entry)) (now (table .exit)) row (headed kind left parent first at (listOf (item left) row (now (file .entry)) at)) ⌝ }
+{
+    let Number32::Is(n, from) = fields::u32_at(file, at) else {
+        return Walk::Refused(2, at);
+    };
+    let mut next = from;
+    let mut child = row + 1;
+    let mut i: u32 = 0;
+    while i < n {
+        match item(file, table, only, left, row, child, next, next) {
+            Walk::Refused(x, p) => {
+                return Walk::Refused(x, p);
+            }
+            Walk::Next(q, k) => {
+                next = q;
+                child = k;
+            }
+        }
+        i += 1;
+    }
+    put_row(table, only, row, kind, parent, first, next, left, at);
+    Walk::Next(next, child)
+}
+
+// The object with the row `row`, from its class on.
+fn object(
+    file: &[u8],
+    table: &mut [u32],
+    only: usize,
+    kind: u32,
+    left: usize,
+    parent: usize,
+    row: usize,
+    first: usize,
+    at: usize,
+) -> Walk
+    requires { ⌜ Inside (now file) left parent row first at ⌝ }
+    ensures { λ r. ⌜ Done r only (now (table .entry)) (now (table .exit)) row (headed kind left parent first at (objectOf (item left) left row (now (file .entry)) at)) ⌝ }
+{
+    match descriptor::class_at(file, at) {
+        Step::Refused(x, p) => Walk::Refused(x, p),
+        Step::Next(count) => {
+            let Number32::Is(n, from) = fields::u32_at(file, count) else {
+                return Walk::Refused(2, count);
+            };
+            let mut next = from;
+            let mut child = row + 1;
+            let mut i: u32 = 0;
+            while i < n {
+                match pair(file, table, only, left, row, child, next) {
+                    Walk::Refused(x, p) => {
+                        return Walk::Refused(x, p);
+                    }
+                    Walk::Next(q, k) => {
+                        next = q;
+                        child = k;
+                    }
+                }
+                i += 1;
+            }
+            put_row(table, only, row, kind, parent, first, next, left, at);
+            Walk::Next(next, child)
+        }
+    }
+}
+
+// A key and an item.
+fn pair(
+    file: &[u8],
+    table: &mut [u32],
+    only: usize,
+    left: usize,
+    parent: usize,
+    row: usize,
+    at: usize,
+) -> Walk
+    requires { ⌜ Within (now file) left parent row at at ⌝ }
+    ensures { λ r. ⌜ Done r only (now (table .entry)) (now (table .exit)) row (pair left parent row (now (file .entry)) at) ⌝ }
+{
+    if left == 0 {
+        return Walk::Refused(10, at);
+    }
+    match descriptor::id_at(file, at) {
+        Step::Refused(x, p) => Walk::Refused(x, p),
+        Step::Next(next) => item(file, table, only, left, parent, row, at, next),
+    }
+}
+
+// ---- the file
+
+// Version 16, and the root object.
+fn root(file: &[u8], table: &mut [u32], only: usize) -> Walk
+    requires { ⌜ length (now file) ≤ 16777216 ⌝ }
+    ensures { λ r. ⌜ Done r only (now (table .entry)) (now (table .exit)) 0 (root (now (file .entry)) 0) ⌝ }
+{
+    let Number32::Is(version, value) = fields::u32_at(file, 0) else {
+        return Walk::Refused(2, 0);
+    };
+    if version != 16 {
+        return Walk::Refused(3, 0);
+    }
+    object(file, table, only, descriptor::OBJECT, 32, 0, 0, 0, value)
+}
+
+// What is answered of a file of `length` bytes.
+fn ended(walk: Walk, length: usize) -> Answer
+    ensures { λ r. ⌜ told r ≡ closing length walk ⌝ }
+{
+    match walk {
+        Walk::Refused(number, place) => Answer::Refused { number, place },
+        Walk::Next(end, rows) => {
+            if end != length {
+                return Answer::Refused {
+                    number: 6,
+                    place: end,
+                };
+            }
+            Answer::Accepted { rows }
+        }
+    }
+}
+
+// How many rows a file has, or the refusal.
+pub fn judge(file: &[u8]) -> Answer
+    ensures { λ r. ⌜ told r ≡ verdict (descriptor (now (file .entry))) ⌝ }
+{
+    if LIMIT < file.len() {
+        return Answer::Refused {
+            number: 1,
+            place: 0,
+        };
+    }
+    let mut none = [0u32; 1];
+    let walk = root(file, &mut none[..0], 0);
+    ended(walk, file.len())
+}
+
+// Reads a file into the table, five numbers a row: how many rows it has, or the refusal, which
+// changes nothing; 11 where the table has room for fewer. Past the rows the table keeps its contents.
+pub fn read(file: &[u8], table: &mut [u32]) -> Answer
+    ensures { λ r. ⌜ ((told r, now (table .exit)) ≡ filled (descriptor (now (file .entry))) (now (table .entry))) × (rowsIn (told r) ≤ length (now (file .entry)) / 5) ⌝ }
+{
+    match judge(file) {
+        Answer::Refused { number, place } => Answer::Refused { number, place },
+        Answer::Accepted { rows } => {
+            if table.len() < WIDTH * rows {
+                return Answer::Refused {
+                    number: 11,
+                    place: 0,
+                };
+            }
+            root(file, table, 0);
+            Answer::Accepted { rows }
+        }
+    }
+}
+
+// ---- one row
+
+fn wide(x: u32) -> usize
+    ensures { λ r. ⌜ r ≡ x ⌝ }
+{
+    x as usize
+}
+
+// The kind of a row, and where its value lies.
+fn extent_at(file: &[u8], row: usize) -> Extent
+    ensures { λ r. ⌜ toldExtent r ≡ extentOf (rowIn row (descriptor (now (file .entry)))) ⌝ }
+{
+    match judge(file) {
+        Answer::Refused { number, place } => Extent::Refused(number, place),
+        Answer::Accepted { rows } => {
+            if rows <= row {
+                return Extent::Refused(12, 0);
+            }
+            let mut t = [0u32; 3];
+            root(file, &mut t, row + 1);
+            Extent::Is(t[0], wide(t[1]), wide(t[2]))
+        }
+    }
+}
+
+// Where the value of a row lies; 12 where the file has no such row.
+pub fn value_at(file: &[u8], row: usize) -> ValueAt
+    ensures { λ r. ⌜ toldValue r ≡ placeOf (rowIn row (descriptor (now (file .entry)))) ⌝ }
+{
+    match extent_at(file, row) {
+        Extent::Refused(number, place) => ValueAt::Refused { number, place },
+        Extent::Is(_, first, length) => ValueAt::Is { first, length },
+    }
+}
+
+// The value of a row, as a part of the file; empty where `value_at` refuses.
+pub fn value_part(file: &[u8], row: usize) -> &[u8]
+    ensures { λ r. ⌜ now r ≡ valueIn (now (file .entry)) (rowIn row (descriptor (now (file .entry)))) ⌝ }
+{
+    match extent_at(file, row) {
+        Extent::Refused(_, _) => &file[..0],
+        Extent::Is(_, first, length) => {
+            let end = first + length;
+            &file[first..end]
+        }
+    }
+}
+
+// Whether the byte at `at` is 1.
+fn is_one(file: &[u8], at: usize) -> bool
+    ensures { λ r. ⌜ r ≡ eqb (orZero (field 1 (now (file .entry)) at)) 1 ⌝ }
+{
+    match fields::u8_at(file, at) {
+        Number8::Is(b, _) => b == 1,
+        Number8::Short => false,
+    }
+}
+
+// The double whose bits stand at `at`.
+fn double_of(file: &[u8], at: usize) -> f64
+    requires { ⌜ (8 ≤ length (now file) - at) × (finite (ofBits binary64 (num 8 (now file) at)) ≡ true) ⌝ }
+    ensures { λ r. ⌜ r ≡ ofBits binary64 (num 8 (now (file .entry)) at) ⌝ }
+{
+    let bits = fields::u64_or_zero(file, at);
+    f64::from_bits(bits)
+}
+
+// The value at `value` of a row of this kind.
+fn typed_of(file: &[u8], kind: u32, value: usize) -> Typed
+    requires { ⌜ (Leafed (now file) kind value) × (value ≤ 16777216) ⌝ }
+    ensures { λ r. ⌜ r ≡ typedIn (now (file .entry)) kind value ⌝ }
+{
+    match kind {
+        BOOL => Typed::Bool(is_one(file, value)),
+        LONG => Typed::Long(fields::u32_or_zero(file, value)),
+        COMP => Typed::Comp(fields::u64_or_zero(file, value)),
+        DOUBLE => Typed::Double(double_of(file, value)),
+        UNIT_DOUBLE => {
+            let unit = fields::u32_or_zero(file, value);
+            Typed::UnitDouble(unit, double_of(file, value + 4))
+        }
+        _ => Typed::Other,
+    }
+}
+
+// The value of a row by its kind; 12 where the file has no such row.
+pub fn typed_at(file: &[u8], row: usize) -> Typed
+    ensures { λ r. ⌜ r ≡ typedOf (now (file .entry)) (rowIn row (descriptor (now (file .entry)))) ⌝ }
+{
+    match extent_at(file, row) {
+        Extent::Refused(number, place) => Typed::Refused { number, place },
+        Extent::Is(kind, value, _) => typed_of(file, kind, value),
+    }
+}

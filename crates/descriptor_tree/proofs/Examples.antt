@@ -1,0 +1,177 @@
+-- P11 and P12 as trees: their bytes, rows and heads by computation, and that they are allowed. Assumes nothing.
+use Prim.Native.Nat.{ℕ, zero, suc, _<_}
+use mathlib.Core.Path.{_≡_, refl}
+use mathlib.Core.List.{List, [], _∷_, _++_}
+use native.Mathlib.Omega.{arith}
+use Rattle.fields.specs.Numbers.{be, Bytes}
+use Rattle.fields.specs.Sets.{Number, Seq, Counted}
+use Rattle.fields.proofs.Places.{length-be, bytes-append}
+use Rattle.descriptor.specs.Reading.{Row}
+use Rattle.descriptor_tree.specs.Grammar.{IdBody, Id, Units, Class, Measure, Leaf, Form, ArrayMeasure, UnitDoubles}
+use Rattle.descriptor_tree.specs.Tree.{Members, none, one, Descriptor, bytes, rootHead, fileBytes, memberHeads, fileHeads, rows, fileRows, Place, Item, Member, Allowed, File, file}
+
+-- the ID `a`, and a class without a name that has it
+abbrev key : List ℕ
+key = 0 ∷ 0 ∷ 0 ∷ 1 ∷ 0x61 ∷ []
+
+abbrev class : List ℕ
+class = 0 ∷ 0 ∷ 0 ∷ 0 ∷ key
+
+abbrev row : ℕ → ℕ → ℕ → ℕ → ℕ → ℕ → Row
+row k p f n d v = record { kind = k; parent = p; first = f; size = n; depth = d; value = v }
+
+abbrev pub p11 : Descriptor
+p11 = record { class = class; pairs = none }
+
+pub p11-bytes : fileBytes p11 ≡ 0 ∷ 0 ∷ 0 ∷ 16 ∷ 0 ∷ 0 ∷ 0 ∷ 0 ∷ 0 ∷ 0 ∷ 0 ∷ 1 ∷ 0x61 ∷ 0 ∷ 0 ∷ 0 ∷ 0 ∷ []
+unfolding fileBytes rootHead bytes be
+p11-bytes = refl
+
+pub p11-rows : fileRows p11 ≡ row 0x4F62_6A63 0 0 17 0 4 ∷ []
+unfolding fileRows rows fileBytes rootHead bytes be
+p11-rows = refl
+
+-- `VlLs` of two `bool`
+abbrev pub p12 : Descriptor
+p12 = record { class = class; pairs = one key 0x566C_4C73 (be 4 2) (one [] 0x626F_6F6C (1 ∷ []) none (one [] 0x626F_6F6C (1 ∷ []) none none)) none }
+
+pub p12-bytes : fileBytes p12
+    ≡ 0 ∷ 0 ∷ 0 ∷ 16 ∷ 0 ∷ 0 ∷ 0 ∷ 0 ∷ 0 ∷ 0 ∷ 0 ∷ 1 ∷ 0x61 ∷ 0 ∷ 0 ∷ 0 ∷ 1 ∷ 0 ∷ 0 ∷ 0 ∷ 1 ∷ 0x61 ∷ 0x56 ∷ 0x6C ∷ 0x4C ∷ 0x73
+    ∷ 0 ∷ 0 ∷ 0 ∷ 2 ∷ 0x62 ∷ 0x6F ∷ 0x6F ∷ 0x6C ∷ 1 ∷ 0x62 ∷ 0x6F ∷ 0x6F ∷ 0x6C ∷ 1 ∷ []
+unfolding fileBytes rootHead bytes be
+p12-bytes = refl
+
+pub p12-rows : fileRows p12 ≡ row 0x4F62_6A63 0 0 40 0 4 ∷ row 0x566C_4C73 0 17 23 1 26 ∷ row 0x626F_6F6C 1 30 5 2 34 ∷ row 0x626F_6F6C 1 35 5 2 39 ∷ []
+unfolding fileRows rows fileBytes rootHead bytes be
+p12-rows = refl
+
+pub p12-heads : fileHeads p12 ≡ 17 ∷ 13 ∷ 5 ∷ 5 ∷ []
+unfolding fileHeads memberHeads rootHead be
+p12-heads = refl
+
+-- ---- all that may nest: `Objc` of `VlLs` (of `obj ` of `Enmr`, and `bool`) and `long`; `ObAr` of `UnFl`; `UntF`
+
+-- the ID of one character, and of four
+abbrev letter : ℕ → List ℕ
+letter x = 0 ∷ 0 ∷ 0 ∷ 1 ∷ x ∷ []
+
+abbrev four : ℕ → List ℕ
+four t = be 4 0 ++ be 4 t
+
+abbrev column : List ℕ
+column = be 4 0x2350_786C ++ (be 4 2 ++ (be 8 0x3FF0_0000_0000_0000 ++ (be 8 0xC000_0000_0000_0000 ++ [])))
+
+abbrev percents : List ℕ
+percents = be 4 0x2350_7263 ++ be 8 0x4059_0000_0000_0000
+
+abbrev references : Members
+references = one [] 0x456E_6D72 (class ++ (letter 0x74 ++ four 0x7661_6C75)) none none
+
+abbrev inner : Members
+inner = one (four 0x6C69_7374) 0x566C_4C73 (be 4 2) (one [] 0x6F62_6A20 (be 4 1) references (one [] 0x626F_6F6C (1 ∷ []) none none)) (one (letter 0x6E) 0x6C6F_6E67 (be 4 7) none none)
+
+abbrev nested : Descriptor
+nested = record {
+  class = class;
+  pairs = one (letter 0x6F) 0x4F62_6A63 (class ++ be 4 2) inner
+      (one (letter 0x70) 0x4F62_4172 (be 4 2 ++ (class ++ be 4 1)) (one (letter 0x78) 0x556E_466C column none none)
+      (one (letter 0x75) 0x556E_7446 percents none none));
+}
+
+pub nested-rows : fileRows nested
+    ≡ row 0x4F62_6A63 0 0 187 0 4 ∷ row 0x4F62_6A63 0 17 90 1 26 ∷ row 0x566C_4C73 1 39 55 2 51 ∷ row 0x6F62_6A20 2 55 34 3 59 ∷ row 0x456E_6D72 3 63 26 4 67
+    ∷ row 0x626F_6F6C 2 89 5 3 93 ∷ row 0x6C6F_6E67 1 94 13 2 103 ∷ row 0x4F62_4172 0 107 59 1 116 ∷ row 0x556E_466C 7 133 33 2 142 ∷ row 0x556E_7446 0 166 21 1 175 ∷ []
+unfolding fileRows rows fileBytes rootHead bytes be
+nested-rows = refl
+
+pub nested-heads : fileHeads nested ≡ 17 ∷ 22 ∷ 16 ∷ 8 ∷ 26 ∷ 5 ∷ 13 ∷ 26 ∷ 33 ∷ 21 ∷ []
+unfolding fileHeads memberHeads rootHead be
+nested-heads = refl
+
+-- ---- they are allowed
+
+key-id : Id key
+unfolding be
+key-id = Counted.counted 1 {y = 0x61 ∷ []} (omega arith) (IdBody.string {n = 1} (omega arith) refl)
+
+class-class : Class class
+unfolding be
+class-class = Seq.seq {x = 0 ∷ 0 ∷ 0 ∷ 0 ∷ []} (Counted.counted 0 {y = []} (omega arith) Units.none) key-id
+
+-- every number of a list is a byte
+abbrev Each : List ℕ → Type 0
+Each [] = Unit
+Each (x ∷ l) = (x < 256) × Each l
+
+each-bytes : (l : List ℕ) → Each l → Bytes l
+each-bytes [] h k = omega arith
+each-bytes (x ∷ l) h zero = h .0
+each-bytes (x ∷ l) h (suc k) = each-bytes l (h .1) k
+
+pub p11-file : File p11 (fileBytes p11)
+unfolding fileBytes rootHead bytes be
+p11-file = file {t = p11} class-class (omega arith) tt (each-bytes (fileBytes p11) (omega arith)) (omega arith)
+
+one-flag : Leaf 0x626F_6F6C (1 ∷ [])
+unfolding be
+one-flag = Leaf.boolean (Number.number 1 (omega arith) (omega arith))
+
+pub p12-file : File p12 (fileBytes p12)
+unfolding fileBytes rootHead bytes be
+p12-file =
+    file {t = p12} class-class (omega arith) (
+      Place.items,
+      omega arith,
+      Member.pair key-id (Item.list 2 (omega arith)),
+      (Place.nowhere, omega arith, Member.item (Item.leaf one-flag), tt, (Place.nowhere, omega arith, Member.item (Item.leaf one-flag), tt, tt)),
+      tt,
+    ) (bytes-append (rootHead p12) (bytes (p12 .pairs)) (each-bytes (rootHead p12) (omega arith)) (each-bytes (bytes (p12 .pairs)) (omega arith))) (omega arith)
+
+-- ---- and so is the nested one
+
+letter-id : (x : ℕ) → Id (letter x)
+unfolding be
+letter-id x = Counted.counted 1 {y = x ∷ []} (omega arith) (IdBody.string {n = 1} (omega arith) refl)
+
+four-id : (t : ℕ) → Id (four t)
+four-id t = Counted.counted 0 {y = be 4 t} (omega arith) (IdBody.char (length-be 4 t))
+
+column-is : UnitDoubles 2 column
+column-is =
+    Counted.counted 0x2350_786C (omega arith) (
+      ArrayMeasure.pixels,
+      Counted.counted 2 (omega arith) (
+        omega arith,
+        Seq.seq {x = be 8 0x3FF0_0000_0000_0000} (Number.number 0x3FF0_0000_0000_0000 (omega arith) (omega arith)) (Seq.seq {x = be 8 0xC000_0000_0000_0000} {y = []} (Number.number 0xC000_0000_0000_0000 (omega arith) (omega arith)) refl),
+      ),
+    )
+
+percents-is : Leaf 0x556E_7446 percents
+percents-is = Leaf.unitDouble (Counted.counted 0x2350_7263 (omega arith) (Measure.percent, Number.number 0x4059_0000_0000_0000 (omega arith) (omega arith)))
+
+references-allowed : Allowed Place.forms 4 references
+references-allowed = (Place.nowhere, omega arith, Member.form (Seq.seq class-class (Form.enumerated (Seq.seq (letter-id 0x74) (four-id 0x7661_6C75)))), tt, tt)
+
+inner-allowed : Allowed Place.pairs 2 inner
+inner-allowed = (
+  Place.items,
+  omega arith,
+  Member.pair (four-id 0x6C69_7374) (Item.list 2 (omega arith)),
+  (Place.forms, omega arith, Member.item (Item.reference 1 (omega arith)), references-allowed, (Place.nowhere, omega arith, Member.item (Item.leaf one-flag), tt, tt)),
+  (Place.nowhere, omega arith, Member.pair (letter-id 0x6E) (Item.leaf (Leaf.integer (length-be 4 7))), tt, tt),
+)
+
+pub nested-allowed : Allowed Place.pairs 1 (nested .pairs)
+nested-allowed = (
+  Place.pairs,
+  omega arith,
+  Member.pair (letter-id 0x6F) (Item.object 2 (omega arith) class-class),
+  inner-allowed,
+  (
+    Place.columns 2,
+    omega arith,
+    Member.pair (letter-id 0x70) (Item.array 2 1 (omega arith) (omega arith) class-class),
+    (Place.nowhere, omega arith, Member.column (letter-id 0x78) column-is, tt, tt),
+    (Place.nowhere, omega arith, Member.pair (letter-id 0x75) (Item.leaf percents-is), tt, tt),
+  ),
+)

@@ -1,0 +1,12 @@
+pub mod Sizes
+pub mod Tiling
+pub mod Fields
+pub mod Heads
+pub mod Member
+pub mod Trees
+pub mod Whole
+pub mod Unique
+pub mod RoundTrip
+pub mod Values
+pub mod Rows
+pub mod Examples

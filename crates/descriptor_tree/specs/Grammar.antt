@@ -1,0 +1,98 @@
+-- The fields of descriptors as sets of byte strings: what may stand in a file. Nothing here reads.
+-- Types, forms and units are written here by themselves, from docs/RULES.md, and not taken from the reader's.
+use Prim.Native.Nat.{ℕ, suc, _*_, _%_, _≤_, _<_}
+use mathlib.Core.Path.{_≡_}
+use mathlib.Core.List.{List, [], _∷_, _++_}
+use lib.ListN.{length}
+use Rattle.fields.specs.Sets.{Field, Size, Number, Seq, Counted, When, Run}
+
+-- ---- primitives
+
+-- ID: a length, then that many bytes, or 4 where the length is 0
+pub data IdBody : ℕ → List ℕ → Type 0 where
+  char : {b : List ℕ} → length b ≡ 4 → IdBody 0 b
+  string : {n : ℕ} {b : List ℕ} → 0 < n → length b ≡ n → IdBody n b
+
+abbrev pub Id : Field
+Id = Counted IdBody
+
+-- Unicode string: a count, then the units of two bytes; none, or the last is zero
+pub data Units : ℕ → List ℕ → Type 0 where
+  none : Units 0 []
+  closed : (n : ℕ) (b : List ℕ) → length b ≡ n * 2 → Units (suc n) (b ++ (0 ∷ 0 ∷ []))
+
+abbrev pub Text : Field
+Text = Counted Units
+
+-- a name and an ID
+abbrev pub Class : Field
+Class = Seq Text Id
+
+-- the type's ID and the value's
+abbrev pub Enumerated : Field
+Enumerated = Seq Id Id
+
+-- a length, and that many bytes
+abbrev pub Raw : Field
+Raw = Counted Size
+
+-- 0 or 1
+abbrev pub Boolean : Field
+Boolean = Number 1 (λ n. n ≤ 1)
+
+-- the bits of a finite double: those of its exponent are not all ones
+abbrev pub Double : Field
+Double = Number 8 (λ n. n % 0x8000_0000_0000_0000 < 0x7FF0_0000_0000_0000)
+
+-- `#Ang`, `#Rsl`, `#Rlt`, `#Nne`, `#Prc`, `#Pxl`
+pub data Measure : ℕ → Type 0 where
+  angle : Measure 0x2341_6E67
+  density : Measure 0x2352_736C
+  distance : Measure 0x2352_6C74
+  plain : Measure 0x234E_6E65
+  percent : Measure 0x2350_7263
+  pixels : Measure 0x2350_786C
+
+abbrev pub UnitDouble : Field
+UnitDouble = Counted (λ u. When (Measure u) Double)
+
+-- ---- values by type and form
+
+-- an item's value, where it holds no items:
+-- `bool`, `type`, `GlbC`, `doub`, `enum`, `alis`, `Pth `, `long`, `comp`, `tdta`, `TEXT`, `UntF`
+pub data Leaf : ℕ → List ℕ → Type 0 where
+  boolean : {b : List ℕ} → Boolean b → Leaf 0x626F_6F6C b
+  class : {b : List ℕ} → Class b → Leaf 0x7479_7065 b
+  globalClass : {b : List ℕ} → Class b → Leaf 0x476C_6243 b
+  double : {b : List ℕ} → Double b → Leaf 0x646F_7562 b
+  enumerated : {b : List ℕ} → Enumerated b → Leaf 0x656E_756D b
+  alias : {b : List ℕ} → Raw b → Leaf 0x616C_6973 b
+  path : {b : List ℕ} → Raw b → Leaf 0x5074_6820 b
+  integer : {b : List ℕ} → Size 4 b → Leaf 0x6C6F_6E67 b
+  large : {b : List ℕ} → Size 8 b → Leaf 0x636F_6D70 b
+  raw : {b : List ℕ} → Raw b → Leaf 0x7464_7461 b
+  text : {b : List ℕ} → Text b → Leaf 0x5445_5854 b
+  unitDouble : {b : List ℕ} → UnitDouble b → Leaf 0x556E_7446 b
+
+-- what stands behind the class of a reference item:
+-- `Clss`, `Enmr`, `Idnt`, `indx`, `name`, `rele`, `prop`
+pub data Form : ℕ → List ℕ → Type 0 where
+  class : Form 0x436C_7373 []
+  enumerated : {b : List ℕ} → Enumerated b → Form 0x456E_6D72 b
+  identifier : {b : List ℕ} → Size 4 b → Form 0x4964_6E74 b
+  index : {b : List ℕ} → Size 4 b → Form 0x696E_6478 b
+  name : {b : List ℕ} → Text b → Form 0x6E61_6D65 b
+  offset : {b : List ℕ} → Size 4 b → Form 0x7265_6C65 b
+  property : {b : List ℕ} → Id b → Form 0x7072_6F70 b
+
+-- ---- object arrays
+
+-- `#Rlt`, `#Prc`, `#Pxl`
+pub data ArrayMeasure : ℕ → Type 0 where
+  distance : ArrayMeasure 0x2352_6C74
+  percent : ArrayMeasure 0x2350_7263
+  pixels : ArrayMeasure 0x2350_786C
+
+-- the unit doubles of a pair: a unit, a count that is the number m of objects, and as many doubles
+abbrev pub UnitDoubles : ℕ → Field
+UnitDoubles m = Counted (λ u. When (ArrayMeasure u) (Counted (λ n. When (n ≡ m) (Run Double n))))
