@@ -1,5 +1,7 @@
 // Lists the ACO file on standard input: its header, a line a colour, `end`; or the refusal.
 use aco::Answer;
+use aco_walk::Given;
+use colour::Colour;
 use listing::finish;
 use listing::put;
 use listing::put_name;
@@ -7,38 +9,55 @@ use listing::put_number;
 use listing::put_refusal;
 use listing::put_text;
 use listing::take_input;
-use listing::units_of;
+use walk::name_part;
 
 // The longest input that is listed.
 const TAKEN: usize = 65536;
 
-// A record's line: its number, space, samples and name.
-fn put_record(out: &mut [u8], n: usize, file: &[u8], row: &[u32], i: usize) -> usize {
-    if row.len() < aco::WIDTH {
-        return n;
-    }
+fn wide(x: u16) -> u64 {
+    x as u64
+}
+
+// A colour's line: its number, space, samples and name.
+fn put_colour(out: &mut [u8], n: usize, i: usize, colour: Colour, name: &[u8]) -> usize {
     let mut at = put_number(out, n, i as u64);
+    at = put(out, at, b' ');
+    at = put_number(out, at, wide(colour.space));
     let mut k: usize = 0;
-    while k < 5 {
+    while k < 4 {
         at = put(out, at, b' ');
-        at = put_number(out, at, row[k] as u64);
+        at = put_number(out, at, wide(colour.samples[k]));
         k += 1;
     }
     at = put(out, at, b' ');
-    at = put_name(out, at, units_of(file, row[5], row[6]));
+    at = put_name(out, at, name);
     put(out, at, b'\n')
 }
 
-fn put_records(out: &mut [u8], n: usize, file: &[u8], table: &[u32], colours: usize) -> usize {
+// The colours of an accepted file, one a step.
+fn put_colours(out: &mut [u8], n: usize, file: &[u8], colours: usize) -> usize {
     let mut at = n;
     let mut i: usize = 0;
-    let mut p: usize = 0;
+    let mut p = aco_walk::first_at(file);
     while i < colours {
-        if table.len() < p {
-            return at;
+        let step = aco_walk::step_at(file, p);
+        let given = step.given;
+        match given {
+            Given::Done => {
+                return at;
+            }
+            Given::Refused {
+                number: _,
+                place: _,
+            } => {
+                return at;
+            }
+            Given::Colour { place, units } => {
+                let name = name_part(file, place, units);
+                at = put_colour(out, at, i, step.colour, name);
+            }
         }
-        at = put_record(out, at, file, &table[p..], i);
-        p += aco::WIDTH;
+        p = step.next;
         i += 1;
     }
     at
@@ -54,8 +73,7 @@ fn put_header(out: &mut [u8], colours: usize, lists: usize) -> usize {
 }
 
 fn put_listing(out: &mut [u8], file: &[u8]) -> usize {
-    let mut table = [0u32; 28672];
-    match aco_read::read(file, &mut table) {
+    match aco::judge(file) {
         Answer::Refused { number, place } => put_refusal(out, number, place),
         Answer::Differ {
             place,
@@ -64,7 +82,7 @@ fn put_listing(out: &mut [u8], file: &[u8]) -> usize {
         } => put_refusal(out, 7, place),
         Answer::Accepted { colours, lists } => {
             let head = put_header(out, colours, lists);
-            let end = put_records(out, head, file, &table, colours);
+            let end = put_colours(out, head, file, colours);
             put_text(out, end, b"end\n")
         }
     }

@@ -1,8 +1,8 @@
 // Lists the ASE file on standard input: its header, a line a block, `end`; or the refusal.
-ghost use Prim.Native.Nat.{_+_, _≤_};
-ghost use lib.ListN.{length};
+ghost use Prim.Native.Nat.{_≤_};
 use ase::Answer;
-use colour::Known;
+use ase_walk::Block;
+use colour::Channels;
 use colour::Model;
 use listing::finish;
 use listing::put;
@@ -12,7 +12,7 @@ use listing::put_number;
 use listing::put_refusal;
 use listing::put_text;
 use listing::take_input;
-use listing::units_of;
+use walk::name_part;
 
 // The longest input that is listed.
 const TAKEN: usize = 65536;
@@ -26,21 +26,21 @@ fn put_model(out: &mut [u8], n: usize, model: Model) -> usize {
     }
 }
 
-// A colour's channels, the first of which is number 4 of its row.
-fn put_channels(out: &mut [u8], n: usize, row: &[u32], channels: u16) -> usize
-    requires { ⌜ 4 + channels ≤ length (now row) ⌝ }
+// The first channels of a colour, as many as its model has.
+fn put_channels(out: &mut [u8], n: usize, bits: [u32; 4], channels: u16) -> usize
+    requires { ⌜ channels ≤ 4 ⌝ }
 {
     let mut at = n;
     let mut k: usize = 0;
     while k < channels as usize {
         at = put(out, at, b' ');
-        at = put_bits(out, at, row[4 + k]);
+        at = put_bits(out, at, bits[k]);
         k += 1;
     }
     at
 }
 
-fn put_type(out: &mut [u8], n: usize, kind: u32) -> usize {
+fn put_type(out: &mut [u8], n: usize, kind: u16) -> usize {
     if kind == 0 {
         return put_text(out, n, b" global ");
     }
@@ -51,61 +51,64 @@ fn put_type(out: &mut [u8], n: usize, kind: u32) -> usize {
 }
 
 // A colour: its model, channels, type and name.
-fn put_colour(out: &mut [u8], n: usize, file: &[u8], row: &[u32]) -> usize
-    requires { ⌜ 9 ≤ length (now row) ⌝ }
-{
-    let Known::Is(model) = Model::from_tag(row[3]) else {
-        return n;
-    };
+fn put_colour(out: &mut [u8], n: usize, colour: Channels, kind: u16, name: &[u8]) -> usize {
+    let model = colour.model();
     let mut at = put_model(out, n, model);
-    at = put_channels(out, at, row, model.traits().channels);
-    at = put_type(out, at, row[8]);
-    put_name(out, at, units_of(file, row[1], row[2]))
+    at = put_channels(out, at, colour.bits(), model.traits().channels);
+    at = put_type(out, at, kind);
+    put_name(out, at, name)
 }
 
 // What stands in a block's line after its number.
-fn put_content(out: &mut [u8], n: usize, file: &[u8], row: &[u32]) -> usize
-    requires { ⌜ 9 ≤ length (now row) ⌝ }
-{
-    let kind = row[0];
-    if kind == ase::START as u32 {
-        let at = put_text(out, n, b" group ");
-        return put_name(out, at, units_of(file, row[1], row[2]));
+fn put_block(out: &mut [u8], n: usize, file: &[u8], block: Block) -> usize {
+    match block {
+        Block::Group { place, units } => {
+            let at = put_text(out, n, b" group ");
+            put_name(out, at, name_part(file, place, units))
+        }
+        Block::Close => put_text(out, n, b" close"),
+        Block::Colour {
+            place,
+            units,
+            colour,
+            kind,
+        } => {
+            let at = put_text(out, n, b" colour ");
+            put_colour(out, at, colour, kind, name_part(file, place, units))
+        }
+        Block::Done => n,
+        Block::Refused {
+            number: _,
+            place: _,
+        } => n,
     }
-    if kind == ase::STOP as u32 {
-        return put_text(out, n, b" close");
-    }
-    let at = put_text(out, n, b" colour ");
-    put_colour(out, at, file, row)
 }
 
-fn put_blocks(out: &mut [u8], n: usize, file: &[u8], table: &[u32], blocks: usize) -> usize {
+// The blocks of an accepted file, one a step.
+fn put_blocks(out: &mut [u8], n: usize, file: &[u8], blocks: usize) -> usize {
     let mut at = n;
     let mut i: usize = 0;
-    let mut p: usize = 0;
+    let mut p = ase_walk::first_at(file);
     while i < blocks {
-        if table.len() - p < ase::WIDTH {
-            return at;
-        }
+        let step = ase_walk::block_at(file, p);
+        let block = step.block;
         at = put_number(out, at, i as u64);
-        at = put_content(out, at, file, &table[p..]);
+        at = put_block(out, at, file, block);
         at = put(out, at, b'\n');
-        p += ase::WIDTH;
+        p = step.next;
         i += 1;
     }
     at
 }
 
-// The table has room for 10,920 blocks, the most that the longest input holds.
 fn put_listing(out: &mut [u8], file: &[u8]) -> usize {
-    let mut table = [0u32; 98280];
-    match ase_read::read(file, &mut table) {
+    match ase::judge(file) {
         Answer::Refused { number, place } => put_refusal(out, number, place),
         Answer::Accepted { blocks, colours: _ } => {
             let mut at = put_text(out, 0, b"ASE ");
             at = put_number(out, at, blocks as u64);
             at = put(out, at, b'\n');
-            at = put_blocks(out, at, file, &table, blocks);
+            at = put_blocks(out, at, file, blocks);
             put_text(out, at, b"end\n")
         }
     }

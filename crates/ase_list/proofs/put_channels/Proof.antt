@@ -1,15 +1,15 @@
-use borrow.Author.Needs.{needs}
 use Prim.Native.Nat.{_-_, _≤_}
 use lib.ListN.{length}
 use mathlib.Core.Path.{_≡_}
+use borrow.Author.Needs.{needs}
 use Rattle.ase_list.proofs.put_channels.Statement.{statement}
 use Rattle.ase_list.proofs.put_channels.Tie as tie
 
 abbrev Inv-loop : tie.InvT-loop
-Inv-loop out₀ n row channels at₀ k₀ out at k = (k ≤ channels) × (length out ≡ length out₀)
+Inv-loop out₀ n channels bits at₀ k₀ out at k = (k ≤ channels) × (length out ≡ length out₀)
 
 abbrev μ-loop : tie.MeasureT-loop
-μ-loop out₀ n row channels at₀ k₀ out at k = channels - k
+μ-loop out₀ n channels bits at₀ k₀ out at k = channels - k
 
 loop-holds : tie.Need-loop-holds Inv-loop μ-loop
 loop-holds c = search needs
@@ -17,14 +17,11 @@ loop-holds c = search needs
 put-requires : tie.Need-put-requires Inv-loop μ-loop
 put-requires c κs = search needs
 
-add-put-bits : tie.Need-add-put-bits Inv-loop μ-loop
-add-put-bits c = search needs
-
 mul-put-bits : tie.Need-mul-put-bits Inv-loop μ-loop
 mul-put-bits c = search needs
 
-shared-slice-read-put-bits : tie.Need-shared-slice-read-put-bits Inv-loop μ-loop
-shared-slice-read-put-bits c = search needs
+array-read-put-bits : tie.Need-array-read-put-bits Inv-loop μ-loop
+array-read-put-bits c = search needs
 
 put-bits-requires : tie.Need-put-bits-requires Inv-loop μ-loop
 put-bits-requires c κs = search needs
@@ -52,9 +49,8 @@ put-channels-spec =
     μ-loop
     loop-holds
     put-requires
-    add-put-bits
     mul-put-bits
-    shared-slice-read-put-bits
+    array-read-put-bits
     put-bits-requires
     add-k
     loop-less

@@ -1,0 +1,47 @@
+-- What each answer of the code says.
+use Prim.Native.Nat.{ℕ}
+use mathlib.Core.Bool.{Bool, true, false}
+use lib.ListN.{length}
+use Rattle.fields.specs.Reader.{Res, ok, refuse}
+use Rattle.colour.specs.declared.space.Colour.{Colour}
+use Rattle.aco.specs.Reading.{Entry, black}
+use Rattle.walk.specs.Walk.{Call, gives, over, refused}
+use Rattle.aco_walk.specs.Walking.{Started, starts, refusal}
+use Rattle.aco_walk.specs.declared.Given.{Given}
+use Rattle.aco_walk.specs.declared.Given.the-variants as vg
+use Rattle.aco_walk.specs.declared.Step.{Step}
+use Rattle.aco_walk.specs.declared.Opening.{Opening}
+use Rattle.aco_walk.specs.declared.Opening.the-variants as vs
+use Rattle.aco_walk.specs.declared.Tested.{Tested}
+
+-- a name's place and number of units; done; or a refusal's number and place
+abbrev pub toldGiven : Given → Call (ℕ × ℕ)
+toldGiven (vg.Colour p u) = gives (p, u)
+toldGiven vg.Done = over
+toldGiven (vg.Refused x p) = refused x p
+
+-- the colour, the answer and the place that is left
+abbrev pub toldStep : Step → Colour × Call (ℕ × ℕ) × ℕ
+toldStep r = (r .colour, toldGiven (r .given), r .next)
+
+-- a record as it is handed out: its colour by value, and where its name lies; where there is none, the colour is all zeros
+abbrev pub handing : Call Entry → ℕ → Colour × Call (ℕ × ℕ) × ℕ
+handing (gives e) q = (e .colour, gives (e .name .first, length (e .name .units)), q)
+handing over q = (black, over, q)
+handing (refused x p) q = (black, refused x p, q)
+
+abbrev pub handed : Call Entry × ℕ → Colour × Call (ℕ × ℕ) × ℕ
+handed w = handing (w .0) (w .1)
+
+abbrev pub toldStart : Opening → Started
+toldStart (vs.At p) = starts p
+toldStart (vs.Refused x p) = refusal x p 0 0
+toldStart (vs.Differ p r f) = refusal 7 p r f
+
+-- a colour, and whether it is one that the layout allows
+abbrev pub toldTested : Tested → Colour × Bool
+toldTested t = (t .colour, t .sound)
+
+abbrev pub tested : Res Colour → Colour × Bool
+tested (ok c q) = (c, true)
+tested (refuse x p r f) = (black, false)

@@ -1,0 +1,252 @@
+// ACO swatches one a call: a step from any place of any file, and the walker above it.
+ghost use mathlib.Core.Path.{_≡_};
+ghost use lib.ListN.{length};
+ghost use Rattle.colour.specs.declared.space.Colour.{Colour};
+ghost use Rattle.fields.specs.Reader.{refuse};
+ghost use Rattle.aco.specs.Reading.{colour, black, aco};
+ghost use Rattle.walk.specs.Walk.{answered, over, refused};
+ghost use Rattle.aco_walk.specs.Walking.{isPlain, firstPlace, labelled, walk, lentOf, startOf};
+ghost use Rattle.aco_walk.specs.Answer.{toldGiven, toldStep, handed, toldStart, toldTested, tested};
+use aco::Answer;
+use colour::Colour;
+use fields::NameAt;
+
+// What a call gives: a colour, whose name lies at a place and has a number of units; done; or a
+// refusal.
+pub enum Given {
+    Colour { place: usize, units: u32 },
+    Done,
+    Refused { number: u32, place: usize },
+}
+
+// A call's answer, its colour by value, all zeros where it gives none, and the place of the next call.
+pub struct Step {
+    pub colour: Colour,
+    pub given: Given,
+    pub next: usize,
+}
+
+// Where a walk of a file starts, or the file's refusal.
+pub enum Opening {
+    At(usize),
+    Refused {
+        number: u32,
+        place: usize,
+    },
+    Differ {
+        place: usize,
+        record: usize,
+        field: usize,
+    },
+}
+
+// A colour, all zeros where it is not sound.
+struct Tested {
+    colour: Colour,
+    sound: bool,
+}
+
+fn zeros() -> Colour
+    ensures { λ r. ⌜ r ≡ black ⌝ }
+{
+    Colour {
+        space: 0,
+        samples: [0; 4],
+    }
+}
+
+// The colour at `at`, if one stands there that the layout allows.
+fn colour_at(file: &[u8], at: usize) -> Tested
+    ensures { λ r. ⌜ toldTested r ≡ tested (colour (now (file .entry)) at) ⌝ }
+{
+    let n = file.len();
+    if n < 10 {
+        return Tested {
+            colour: zeros(),
+            sound: false,
+        };
+    }
+    if n - 10 < at {
+        return Tested {
+            colour: zeros(),
+            sound: false,
+        };
+    }
+    let end = at + 10;
+    let part = &file[at..end];
+    let space = fields::u16_or_zero(part, 0);
+    let a = fields::u16_or_zero(part, 2);
+    let b = fields::u16_or_zero(part, 4);
+    let c = fields::u16_or_zero(part, 6);
+    let d = fields::u16_or_zero(part, 8);
+    if !colour::is_sound(space, a, b, c, d) {
+        return Tested {
+            colour: zeros(),
+            sound: false,
+        };
+    }
+    let colour = Colour {
+        space,
+        samples: [a, b, c, d],
+    };
+    Tested {
+        colour,
+        sound: true,
+    }
+}
+
+// Whether the file is list 1 and no more.
+fn is_plain(file: &[u8]) -> bool
+    ensures { λ r. ⌜ r ≡ isPlain (now (file .entry)) ⌝ }
+{
+    let count = fields::u16_or_zero(file, 2);
+    file.len() == 4 + 10 * (count as usize)
+}
+
+// No colour, and the place that the walk is left at.
+fn none(given: Given, next: usize) -> Step
+    ensures { λ r. ⌜ toldStep r ≡ (black, toldGiven given, next) ⌝ }
+{
+    let colour = zeros();
+    Step {
+        colour,
+        given,
+        next,
+    }
+}
+
+// Nothing that the layout allows: the walk is left past the end, so that it is refused ever after.
+fn lost(file: &[u8]) -> Step
+    ensures { λ r. ⌜ toldStep r ≡ handed (answered (length (now (file .entry))) (refuse 5 0 0 0)) ⌝ }
+{
+    let given = Given::Refused {
+        number: 5,
+        place: 0,
+    };
+    none(given, file.len() + 1)
+}
+
+// A colour and its name, which stands at `at` where the file has names.
+fn labelled_at(file: &[u8], at: usize, colour: Colour) -> Step
+    ensures { λ r. ⌜ toldStep r ≡ handed (answered (length (now (file .entry))) (labelled colour (now (file .entry)) at)) ⌝ }
+{
+    if is_plain(file) {
+        let given = Given::Colour { place: 0, units: 0 };
+        return Step {
+            colour,
+            given,
+            next: at,
+        };
+    }
+    match fields::name32_at(file, at) {
+        NameAt::Refused(_, _) => lost(file),
+        NameAt::Is(place, units, next) => {
+            let given = Given::Colour { place, units };
+            Step {
+                colour,
+                given,
+                next,
+            }
+        }
+    }
+}
+
+// One call from any place of any file. It costs no more than the bytes that it passes.
+pub fn step_at(file: &[u8], at: usize) -> Step
+    ensures { λ r. ⌜ toldStep r ≡ handed (walk (now (file .entry)) at) ⌝ }
+{
+    if at == file.len() {
+        return none(Given::Done, at);
+    }
+    let found = colour_at(file, at);
+    if !found.sound {
+        return lost(file);
+    }
+    labelled_at(file, at + 10, found.colour)
+}
+
+// Where a walk of an accepted file starts.
+pub fn first_at(file: &[u8]) -> usize
+    ensures { λ r. ⌜ r ≡ firstPlace (now (file .entry)) ⌝ }
+{
+    let n = file.len();
+    if is_plain(file) {
+        return 4;
+    }
+    let count = fields::u16_or_zero(file, 2);
+    let place = 8 + 10 * (count as usize);
+    if place <= n {
+        return place;
+    }
+    n
+}
+
+// Where a walk starts, which it does only on an accepted file, or the file's refusal.
+pub fn start_at(file: &[u8]) -> Opening
+    ensures { λ r. ⌜ toldStart r ≡ startOf (aco (now (file .entry))) (now (file .entry)) ⌝ }
+{
+    match aco::judge(file) {
+        Answer::Refused { number, place } => Opening::Refused { number, place },
+        Answer::Differ {
+            place,
+            record,
+            field,
+        } => Opening::Differ {
+            place,
+            record,
+            field,
+        },
+        Answer::Accepted {
+            colours: _,
+            lists: _,
+        } => Opening::At(first_at(file)),
+    }
+}
+
+// An accepted file, or no bytes where it is refused.
+fn lent(file: &[u8]) -> &[u8]
+    ensures { λ r. ⌜ now r ≡ lentOf (aco (now (file .entry))) (now (file .entry)) ⌝ }
+{
+    match aco::judge(file) {
+        Answer::Refused {
+            number: _,
+            place: _,
+        } => &file[..0],
+        Answer::Differ {
+            place: _,
+            record: _,
+            field: _,
+        } => &file[..0],
+        Answer::Accepted {
+            colours: _,
+            lists: _,
+        } => file,
+    }
+}
+
+// ---- the walker
+
+// A walker: the lent file, and the place of the next colour.
+pub struct Walker<'a> {
+    pub file: &'a [u8],
+    pub at: usize,
+}
+
+// A walker over an accepted file; over no bytes where it is refused, so that it is done. The
+// refusal is `start_at`'s.
+pub fn start<'a>(file: &'a [u8]) -> Walker<'a>
+    ensures { λ r. ⌜ (now (r .file) ≡ lentOf (aco (now (file .entry))) (now (file .entry))) × (r .at ≡ firstPlace (lentOf (aco (now (file .entry))) (now (file .entry)))) ⌝ }
+{
+    let part = lent(file);
+    let at = first_at(part);
+    Walker { file: part, at }
+}
+
+// One call: the colour, and the walker moves on.
+pub fn next<'s, 'a>(w: &'s mut Walker<'a>) -> Step
+    ensures { λ r. ⌜ (toldStep r ≡ handed (walk (now (now (w .entry) .file)) (now (w .entry) .at))) × (now (w .exit) .file ≡ now (w .entry) .file) × (now (w .exit) .at ≡ r .next) ⌝ }
+{
+    let step = step_at(w.file, w.at);
+    w.at = step.next;
+    step
+}

@@ -1,0 +1,136 @@
+-- Which way the code of a step goes, on plain values. Assumes nothing.
+use Prim.Native.Nat.{ℕ, _+_, _-_, _≤_, _<_}
+use mathlib.Core.Path.{_≡_, refl, sym, ap, ap₂, _∙_, subst}
+use mathlib.Core.List.{List, [], _∷_}
+use mathlib.Core.Bool.{Bool, true, false, true≢false}
+use lib.Dec.{leb}
+use lib.ListN.{length, take}
+use lib.Seq.{length-take-le}
+use borrow.Author.Tests.{le-leb, lt-leb}
+use native.Mathlib.Omega.{arith}
+use Rattle.fields.specs.Reader.{Res, ok, refuse, pick, mapRes}
+use Rattle.ase.specs.Reading.{Entry, started, stopped, coloured, ase}
+use Rattle.ase.specs.Answer.{Verdict, accepted, refused, verdict, passed}
+use Rattle.ase.proofs.Judging.{map-inv, map-refuse}
+use Rattle.ase_read.specs.Table.{row}
+use Rattle.ase_read.specs.Raw.{rowIn, rawRow}
+use Rattle.ase_read.specs.Answer.{Shown, entryShown}
+use Rattle.ase_read.proofs.Blocks.{Sound, Blocked, blocked}
+use Rattle.walk.specs.Walk as w
+use Rattle.walk.proofs.Calls.{step-over, step-elsewhere, step-past, from-turn}
+use Rattle.ase_walk.specs.Walking.{blockFrom, Stands, blockWalk, isColour, walk, firstPlace, lentOf, starts, refusal, startOf}
+use Rattle.ase_walk.specs.Answer.{passes, handing, handed}
+use Rattle.ase_walk.proofs.Blocks.{block-moves, walk-moves}
+use Rattle.ase_walk.proofs.Walked.{past-refused}
+
+-- ---- a block that stands
+
+module _ (s : List ℕ) (at end : ℕ) (b : Stands s at end) where
+  -- its numbers, as they are loaded
+  pub stands-row : (xs : List ℕ) → xs ≡ rawRow s at end → xs ≡ row (b .0)
+  stands-row xs e =
+      let k = blocked 1 s at (b .1) in
+      e ∙ sym (k .ended .is-row ∙ ap (rowIn (take end s) at) (length-take-le end s (k .inside)))
+
+  pub stands-sound : Sound (b .0)
+  stands-sound = blocked 1 s at (b .1) .ended .sound
+
+  pub stands-shown : (c : w.Call Shown) → c ≡ w.gives (entryShown (b .0)) → (c, end) ≡ handed (w.answered (length s) (blockFrom s at))
+  stands-shown c e = ap (λ (x : w.Call Shown). (x, end)) e ∙ sym (ap (λ (m : Res Entry). handed (w.answered (length s) m)) (b .1))
+
+-- ---- the block step
+
+module _ (s : List ℕ) (at : ℕ) where
+  pub block-over : at ≡ length s → (w.over, at) ≡ handed (blockWalk s at)
+  block-over e = sym (ap handed (step-over blockFrom s at e))
+
+  -- a block was passed
+  pub passed-stands : {d k q : ℕ} → ok (d, k) q ≡ mapRes (passed 1) (blockFrom s at) → Stands s at q
+  passed-stands e = let i = map-inv (passed 1) (blockFrom s at) (sym e) in (i .0, i .1)
+
+  module _ (apart : at ≡ length s → ⊥) where
+    pub block-lost : {x p : ℕ} → refuse x p 0 0 ≡ mapRes (passed 1) (blockFrom s at) → handed (w.lost (length s)) ≡ handed (blockWalk s at)
+    block-lost e = sym (ap handed (step-elsewhere blockFrom s at apart ∙ ap (w.answered (length s)) (map-refuse (passed 1) (blockFrom s at) (sym e))))
+
+    pub block-shown : (v : w.Call Shown × ℕ) → v ≡ handed (w.answered (length s) (blockFrom s at)) → v ≡ handed (blockWalk s at)
+    block-shown v e = e ∙ sym (ap handed (step-elsewhere blockFrom s at apart))
+
+-- ---- the colour step, by what the block step answers
+
+module _ (s : List ℕ) (at : ℕ) where
+  turn : walk s at ≡ w.sought isColour (blockWalk s at .0) (blockWalk s at .1) (walk s)
+  turn = from-turn isColour (blockWalk s) (length s) (walk-moves s) at
+
+  -- a group is passed over
+  pub passes-on : (c : w.Call Shown) (n : ℕ) → passes c ≡ true → (c, n) ≡ handed (blockWalk s at) → (walk s at ≡ walk s n) × (at < n) × (n ≤ length s)
+  passes-on c n h e = go (blockWalk s at .0) (blockWalk s at .1) refl (subst (λ (d : w.Call Shown). passes d ≡ true) (ap (λ (y : w.Call Shown × ℕ). y .0) e) h) (ap (λ (y : w.Call Shown × ℕ). y .1) e)
+    where
+      skip : (e : Entry) (q : ℕ) → isColour e ≡ false → blockWalk s at ≡ (w.gives e, q) → n ≡ q → (walk s at ≡ walk s n) × (at < n) × (n ≤ length s)
+      skip e q k b z =
+          let m = walk-moves s at e q b in
+          let f = turn ∙ ap (λ (v : w.Call Entry × ℕ). w.sought isColour (v .0) (v .1) (walk s)) b ∙ ap (λ (i : Bool). pick i (w.gives e, q) (walk s q)) k in
+          (f ∙ ap (walk s) (sym z), omega arith, omega arith)
+
+      go : (x : w.Call Entry) (q : ℕ) → blockWalk s at ≡ (x, q) → passes (handing x q .0) ≡ true → n ≡ handing x q .1 → (walk s at ≡ walk s n) × (at < n) × (n ≤ length s)
+      go (w.gives (started nm)) q b k z = skip (started nm) q refl b z
+      go (w.gives stopped) q b k z = skip stopped q refl b z
+      go (w.gives (coloured nm t bs m)) q b k z = absurd (true≢false (sym k))
+      go w.over q b k z = absurd (true≢false (sym k))
+      go (w.refused x p) q b k z = absurd (true≢false (sym k))
+
+  -- any other answer is the colour step's own
+  pub ends-here : (c : w.Call Shown) (n : ℕ) → passes c ≡ false → (c, n) ≡ handed (blockWalk s at) → (c, n) ≡ handed (walk s at)
+  ends-here c n h e = e ∙ go (blockWalk s at .0) (blockWalk s at .1) (subst (λ (d : w.Call Shown). passes d ≡ false) (ap (λ (y : w.Call Shown × ℕ). y .0) e) h) ∙ sym (ap handed turn)
+    where
+      go : (x : w.Call Entry) (q : ℕ) → passes (handing x q .0) ≡ false → handing x q ≡ handed (w.sought isColour x q (walk s))
+      go (w.gives (coloured nm t bs k)) q z = refl
+      go (w.gives (started nm)) q z = absurd (true≢false z)
+      go (w.gives stopped) q z = absurd (true≢false z)
+      go w.over q z = refl
+      go (w.refused x p) q z = refl
+
+-- the end, and past it
+pub walk-over : (s : List ℕ) (at : ℕ) → at ≡ length s → (w.over, at) ≡ handed (walk s at)
+walk-over s at e = ends-here s at w.over at refl (block-over s at e)
+
+pub walk-past : (s : List ℕ) (at : ℕ) → length s < at → handed (w.lost (length s)) ≡ handed (walk s at)
+walk-past s at h = sym (ap handed (past-refused s at h))
+
+-- ---- the start
+
+pub first-is : (s : List ℕ) → 12 ≤ length s → 12 ≡ firstPlace s
+unfolding firstPlace
+first-is s h = sym (ap (λ (b : Bool). pick b 12 (length s)) (le-leb 12 (length s) h))
+
+pub first-none : (s : List ℕ) → length s < 12 → length s ≡ firstPlace s
+unfolding firstPlace
+first-none s h = sym (ap (λ (b : Bool). pick b 12 (length s)) (lt-leb 12 (length s) h))
+
+module _ (s : List ℕ) (m : Res (List Entry)) where
+  pub start-refused : {x p : ℕ} → refused x p ≡ verdict m → refusal x p ≡ startOf m s
+  start-refused e = go m e
+    where
+      go : {x p : ℕ} (m : Res (List Entry)) → refused x p ≡ verdict m → refusal x p ≡ startOf m s
+      go (ok es q) z = let y : _≡_ {A = ℕ} 0 1 = cc in absurd (omega arith)
+      go (refuse y q r f) z = cc
+
+  pub start-is : {n k : ℕ} → accepted n k ≡ verdict m → (p : ℕ) → p ≡ firstPlace s → starts p ≡ startOf m s
+  start-is v p e = ap starts e ∙ go m v
+    where
+      go : {n k : ℕ} (m : Res (List Entry)) → accepted n k ≡ verdict m → starts (firstPlace s) ≡ startOf m s
+      go (ok es q) z = refl
+      go (refuse y q r f) z = let y : _≡_ {A = ℕ} 0 1 = cc in absurd (omega arith)
+
+  pub lent-refused : {x p : ℕ} → refused x p ≡ verdict m → [] ≡ lentOf m s
+  lent-refused e = go m e
+    where
+      go : {x p : ℕ} (m : Res (List Entry)) → refused x p ≡ verdict m → [] ≡ lentOf m s
+      go (ok es q) z = let y : _≡_ {A = ℕ} 0 1 = cc in absurd (omega arith)
+      go (refuse y q r f) z = refl
+
+  pub lent-is : {n k : ℕ} → accepted n k ≡ verdict m → s ≡ lentOf m s
+  lent-is e = go m e
+    where
+      go : {n k : ℕ} (m : Res (List Entry)) → accepted n k ≡ verdict m → s ≡ lentOf m s
+      go (ok es q) z = refl
+      go (refuse y q r f) z = let y : _≡_ {A = ℕ} 0 1 = cc in absurd (omega arith)

@@ -1,0 +1,33 @@
+use mathlib.Core.Path.{_≡_, refl, sym, ap, _∙_}
+use native.Mathlib.Omega.{arith}
+use Rattle.ase.specs.Reading.{ase}
+use Rattle.ase.specs.Answer.{told}
+use Rattle.ase_walk.proofs.Stepping.{start-refused, start-is}
+use borrow.Author.Needs.{needs}
+use Rattle.ase_walk.proofs.start_at.Statement.{statement}
+use Rattle.ase_walk.proofs.start_at.Tie as tie
+
+judge-requires : tie.Need-judge-requires
+judge-requires c κs = search needs
+
+enum-known-number : tie.Need-enum-known-number
+enum-known-number c = search needs
+
+enum-told : tie.Need-enum-told
+enum-told c = search needs
+
+first-at-requires : tie.Need-first-at-requires
+first-at-requires c κs = search needs
+
+returns : tie.Need-returns
+returns c =
+    let s = c .before .before .before .before .before .args .file .now in start-refused s (ase s) (sym (ap told (c .before .number .given .1)) ∙ c .before .before .before .judge .ensures)
+
+returns-2 : tie.Need-returns-2
+returns-2 c =
+    let s = c .before .before .before .before .before .args .file .now in start-is s (ase s) (sym (ap told (c .before .enum-told .given .1)) ∙ c .before .before .before .judge .ensures) _ (c .first-at .ensures)
+
+pub start-at-spec : {M : Type 1} → statement M
+start-at-spec =
+    tie.close
+    (tie.spec judge-requires enum-known-number enum-told first-at-requires returns returns-2)

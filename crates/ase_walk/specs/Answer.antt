@@ -1,0 +1,60 @@
+-- What each answer of the code says.
+use Prim.Native.Nat.{ℕ}
+use mathlib.Core.Bool.{Bool, true, false}
+use Rattle.ase.specs.Reading.{Entry}
+use Rattle.colour.specs.Models.{traitsOf}
+use Rattle.colour.specs.Channels.{bitsOf, modelIn}
+use Rattle.ase_read.specs.Answer.{Shown, group, close, colour, entryShown}
+use Rattle.ase_read.specs.Answer as shown
+use Rattle.walk.specs.Walk.{Call, gives, over, refused}
+use Rattle.ase_walk.specs.Walking.{Started, starts, refusal}
+use Rattle.ase_walk.specs.declared.Block.{Block}
+use Rattle.ase_walk.specs.declared.Block.the-variants as vb
+use Rattle.ase_walk.specs.declared.BlockStep.{BlockStep}
+use Rattle.ase_walk.specs.declared.Given.{Given}
+use Rattle.ase_walk.specs.declared.Given.the-variants as vg
+use Rattle.ase_walk.specs.declared.Step.{Step}
+use Rattle.ase_walk.specs.declared.Opening.{Opening}
+use Rattle.ase_walk.specs.declared.Opening.the-variants as vs
+
+-- a block with its name by place and number of units; done; or a refusal's number and place
+abbrev pub toldBlock : Block → Call Shown
+toldBlock (vb.Group p u) = gives (group p u)
+toldBlock vb.Close = gives close
+toldBlock (vb.Colour p u c k) = gives (colour p u (traitsOf (modelIn c) .tag) (bitsOf c) k)
+toldBlock vb.Done = over
+toldBlock (vb.Refused x p) = refused x p
+
+abbrev pub toldBlockStep : BlockStep → Call Shown × ℕ
+toldBlockStep r = (toldBlock (r .block), r .next)
+
+-- what the colour step passes over
+abbrev pub passes : Call Shown → Bool
+passes (gives (group p u)) = true
+passes (gives close) = true
+passes (gives (colour p u t bs k)) = false
+passes (gives (shown.refusal x p)) = false
+passes over = false
+passes (refused x p) = false
+
+-- what it gives: the same of a colour
+abbrev pub toldGiven : Given → Call Shown
+toldGiven (vg.Colour p u c k) = gives (colour p u (traitsOf (modelIn c) .tag) (bitsOf c) k)
+toldGiven vg.Done = over
+toldGiven (vg.Refused x p) = refused x p
+
+abbrev pub toldStep : Step → Call Shown × ℕ
+toldStep r = (toldGiven (r .given), r .next)
+
+-- a record as it is handed out
+abbrev pub handing : Call Entry → ℕ → Call Shown × ℕ
+handing (gives e) q = (gives (entryShown e), q)
+handing over q = (over, q)
+handing (refused x p) q = (refused x p, q)
+
+abbrev pub handed : Call Entry × ℕ → Call Shown × ℕ
+handed w = handing (w .0) (w .1)
+
+abbrev pub toldStart : Opening → Started
+toldStart (vs.At p) = starts p
+toldStart (vs.Refused x p) = refusal x p
