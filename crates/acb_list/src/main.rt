@@ -1,0 +1,217 @@
+// Lists the ACB file on standard input: its header, its shown texts, a line a record, a line a page,
+// `end`; or the refusal.
+ghost use mathlib.Core.Path.{_≡_};
+ghost use Prim.Native.Nat.{_≤_, _<_};
+ghost use lib.ListN.{length};
+use acb::Answer;
+use acb::Header;
+use acb::Tag;
+use acb::Text;
+use acb::WIDTH;
+use acb_show::Page;
+use listing::finish;
+use listing::put;
+use listing::put_name;
+use listing::put_number;
+use listing::put_refusal;
+use listing::put_text;
+use listing::take_input;
+use walk::name_part;
+
+// The longest input that is listed.
+const TAKEN: usize = 65536;
+
+fn put_tag(out: &mut [u8], n: usize, tag: Tag) -> usize {
+    match tag {
+        Tag::None => put_text(out, n, b"none\n"),
+        Tag::Spot => put_text(out, n, b"spot\n"),
+        Tag::Process => put_text(out, n, b"process\n"),
+    }
+}
+
+// A space, and the number.
+fn put_word(out: &mut [u8], n: usize, v: u64) -> usize {
+    let at = put(out, n, b' ');
+    put_number(out, at, v)
+}
+
+// Page size, page offset and identifier.
+fn put_numbers(out: &mut [u8], n: usize, header: Header) -> usize {
+    let mut at = put_word(out, n, header.size as u64);
+    at = put_word(out, at, header.offset as u64);
+    put_word(out, at, header.identifier as u64)
+}
+
+fn put_heading(out: &mut [u8], header: Header, tag: Tag, count: usize) -> usize {
+    let mut at = put_text(out, 0, b"ACB");
+    at = put_word(out, at, count as u64);
+    at = put_word(out, at, header.space as u64);
+    at = put_numbers(out, at, header);
+    at = put(out, at, b' ');
+    put_tag(out, at, tag)
+}
+
+// A header string as it is shown, behind a label.
+fn put_shown(out: &mut [u8], n: usize, label: &[u8], file: &[u8], text: Text) -> usize {
+    let mut at = put_text(out, n, label);
+    at = put_name(
+        out,
+        at,
+        acb_show::shown_text(name_part(file, text.place, text.units)),
+    );
+    put(out, at, b'\n')
+}
+
+fn put_texts(out: &mut [u8], n: usize, file: &[u8], header: Header) -> usize {
+    let title = header.title;
+    let prefix = header.prefix;
+    let suffix = header.suffix;
+    let description = header.description;
+    let mut at = put_shown(out, n, b"title ", file, title);
+    at = put_shown(out, at, b"prefix ", file, prefix);
+    at = put_shown(out, at, b"suffix ", file, suffix);
+    put_shown(out, at, b"description ", file, description)
+}
+
+fn number(x: u32) -> u64 {
+    x as u64
+}
+
+// The components of a record, which are number 8 of its row and those behind it.
+fn put_components(out: &mut [u8], n: usize, row: &[u32], components: usize) -> usize
+    requires { ⌜ (12 ≤ length (now row)) × (components ≤ 4) ⌝ }
+{
+    let mut at = n;
+    let mut k: usize = 0;
+    while k < components {
+        at = put_word(out, at, number(row[8 + k]));
+        k += 1;
+    }
+    at
+}
+
+fn wide(x: u32) -> usize
+    ensures { λ r. ⌜ (r ≡ x) × (r < 4294967296) ⌝ }
+{
+    x as usize
+}
+
+// What stands in a record's line after its number. The code follows the name: its six bytes are
+// listed as three units would be.
+fn put_record(out: &mut [u8], n: usize, file: &[u8], row: &[u32], components: usize) -> usize
+    requires { ⌜ (12 ≤ length (now row)) × (components ≤ 4) ⌝ }
+{
+    let place = wide(row[0]);
+    let units = row[1];
+    let code = place + 2 * wide(units);
+    let mut at = put(out, n, b' ');
+    at = put_name(out, at, name_part(file, code, 3));
+    at = put_components(out, at, row, components);
+    at = put(out, at, b' ');
+    at = put_name(out, at, name_part(file, place, units));
+    put(out, at, b'\n')
+}
+
+fn put_records(
+    out: &mut [u8],
+    n: usize,
+    file: &[u8],
+    table: &[u32],
+    count: usize,
+    components: usize,
+) -> usize
+    requires { ⌜ components ≤ 4 ⌝ }
+{
+    let mut at = n;
+    let mut i: usize = 0;
+    let mut p: usize = 0;
+    while i < count {
+        if table.len() - p < WIDTH {
+            return at;
+        }
+        at = put_number(out, at, i as u64);
+        at = put_record(out, at, file, &table[p..], components);
+        p += WIDTH;
+        i += 1;
+    }
+    at
+}
+
+// A page's number, and the record that it shows, or `-` where it shows none.
+fn put_page(out: &mut [u8], n: usize, page: usize, shown: Page) -> usize {
+    let mut at = put_text(out, n, b"page");
+    at = put_word(out, at, page as u64);
+    match shown {
+        Page::Is(i) => {
+            at = put_word(out, at, i as u64);
+            put(out, at, b'\n')
+        }
+        Page::Refused {
+            number: _,
+            place: _,
+        } => put_text(out, at, b" -\n"),
+    }
+}
+
+// The pages that exist: one for each `size` records, and one for those that are left.
+fn put_pages(
+    out: &mut [u8],
+    n: usize,
+    table: &[u32],
+    count: usize,
+    size: u16,
+    offset: u16,
+) -> usize {
+    let mut at = n;
+    if size == 0 {
+        return at;
+    }
+    let mut left = count;
+    let mut page: usize = 0;
+    while 0 < left {
+        let shown = acb_show::page_in(table, count, size, offset, page);
+        at = put_page(out, at, page, shown);
+        if left <= size as usize {
+            return at;
+        }
+        left -= size as usize;
+        page += 1;
+    }
+    at
+}
+
+// The table has room for 5,041 records, more than the longest input holds.
+fn put_listing(out: &mut [u8], file: &[u8]) -> usize {
+    let mut table = [0u32; 60492];
+    match acb_read::read(file, &mut table) {
+        Answer::Refused { number, place } => put_refusal(out, number, place),
+        Answer::Accepted {
+            header,
+            tag,
+            count,
+            first: _,
+        } => {
+            let components = acb::components_of(header.space);
+            let size = header.size;
+            let offset = header.offset;
+            let mut at = put_heading(out, header, tag, count);
+            at = put_texts(out, at, file, header);
+            at = put_records(out, at, file, &table, count, components);
+            at = put_pages(out, at, &table, count, size, offset);
+            put_text(out, at, b"end\n")
+        }
+    }
+}
+
+fn main() {
+    let mut input = [0u8; 65537];
+    let mut out = [0u8; 16384];
+    let n = take_input(&mut input);
+    if TAKEN < n {
+        let full = put_refusal(&mut out, 1, 0);
+        finish(&out, full);
+        return;
+    }
+    let full = put_listing(&mut out, &input[..n]);
+    finish(&out, full);
+}

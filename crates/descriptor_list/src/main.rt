@@ -1,0 +1,89 @@
+// Lists the descriptor on standard input: its header, a line a row, `end`; or the refusal.
+ghost use Prim.Native.Nat.{_+_, _≤_};
+ghost use lib.ListN.{length};
+use descriptor_read::Answer;
+use listing::finish;
+use listing::put;
+use listing::put_number;
+use listing::put_refusal;
+use listing::put_text;
+use listing::take_input;
+
+// The longest input that is listed.
+const TAKEN: usize = 16384;
+
+// The characters of a kind, without the spaces at its end.
+fn put_kind(out: &mut [u8], n: usize, kind: u32) -> usize {
+    let mut tag = [0u8; 4];
+    fields::put_u32(&mut tag, 0, kind);
+    let mut k: usize = 4;
+    while 0 < k && tag[k - 1] == b' ' {
+        k -= 1;
+    }
+    put_text(out, n, &tag[..k])
+}
+
+fn wide(x: u32) -> u64 {
+    x as u64
+}
+
+// Parent, first byte, length and depth.
+fn put_places(out: &mut [u8], n: usize, row: &[u32]) -> usize
+    requires { ⌜ 5 ≤ length (now row) ⌝ }
+{
+    let mut at = n;
+    let mut k: usize = 1;
+    while k < descriptor_read::WIDTH {
+        at = put(out, at, b' ');
+        at = put_number(out, at, wide(row[k]));
+        k += 1;
+    }
+    at
+}
+
+fn put_rows(out: &mut [u8], n: usize, table: &[u32], rows: usize) -> usize {
+    let mut at = n;
+    let mut i: usize = 0;
+    let mut p: usize = 0;
+    while i < rows {
+        if table.len() - p < descriptor_read::WIDTH {
+            return at;
+        }
+        at = put_number(out, at, i as u64);
+        at = put(out, at, b' ');
+        at = put_kind(out, at, table[p]);
+        at = put_places(out, at, &table[p..]);
+        at = put(out, at, b'\n');
+        p += descriptor_read::WIDTH;
+        i += 1;
+    }
+    at
+}
+
+// The table has room for 3,276 rows, the most that the longest input holds.
+fn put_listing(out: &mut [u8], file: &[u8]) -> usize {
+    let mut table = [0u32; 16380];
+    match descriptor_read::read(file, &mut table) {
+        Answer::Refused { number, place } => put_refusal(out, number, place),
+        Answer::Accepted { rows } => {
+            let mut at = put_text(out, 0, b"DESC ");
+            at = put_number(out, at, rows as u64);
+            at = put(out, at, b'\n');
+            at = put_rows(out, at, &table, rows);
+            put_text(out, at, b"end\n")
+        }
+    }
+}
+
+fn main() {
+    let mut input = [0u8; 16385];
+    let mut out = [0u8; 16384];
+    let n = take_input(&mut input);
+    if TAKEN < n {
+        let full = put_refusal(&mut out, 1, 0);
+        finish(&out, full);
+        return;
+    }
+    let full = put_listing(&mut out, &input[..n]);
+    finish(&out, full);
+}
