@@ -143,6 +143,239 @@ khuyurek_ase_written khuyurek_ase_write(const uint32_t *records, size_t records_
                                         const uint8_t *text, size_t text_len,
                                         uint8_t *out, size_t out_len);
 
+/* ---- ACB */
+
+/* The numbers of a record in a table or run: place of the name's first unit in the
+ * file or text, number of its units (16 bits each, big-endian, no closing zero), six
+ * code bytes, four components (a number each; the fourth is spare save in CMYK: a
+ * reader fills it with 0, a writer ignores it). */
+#define KHUYUREK_ACB_WIDTH 12
+
+/* Where a string lies in the file or text: the place of its first unit, and its units. */
+typedef struct {
+    size_t place;
+    uint32_t units;
+} khuyurek_text;
+
+/* tag: 0 none, 1 spot (`spflspot`), 2 process (`spflproc`). */
+typedef struct {
+    uint16_t identifier;
+    uint16_t page_size;
+    uint16_t page_offset;
+    uint16_t space;
+    uint32_t tag;
+    khuyurek_text title, prefix, suffix, description;
+} khuyurek_acb_header;
+
+/* number 0: accepted, with the header and the number of colours. Else the refusal and
+ * its place, and all the rest is 0. */
+typedef struct {
+    uint32_t number;
+    size_t place;
+    size_t count;
+    khuyurek_acb_header header;
+} khuyurek_acb_answer;
+
+/* number 0: accepted, with the record and where its name lies. Else the refusal and
+ * its place, and all the rest is 0. */
+typedef struct {
+    uint32_t number;
+    uint32_t units;
+    size_t place;
+    size_t name;
+    uint8_t code[6];
+    uint8_t components[4];
+} khuyurek_acb_record;
+
+/* number 0: accepted, with what the components show (count 3 or 4; the rest 0). Else the
+ * refusal and its place, and all the rest is 0. */
+typedef struct {
+    uint32_t number;
+    uint32_t count;
+    size_t place;
+    int32_t values[4];
+} khuyurek_acb_shown;
+
+/* number 0: accepted, with the full name's length in bytes. Else the refusal and its
+ * place. */
+typedef struct {
+    uint32_t number;
+    size_t length;
+    size_t place;
+} khuyurek_acb_full;
+
+/* number 0: accepted, with the record that the page shows. Else the refusal and its
+ * place. */
+typedef struct {
+    uint32_t number;
+    size_t record;
+    size_t place;
+} khuyurek_acb_page;
+
+/* number 0: accepted, with the length in bytes. Else the refusal; its place is 0. */
+typedef struct {
+    uint32_t number;
+    size_t length;
+} khuyurek_acb_written;
+
+khuyurek_acb_answer khuyurek_acb_judge(const uint8_t *file, size_t file_len);
+
+/* Needs KHUYUREK_ACB_WIDTH * count numbers of the table, else 11; the rest of it keeps
+ * its contents. */
+khuyurek_acb_answer khuyurek_acb_read(const uint8_t *file, size_t file_len,
+                                      uint32_t *table, size_t table_len);
+
+/* Judges the whole file, then 12 where it has no such record. */
+khuyurek_acb_record khuyurek_acb_record_at(const uint8_t *file, size_t file_len,
+                                           size_t index);
+
+/* Where the shown text of a string's bytes begins: after the first `=` where they begin
+ * with `$$$/` and hold one, else 0. Units are pairs of bytes from the start; an odd last
+ * byte is no unit and stays part of the rest. */
+size_t khuyurek_acb_shown_start(const uint8_t *string, size_t string_len);
+
+/* Each judges the whole file, then 12 where it has no such record; the last then 11 where
+ * out is too short. */
+khuyurek_acb_shown khuyurek_acb_shown_at(const uint8_t *file, size_t file_len,
+                                         size_t index);
+khuyurek_acb_full khuyurek_acb_full_length(const uint8_t *file, size_t file_len,
+                                           size_t index);
+khuyurek_acb_full khuyurek_acb_full_name(const uint8_t *file, size_t file_len,
+                                         size_t index, uint8_t *out, size_t out_len);
+
+/* Judges the whole file, then 12 where the page shows no record. */
+khuyurek_acb_page khuyurek_acb_page_at(const uint8_t *file, size_t file_len, size_t page);
+
+/* The exact length that writing needs: 3 for an unknown tag, before all else. A remainder
+ * of fewer than KHUYUREK_ACB_WIDTH numbers is left alone. */
+khuyurek_acb_written khuyurek_acb_length(khuyurek_acb_header header,
+                                         const uint32_t *records, size_t records_len,
+                                         const uint8_t *text, size_t text_len);
+
+khuyurek_acb_written khuyurek_acb_write(khuyurek_acb_header header,
+                                        const uint32_t *records, size_t records_len,
+                                        const uint8_t *text, size_t text_len,
+                                        uint8_t *out, size_t out_len);
+
+/* ---- descriptors */
+
+/* The numbers of a row: kind (its four characters as one number), parent, first byte,
+ * length, depth. */
+#define KHUYUREK_DESCRIPTOR_WIDTH 5
+
+/* number 0: accepted, with the number of rows. Else the refusal and its place. */
+typedef struct {
+    uint32_t number;
+    size_t place;
+    size_t rows;
+} khuyurek_descriptor_answer;
+
+/* number 0: accepted, with where the row's value lies. Else the refusal and its place,
+ * and all the rest is 0. */
+typedef struct {
+    uint32_t number;
+    size_t place;
+    size_t first;
+    size_t length;
+} khuyurek_descriptor_value;
+
+/* number 0: accepted, with the row's value. kind: 0 a row of another kind (then unit and
+ * bits are 0), else the row's kind as four characters: `bool` (bits 0 or 1), `long` (bits:
+ * the 32 bits, zero-extended), `comp` (64 bits), `doub` (64 bits of the double), `UntF`
+ * (unit: its four characters; bits: 64 bits of the double). Else the refusal and its
+ * place, and all the rest is 0. */
+typedef struct {
+    uint32_t number;
+    uint32_t kind;
+    size_t place;
+    uint32_t unit;
+    uint64_t bits;
+} khuyurek_descriptor_typed;
+
+khuyurek_descriptor_answer khuyurek_descriptor_judge(const uint8_t *file, size_t file_len);
+
+/* Needs KHUYUREK_DESCRIPTOR_WIDTH * rows numbers of the table, else 11; the rest of it
+ * keeps its contents. */
+khuyurek_descriptor_answer khuyurek_descriptor_read(const uint8_t *file, size_t file_len,
+                                                    uint32_t *table, size_t table_len);
+
+/* Judges the whole file, then 12 where it has no such row. */
+khuyurek_descriptor_value khuyurek_descriptor_value_at(const uint8_t *file,
+                                                       size_t file_len, size_t row);
+khuyurek_descriptor_typed khuyurek_descriptor_typed_at(const uint8_t *file,
+                                                       size_t file_len, size_t row);
+
+/* ---- walks: colours one a call, without a table
+ *
+ *     khuyurek_ase_start start = khuyurek_ase_walk_start(file, file_len);
+ *     if (start.number != 0) return start.number;
+ *     size_t at = start.at;
+ *     for (;;) {
+ *         khuyurek_ase_step step = khuyurek_ase_walk(file, file_len, at);
+ *         if (step.number != 0) return step.number;
+ *         if (step.done) break;
+ *         ... the colour; its name has step.units units from file + step.name ...
+ *         at = step.next;
+ *     }
+ *
+ * Starting judges the whole file. A step takes any place of any file: where no colour
+ * stands that the layout allows it is 5, and so is every step from the next it gives; at
+ * the file's end it is done. A step costs no more than the bytes that it passes. */
+
+/* number 0: accepted, with the place of the first step. Else the refusal as
+ * khuyurek_aco_judge gives it, and at is 0. */
+typedef struct {
+    uint32_t number;
+    size_t place;
+    size_t record;
+    size_t field;
+    size_t at;
+} khuyurek_aco_start;
+
+/* number 0: done is 1 where the colours have ended, else the colour and where its name
+ * lies. Else 5, whose place is 0. next: the place of the next step; all that a step does
+ * not have is 0. */
+typedef struct {
+    uint32_t number;
+    uint32_t done;
+    size_t next;
+    size_t name;
+    uint32_t units;
+    uint16_t space;
+    uint16_t samples[4];
+} khuyurek_aco_step;
+
+khuyurek_aco_start khuyurek_aco_walk_start(const uint8_t *file, size_t file_len);
+khuyurek_aco_step khuyurek_aco_walk(const uint8_t *file, size_t file_len, size_t at);
+
+/* As for ACO; the refusal is khuyurek_ase_judge's. */
+typedef struct {
+    uint32_t number;
+    size_t place;
+    size_t at;
+} khuyurek_ase_start;
+
+/* As for ACO, with the block's type; 0 where there is none. */
+typedef struct {
+    uint32_t number;
+    uint32_t done;
+    uint32_t block;
+    uint32_t units;
+    size_t next;
+    size_t name;
+    uint32_t model;
+    uint32_t channels[4];
+    uint32_t type;
+} khuyurek_ase_step;
+
+khuyurek_ase_start khuyurek_ase_walk_start(const uint8_t *file, size_t file_len);
+
+/* Colours alone: groups are passed over. */
+khuyurek_ase_step khuyurek_ase_walk(const uint8_t *file, size_t file_len, size_t at);
+
+/* Blocks: group starts and ends too. */
+khuyurek_ase_step khuyurek_ase_walk_block(const uint8_t *file, size_t file_len, size_t at);
+
 /* ---- samples and channels */
 
 /* The colour models of ASE, by their tags. */

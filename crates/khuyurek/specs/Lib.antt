@@ -1,1 +1,4 @@
 pub mod Exported
+pub mod Acb
+pub mod Descriptor
+pub mod Walk

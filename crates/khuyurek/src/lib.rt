@@ -1,5 +1,43 @@
 // What C and Rust link: the library's calls with plain structs as answers. include/khuyurek.h
 // declares the same for C.
+mod books;
+mod descriptors;
+mod walks;
+
+pub use books::AcbAnswer;
+pub use books::AcbFull;
+pub use books::AcbHeader;
+pub use books::AcbPage;
+pub use books::AcbRecord;
+pub use books::AcbShown;
+pub use books::AcbText;
+pub use books::AcbWritten;
+pub use books::khuyurek_acb_full_length;
+pub use books::khuyurek_acb_full_name;
+pub use books::khuyurek_acb_judge;
+pub use books::khuyurek_acb_length;
+pub use books::khuyurek_acb_page_at;
+pub use books::khuyurek_acb_read;
+pub use books::khuyurek_acb_record_at;
+pub use books::khuyurek_acb_shown_at;
+pub use books::khuyurek_acb_shown_start;
+pub use books::khuyurek_acb_write;
+pub use descriptors::DescriptorAnswer;
+pub use descriptors::DescriptorTyped;
+pub use descriptors::DescriptorValue;
+pub use descriptors::khuyurek_descriptor_judge;
+pub use descriptors::khuyurek_descriptor_read;
+pub use descriptors::khuyurek_descriptor_typed_at;
+pub use descriptors::khuyurek_descriptor_value_at;
+pub use walks::AcoStart;
+pub use walks::AcoStep;
+pub use walks::AseStart;
+pub use walks::AseStep;
+pub use walks::khuyurek_aco_walk;
+pub use walks::khuyurek_aco_walk_start;
+pub use walks::khuyurek_ase_walk;
+pub use walks::khuyurek_ase_walk_block;
+pub use walks::khuyurek_ase_walk_start;
 ghost use mathlib.Core.Path.{_≡_};
 ghost use Rattle.aco.specs.Reading.{aco};
 ghost use Rattle.aco.specs.Answer.{verdict, told};

@@ -1,0 +1,21 @@
+use borrow.Author.Needs.{needs}
+use Rattle.khuyurek.proofs.walks.ase_colour.Statement.{statement}
+use Rattle.khuyurek.proofs.walks.ase_colour.Tie as tie
+
+cast-t6 : tie.Need-cast-t6
+cast-t6 c = search needs
+
+model-requires : tie.Need-model-requires
+model-requires c κs = search needs
+
+traits-requires : tie.Need-traits-requires
+traits-requires c κs = search needs
+
+bits-requires : tie.Need-bits-requires
+bits-requires c κs = search needs
+
+returns : tie.Need-returns
+returns c = rw (c .bits .ensures, c .before .traits .ensures, c .before .before .model .ensures)
+
+pub ase-colour-spec : {M : Type 1} → statement M
+ase-colour-spec = tie.close (tie.spec cast-t6 model-requires traits-requires bits-requires returns)

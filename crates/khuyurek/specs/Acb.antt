@@ -1,0 +1,140 @@
+-- What each exported answer about colour books says: refusal number 0 is accepted, and all that an answer does not have is 0.
+use Prim.Native.Nat.{ℕ}
+use mathlib.Core.List.{List, [], _∷_}
+use lib.Dec.{eqb}
+use lib.IntN.{ℤ, pos}
+use lib.ListN.{getD}
+use Rattle.fields.specs.Reader.{pick}
+use Rattle.fields.specs.Writing.{Outcome, bytes, refused as unwritten}
+use Rattle.acb.specs.Grammar.{Tag, none, spot, process}
+use Rattle.acb.specs.Answer.{Shown, Verdict, accepted, refused}
+use Rattle.acb.specs.Parts.{Found, tagged, unknown}
+use Rattle.acb_read.specs.Answer.{Where, lies, refusal}
+use Rattle.acb_read.specs.Answer as record-of
+use Rattle.acb_show.specs.Answer.{Told, record-is, refused as noPage}
+use Rattle.acb_view.specs.View.{Counted, counted, refusal as refusalView}
+use Rattle.acb_write.specs.Writing.{Given, needed, written}
+use Rattle.khuyurek.specs.declared.books.AcbText.{AcbText}
+use Rattle.khuyurek.specs.declared.books.AcbHeader.{AcbHeader}
+use Rattle.khuyurek.specs.declared.books.AcbAnswer.{AcbAnswer}
+use Rattle.khuyurek.specs.declared.books.AcbRecord.{AcbRecord}
+use Rattle.khuyurek.specs.declared.books.AcbShown.{AcbShown}
+use Rattle.khuyurek.specs.declared.books.AcbFull.{AcbFull}
+use Rattle.khuyurek.specs.declared.books.AcbPage.{AcbPage}
+use Rattle.khuyurek.specs.declared.books.AcbWritten.{AcbWritten}
+
+-- ---- the header
+
+-- a string by its place and number of units
+abbrev pub textOf : ℕ × ℕ → AcbText
+textOf l = record { place = l .0; units = l .1 }
+
+abbrev pub numberOf : Tag → ℕ
+numberOf none = 0
+numberOf spot = 1
+numberOf process = 2
+
+-- title, prefix, suffix and description are the header's texts in their order
+abbrev pub headerOf : Shown → Tag → AcbHeader
+headerOf h t = record {
+  identifier = h .identifier;
+  size = h .size;
+  offset = h .offset;
+  space = h .space;
+  tag = numberOf t;
+  title = textOf (getD (h .texts) 0 (0, 0));
+  prefix = textOf (getD (h .texts) 1 (0, 0));
+  suffix = textOf (getD (h .texts) 2 (0, 0));
+  description = textOf (getD (h .texts) 3 (0, 0));
+}
+
+abbrev pub noHeader : AcbHeader
+noHeader = record {
+  identifier = 0;
+  size = 0;
+  offset = 0;
+  space = 0;
+  tag = 0;
+  title = textOf (0, 0);
+  prefix = textOf (0, 0);
+  suffix = textOf (0, 0);
+  description = textOf (0, 0);
+}
+
+-- ---- judging and reading
+
+abbrev pub answerOf : Verdict → AcbAnswer
+answerOf (accepted h t n p) = record { number = 0; place = 0; count = n; header = headerOf h t }
+answerOf (refused x p) = record { number = x; place = p; count = 0; header = noHeader }
+
+-- an answer, and what the lent table then holds
+abbrev pub readOf : Verdict × List ℕ → AcbAnswer × List ℕ
+readOf v = (answerOf (v .0), v .1)
+
+-- a record's code and components beside where its name lies, or the refusal
+abbrev pub placed : List ℕ → List ℕ → Where → AcbRecord
+placed cs ks (lies p u) = record { number = 0; units = u; place = 0; name = p; code = cs; components = ks }
+placed cs ks (refusal x p) = record { number = x; units = 0; place = p; name = 0; code = cs; components = ks }
+
+abbrev pub recordOf : record-of.Shown → AcbRecord
+recordOf w = placed (w .code) (w .components) (w .name)
+
+-- ---- what a book shows
+
+abbrev pub fourOf : List ℤ → List ℤ
+fourOf vs = getD vs 0 (pos 0) ∷ getD vs 1 (pos 0) ∷ getD vs 2 (pos 0) ∷ getD vs 3 (pos 0) ∷ []
+
+-- what the components show, and how many they are
+abbrev pub showing : List ℤ → Counted → AcbShown
+showing vs (counted n) = record { number = 0; count = n; place = 0; values = vs }
+showing vs (refusalView x p) = record { number = x; count = 0; place = p; values = vs }
+
+abbrev pub shownOf : List ℤ × Counted → AcbShown
+shownOf w = showing (fourOf (w .0)) (w .1)
+
+abbrev pub fullOf : Counted → AcbFull
+fullOf (counted n) = record { number = 0; size = n; place = 0 }
+fullOf (refusalView x p) = record { number = x; size = 0; place = p }
+
+-- the same, and what the lent bytes then hold
+abbrev pub fullReadOf : Counted × List ℕ → AcbFull × List ℕ
+fullReadOf w = (fullOf (w .0), w .1)
+
+abbrev pub pageOf : Told → AcbPage
+pageOf (record-is i) = record { number = 0; rec = i; place = 0 }
+pageOf (noPage x p) = record { number = x; rec = 0; place = p }
+
+-- ---- writing
+
+abbrev pub lieOf : AcbText → ℕ × ℕ
+lieOf t = (t .place, t .units)
+
+abbrev pub givenOf : AcbHeader → Shown
+givenOf h = record {
+  identifier = h .identifier;
+  texts = lieOf (h .title) ∷ lieOf (h .prefix) ∷ lieOf (h .suffix) ∷ lieOf (h .description) ∷ [];
+  size = h .size;
+  offset = h .offset;
+  space = h .space;
+}
+
+-- the tag that a number is
+abbrev pub tagOf : ℕ → Found
+tagOf n = pick (eqb n 0) (tagged none) (pick (eqb n 1) (tagged spot) (pick (eqb n 2) (tagged process) unknown))
+
+abbrev pub writtenOf : Outcome → AcbWritten
+writtenOf (bytes n) = record { number = 0; size = n }
+writtenOf (unwritten x) = record { number = x; size = 0 }
+
+-- a number that is no tag is 3, before all else
+abbrev pub lengthOf : List ℕ → AcbHeader → Found → List Given → AcbWritten
+lengthOf text h (tagged t) gs = writtenOf (needed text (givenOf h) t gs)
+lengthOf text h unknown gs = writtenOf (unwritten 3)
+
+abbrev pub sizedOf : Outcome × List ℕ → AcbWritten × List ℕ
+sizedOf o = (writtenOf (o .0), o .1)
+
+-- the same, and what the lent bytes then hold
+abbrev pub wroteOf : List ℕ → AcbHeader → Found → List Given → List ℕ → AcbWritten × List ℕ
+wroteOf text h (tagged t) gs out = sizedOf (written text (givenOf h) t gs out)
+wroteOf text h unknown gs out = sizedOf (unwritten 3, out)

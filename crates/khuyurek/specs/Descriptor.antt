@@ -1,0 +1,43 @@
+-- What each exported answer about descriptors says: refusal number 0 is accepted, and all that an answer does not have is 0.
+use Prim.Native.Nat.{ℕ}
+use mathlib.Core.List.{List}
+use mathlib.Core.Bool.{Bool, true, false}
+use lib.Ieee.{binary64, toBits}
+use Rattle.descriptor_read.specs.Answer.{Verdict, accepted, refused}
+use Rattle.descriptor_read.specs.Values.{Place, lies, refusal}
+use Rattle.descriptor_read.specs.declared.Typed.{Typed}
+use Rattle.descriptor_read.specs.declared.Typed.the-variants as vt
+use Rattle.khuyurek.specs.declared.descriptors.DescriptorAnswer.{DescriptorAnswer}
+use Rattle.khuyurek.specs.declared.descriptors.DescriptorValue.{DescriptorValue}
+use Rattle.khuyurek.specs.declared.descriptors.DescriptorTyped.{DescriptorTyped}
+
+abbrev pub answerOf : Verdict → DescriptorAnswer
+answerOf (accepted n) = record { number = 0; place = 0; rows = n }
+answerOf (refused x p) = record { number = x; place = p; rows = 0 }
+
+-- an answer, and what the lent table then holds
+abbrev pub readOf : Verdict × List ℕ → DescriptorAnswer × List ℕ
+readOf v = (answerOf (v .0), v .1)
+
+abbrev pub valueOf : Place → DescriptorValue
+valueOf (lies v n) = record { number = 0; place = 0; first = v; size = n }
+valueOf (refusal x p) = record { number = x; place = p; first = 0; size = 0 }
+
+-- ---- values by their kind
+
+abbrev pub flagOf : Bool → ℕ
+flagOf true = 1
+flagOf false = 0
+
+abbrev pub kinded : ℕ → ℕ → ℕ → DescriptorTyped
+kinded k u b = record { number = 0; kind = k; place = 0; unit = u; bits = b }
+
+-- `bool`, `long`, `comp`, `doub` and `UntF` by their four characters, a double by its bits; of other kinds all is 0
+abbrev pub typedAs : Typed → DescriptorTyped
+typedAs (vt.Bool b) = kinded 0x626f_6f6c 0 (flagOf b)
+typedAs (vt.Long n) = kinded 0x6c6f_6e67 0 n
+typedAs (vt.Comp n) = kinded 0x636f_6d70 0 n
+typedAs (vt.Double x) = kinded 0x646f_7562 0 (toBits binary64 x)
+typedAs (vt.UnitDouble u x) = kinded 0x556e_7446 u (toBits binary64 x)
+typedAs vt.Other = kinded 0 0 0
+typedAs (vt.Refused x p) = record { number = x; kind = 0; place = p; unit = 0; bits = 0 }

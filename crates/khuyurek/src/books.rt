@@ -1,0 +1,413 @@
+// ACB colour books for C.
+ghost use mathlib.Core.Path.{_≡_};
+ghost use Rattle.acb.specs.Reading.{acb};
+ghost use Rattle.acb.specs.Answer.{verdict, told, toldTag, toldHeader, toldKnown};
+ghost use Rattle.acb_read.specs.Table.{filled, recordAt};
+ghost use Rattle.acb_read.specs.Answer.{shown};
+ghost use Rattle.acb_show.specs.Texts.{shownStart};
+ghost use Rattle.acb_show.specs.Answer.{toldPage};
+ghost use Rattle.acb_view.specs.View.{shownAt, pageAt, fullLength, fullNameAt};
+ghost use Rattle.acb_view.specs.Answer.{toldCount};
+ghost use Rattle.acb_write.specs.Writing.{given};
+ghost use Rattle.acb_write.specs.Answer.{told as toldWritten};
+ghost use Rattle.khuyurek.specs.Acb.{numberOf, headerOf, noHeader, answerOf, readOf, recordOf, fourOf, shownOf, fullOf, fullReadOf, pageOf, givenOf, tagOf, writtenOf, lengthOf, wroteOf};
+use acb::Answer;
+use acb::Header;
+use acb::Known;
+use acb::Tag;
+use acb::Text;
+use acb_read::NamePlace;
+use acb_show::Page;
+use acb_view::Count;
+use acb_write::Written;
+
+// Where a string lies in the file or text: the place of its first unit, and its units.
+#[repr(C)]
+pub struct AcbText {
+    pub place: usize,
+    pub units: u32,
+}
+
+// What stands before the records, apart from their number, and the closing tag: 0 none, 1 spot,
+// 2 process.
+#[repr(C)]
+pub struct AcbHeader {
+    pub identifier: u16,
+    pub size: u16,
+    pub offset: u16,
+    pub space: u16,
+    pub tag: u32,
+    pub title: AcbText,
+    pub prefix: AcbText,
+    pub suffix: AcbText,
+    pub description: AcbText,
+}
+
+// Number 0 is accepted, with the header and the number of colours; else the refusal.
+#[repr(C)]
+pub struct AcbAnswer {
+    pub number: u32,
+    pub place: usize,
+    pub count: usize,
+    pub header: AcbHeader,
+}
+
+// Number 0 is accepted, with the place of the name's first unit, its units, the code and the
+// components; else the refusal.
+#[repr(C)]
+pub struct AcbRecord {
+    pub number: u32,
+    pub units: u32,
+    pub place: usize,
+    pub name: usize,
+    pub code: [u8; 6],
+    pub components: [u8; 4],
+}
+
+fn number_of(t: Tag) -> u32
+    ensures { λ r. ⌜ r ≡ numberOf (toldTag t) ⌝ }
+{
+    match t {
+        Tag::None => 0,
+        Tag::Spot => 1,
+        Tag::Process => 2,
+    }
+}
+
+fn header_of(h: Header, t: Tag) -> AcbHeader
+    ensures { λ r. ⌜ r ≡ headerOf (toldHeader h) (toldTag t) ⌝ }
+{
+    AcbHeader {
+        identifier: h.identifier,
+        size: h.size,
+        offset: h.offset,
+        space: h.space,
+        tag: number_of(t),
+        title: AcbText {
+            place: h.title.place,
+            units: h.title.units,
+        },
+        prefix: AcbText {
+            place: h.prefix.place,
+            units: h.prefix.units,
+        },
+        suffix: AcbText {
+            place: h.suffix.place,
+            units: h.suffix.units,
+        },
+        description: AcbText {
+            place: h.description.place,
+            units: h.description.units,
+        },
+    }
+}
+
+fn no_header() -> AcbHeader
+    ensures { λ r. ⌜ r ≡ noHeader ⌝ }
+{
+    AcbHeader {
+        identifier: 0,
+        size: 0,
+        offset: 0,
+        space: 0,
+        tag: 0,
+        title: AcbText { place: 0, units: 0 },
+        prefix: AcbText { place: 0, units: 0 },
+        suffix: AcbText { place: 0, units: 0 },
+        description: AcbText { place: 0, units: 0 },
+    }
+}
+
+fn exported(a: Answer) -> AcbAnswer
+    ensures { λ r. ⌜ r ≡ answerOf (told a) ⌝ }
+{
+    match a {
+        Answer::Accepted {
+            header,
+            tag,
+            count,
+            first: _,
+        } => AcbAnswer {
+            number: 0,
+            place: 0,
+            count,
+            header: header_of(header, tag),
+        },
+        Answer::Refused { number, place } => AcbAnswer {
+            number,
+            place,
+            count: 0,
+            header: no_header(),
+        },
+    }
+}
+
+// Judges a book.
+#[no_mangle]
+pub extern "C" fn khuyurek_acb_judge(file: &[u8]) -> AcbAnswer
+    ensures { λ r. ⌜ r ≡ answerOf (verdict (acb (now (file .entry)))) ⌝ }
+{
+    exported(acb::judge(file))
+}
+
+// Reads a book into a table, twelve numbers a record.
+#[no_mangle]
+pub extern "C" fn khuyurek_acb_read(file: &[u8], table: &mut [u32]) -> AcbAnswer
+    ensures { λ r. ⌜ (r, now (table .exit)) ≡ readOf (filled (acb (now (file .entry))) (now (table .entry))) ⌝ }
+{
+    exported(acb_read::read(file, table))
+}
+
+// Record i of a book.
+#[no_mangle]
+pub extern "C" fn khuyurek_acb_record_at(file: &[u8], i: usize) -> AcbRecord
+    ensures { λ r. ⌜ r ≡ recordOf (shown (recordAt i (acb (now (file .entry))))) ⌝ }
+{
+    let swatch = acb_read::record_at(file, i);
+    let code = swatch.code;
+    let components = swatch.components;
+    let name = swatch.name;
+    match name {
+        NamePlace::At { place, units } => AcbRecord {
+            number: 0,
+            units,
+            place: 0,
+            name: place,
+            code,
+            components,
+        },
+        NamePlace::Refused { number, place } => AcbRecord {
+            number,
+            units: 0,
+            place,
+            name: 0,
+            code,
+            components,
+        },
+    }
+}
+
+// Where the shown text of a string's bytes begins.
+#[no_mangle]
+pub extern "C" fn khuyurek_acb_shown_start(string: &[u8]) -> usize
+    ensures { λ r. ⌜ r ≡ shownStart (now (string .entry)) ⌝ }
+{
+    acb_show::shown_start(string)
+}
+
+// ---- what a book shows
+
+// Number 0 is accepted, with the shown components, three or four of them; else the refusal.
+#[repr(C)]
+pub struct AcbShown {
+    pub number: u32,
+    pub count: u32,
+    pub place: usize,
+    pub values: [i32; 4],
+}
+
+// Number 0 is accepted, with the length in bytes; else the refusal.
+#[repr(C)]
+pub struct AcbFull {
+    pub number: u32,
+    pub size: usize,
+    pub place: usize,
+}
+
+// Number 0 is accepted, with the record that the page shows; else the refusal.
+#[repr(C)]
+pub struct AcbPage {
+    pub number: u32,
+    pub rec: usize,
+    pub place: usize,
+}
+
+fn wide(x: i16) -> i32
+    ensures { λ r. ⌜ r ≡ x ⌝ }
+{
+    x as i32
+}
+
+fn four(values: [i16; 4]) -> [i32; 4]
+    ensures { λ r. ⌜ r ≡ fourOf values ⌝ }
+{
+    let a = wide(values[0]);
+    let b = wide(values[1]);
+    let c = wide(values[2]);
+    let d = wide(values[3]);
+    [a, b, c, d]
+}
+
+// The shown components of record i of a book.
+#[no_mangle]
+pub extern "C" fn khuyurek_acb_shown_at(file: &[u8], i: usize) -> AcbShown
+    ensures { λ r. ⌜ r ≡ shownOf (shownAt i (acb (now (file .entry)))) ⌝ }
+{
+    let shown = acb_view::shown_at(file, i);
+    let bytes = shown.values;
+    let values = four(bytes);
+    let count = shown.count;
+    match count {
+        Count::Is(n) => AcbShown {
+            number: 0,
+            count: n as u32,
+            place: 0,
+            values,
+        },
+        Count::Refused { number, place } => AcbShown {
+            number,
+            count: 0,
+            place,
+            values,
+        },
+    }
+}
+
+fn exported_full(c: Count) -> AcbFull
+    ensures { λ r. ⌜ r ≡ fullOf (toldCount c) ⌝ }
+{
+    match c {
+        Count::Is(size) => AcbFull {
+            number: 0,
+            size,
+            place: 0,
+        },
+        Count::Refused { number, place } => AcbFull {
+            number,
+            size: 0,
+            place,
+        },
+    }
+}
+
+// The length of the full name of record i of a book.
+#[no_mangle]
+pub extern "C" fn khuyurek_acb_full_length(file: &[u8], i: usize) -> AcbFull
+    ensures { λ r. ⌜ r ≡ fullOf (fullLength (now (file .entry)) i (acb (now (file .entry)))) ⌝ }
+{
+    exported_full(acb_view::full_length(file, i))
+}
+
+// Writes the full name of record i of a book into `out`.
+#[no_mangle]
+pub extern "C" fn khuyurek_acb_full_name(file: &[u8], i: usize, out: &mut [u8]) -> AcbFull
+    ensures { λ r. ⌜ (r, now (out .exit)) ≡ fullReadOf (fullNameAt (now (file .entry)) i (acb (now (file .entry))) (now (out .entry))) ⌝ }
+{
+    exported_full(acb_view::full_name(file, i, out))
+}
+
+fn exported_page(p: Page) -> AcbPage
+    ensures { λ r. ⌜ r ≡ pageOf (toldPage p) ⌝ }
+{
+    match p {
+        Page::Is(rec) => AcbPage {
+            number: 0,
+            rec,
+            place: 0,
+        },
+        Page::Refused { number, place } => AcbPage {
+            number,
+            rec: 0,
+            place,
+        },
+    }
+}
+
+// The record that a page of a book shows.
+#[no_mangle]
+pub extern "C" fn khuyurek_acb_page_at(file: &[u8], page: usize) -> AcbPage
+    ensures { λ r. ⌜ r ≡ pageOf (pageAt page (acb (now (file .entry)))) ⌝ }
+{
+    exported_page(acb_view::page_at(file, page))
+}
+
+// ---- writing
+
+// Number 0 is accepted, with the length in bytes; else the refusal, whose place is 0.
+#[repr(C)]
+pub struct AcbWritten {
+    pub number: u32,
+    pub size: usize,
+}
+
+fn header_given(g: AcbHeader) -> Header
+    ensures { λ r. ⌜ toldHeader r ≡ givenOf g ⌝ }
+{
+    Header {
+        identifier: g.identifier,
+        title: Text {
+            place: g.title.place,
+            units: g.title.units,
+        },
+        prefix: Text {
+            place: g.prefix.place,
+            units: g.prefix.units,
+        },
+        suffix: Text {
+            place: g.suffix.place,
+            units: g.suffix.units,
+        },
+        description: Text {
+            place: g.description.place,
+            units: g.description.units,
+        },
+        size: g.size,
+        offset: g.offset,
+        space: g.space,
+    }
+}
+
+fn tag_given(number: u32) -> Known
+    ensures { λ r. ⌜ toldKnown r ≡ tagOf number ⌝ }
+{
+    if number == 0 {
+        return Known::Is(Tag::None);
+    }
+    if number == 1 {
+        return Known::Is(Tag::Spot);
+    }
+    if number == 2 {
+        return Known::Is(Tag::Process);
+    }
+    Known::Unknown
+}
+
+fn exported_size(w: Written) -> AcbWritten
+    ensures { λ r. ⌜ r ≡ writtenOf (toldWritten w) ⌝ }
+{
+    match w {
+        Written::Bytes(size) => AcbWritten { number: 0, size },
+        Written::Refused(number) => AcbWritten { number, size: 0 },
+    }
+}
+
+// How many bytes writing a book takes.
+#[no_mangle]
+pub extern "C" fn khuyurek_acb_length(header: AcbHeader, records: &[u32], text: &[u8]) -> AcbWritten
+    ensures { λ r. ⌜ r ≡ lengthOf (now (text .entry)) header (tagOf (header .tag)) (given (now (records .entry))) ⌝ }
+{
+    match tag_given(header.tag) {
+        Known::Unknown => AcbWritten { number: 3, size: 0 },
+        Known::Is(tag) => {
+            exported_size(acb_write::write_length(header_given(header), tag, records, text))
+        }
+    }
+}
+
+// Writes a book, whose strings and names lie in `text`, into `out`.
+#[no_mangle]
+pub extern "C" fn khuyurek_acb_write(
+    header: AcbHeader,
+    records: &[u32],
+    text: &[u8],
+    out: &mut [u8],
+) -> AcbWritten
+    ensures { λ r. ⌜ (r, now (out .exit)) ≡ wroteOf (now (text .entry)) header (tagOf (header .tag)) (given (now (records .entry))) (now (out .entry)) ⌝ }
+{
+    match tag_given(header.tag) {
+        Known::Unknown => AcbWritten { number: 3, size: 0 },
+        Known::Is(tag) => {
+            exported_size(acb_write::write(header_given(header), tag, records, text, out))
+        }
+    }
+}
