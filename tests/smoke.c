@@ -1,6 +1,7 @@
-/* The header and the archive from C: P3 and P6 are read, listed by their record and written back;
- * P4 is refused with its record and field, P7 with its place, a group left open by the writer; a
- * few samples and channels are converted. */
+/* The header and the archive from C: P3, P6 and a book of one Lab colour are read, listed by their
+ * record and written back; P4 is refused with its record and field, P7 with its place, a group left
+ * open and a tag that is none by the writer; the book's colour, full name and page are shown; P12 is
+ * read into its rows; a few samples and channels are converted. */
 #include <stdio.h>
 #include <string.h>
 
@@ -18,10 +19,30 @@ static const uint8_t P6[32] = {
     0x61, 0x79, 0x3F, 0x80, 0x00, 0x00, 0x00, 0x02,
 };
 
-/* The tags `RGB `, `CMYK` and `Gray` as numbers, and the bits of two channels. */
+/* A book with the suffix `$$$/=z`, pages of one colour and the tag spot; its colour is named `n` and
+ * has the components of P8. */
+static const uint8_t BOOK[67] = {
+    0x38, 0x42, 0x43, 0x42, 0x00, 0x01, 0x0B, 0xB8, 0x00, 0x00, 0x00, 0x00,
+    0x00, 0x00, 0x00, 0x00, 0x00, 0x00, 0x00, 0x06, 0x00, 0x24, 0x00, 0x24,
+    0x00, 0x24, 0x00, 0x2F, 0x00, 0x3D, 0x00, 0x7A, 0x00, 0x00, 0x00, 0x00,
+    0x00, 0x01, 0x00, 0x01, 0x00, 0x00, 0x00, 0x07, 0x00, 0x00, 0x00, 0x01,
+    0x00, 0x6E, 0x20, 0x20, 0x6E, 0x20, 0x20, 0x20, 0xF8, 0x7B, 0x7B, 0x73,
+    0x70, 0x66, 0x6C, 0x73, 0x70, 0x6F, 0x74,
+};
+
+static const uint8_t P12[40] = {
+    0x00, 0x00, 0x00, 0x10, 0x00, 0x00, 0x00, 0x00, 0x00, 0x00, 0x00, 0x01, 0x61, 0x00,
+    0x00, 0x00, 0x01, 0x00, 0x00, 0x00, 0x01, 0x61, 0x56, 0x6C, 0x4C, 0x73, 0x00, 0x00,
+    0x00, 0x02, 0x62, 0x6F, 0x6F, 0x6C, 0x01, 0x62, 0x6F, 0x6F, 0x6C, 0x01,
+};
+
+/* The tags `RGB `, `CMYK` and `Gray` and the kinds `bool` and `VlLs` as numbers, and the bits of
+ * two channels. */
 #define RGB_MODEL 0x52474220u
 #define CMYK_MODEL 0x434D594Bu
 #define GRAY_MODEL 0x47726179u
+#define BOOL_KIND 0x626F6F6Cu
+#define LIST_KIND 0x566C4C73u
 #define HALF 0x3F000000u
 #define ONE 0x3F800000u
 
@@ -97,6 +118,81 @@ static int ase(void) {
     return 0;
 }
 
+static int acb(void) {
+    uint32_t table[KHUYUREK_ACB_WIDTH + 1] = {0};
+    uint8_t out[sizeof BOOK + 1];
+    table[KHUYUREK_ACB_WIDTH] = 99;
+    memset(out, 7, sizeof out);
+
+    khuyurek_acb_answer read =
+        khuyurek_acb_read(BOOK, sizeof BOOK, table, KHUYUREK_ACB_WIDTH + 1);
+    CHECK(read.number == 0 && read.place == 0 && read.count == 1);
+    CHECK(read.header.identifier == 3000 && read.header.page_size == 1);
+    CHECK(read.header.space == 7 && read.header.tag == 1);
+    CHECK(read.header.suffix.place == 20 && read.header.suffix.units == 6);
+    CHECK(table[0] == 48 && table[1] == 1 && table[4] == 0x6E);
+    CHECK(table[8] == 0xF8 && table[9] == 0x7B && table[10] == 0x7B && table[11] == 0);
+    CHECK(table[KHUYUREK_ACB_WIDTH] == 99);
+    CHECK(khuyurek_acb_read(BOOK, sizeof BOOK, table, KHUYUREK_ACB_WIDTH - 1).number == 11);
+
+    khuyurek_acb_record record = khuyurek_acb_record_at(BOOK, sizeof BOOK, 0);
+    CHECK(record.number == 0 && record.name == 48 && record.units == 1);
+    CHECK(record.code[2] == 0x6E && record.components[0] == 0xF8);
+    CHECK(khuyurek_acb_record_at(BOOK, sizeof BOOK, 1).number == 12);
+
+    khuyurek_acb_shown shown = khuyurek_acb_shown_at(BOOK, sizeof BOOK, 0);
+    CHECK(shown.number == 0 && shown.count == 3);
+    CHECK(shown.values[0] == 97 && shown.values[1] == -5 && shown.values[2] == -5);
+    CHECK(khuyurek_acb_shown_start(BOOK + 20, 12) == 10);
+    CHECK(khuyurek_acb_full_length(BOOK, sizeof BOOK, 0).length == 4);
+    khuyurek_acb_full full = khuyurek_acb_full_name(BOOK, sizeof BOOK, 0, out, sizeof out);
+    CHECK(full.number == 0 && full.length == 4);
+    CHECK(out[1] == 0x6E && out[3] == 0x7A && out[4] == 7);
+    khuyurek_acb_page page = khuyurek_acb_page_at(BOOK, sizeof BOOK, 0);
+    CHECK(page.number == 0 && page.record == 0);
+    CHECK(khuyurek_acb_page_at(BOOK, sizeof BOOK, 1).number == 12);
+
+    CHECK(khuyurek_acb_length(read.header, table, KHUYUREK_ACB_WIDTH, BOOK, sizeof BOOK).length
+          == sizeof BOOK);
+    khuyurek_acb_written written = khuyurek_acb_write(
+        read.header, table, KHUYUREK_ACB_WIDTH, BOOK, sizeof BOOK, out, sizeof out);
+    CHECK(written.number == 0 && written.length == sizeof BOOK);
+    CHECK(memcmp(out, BOOK, sizeof BOOK) == 0 && out[sizeof BOOK] == 7);
+    read.header.tag = 3;
+    CHECK(khuyurek_acb_length(read.header, table, KHUYUREK_ACB_WIDTH, BOOK, sizeof BOOK).number
+          == 3);
+    khuyurek_acb_answer cut = khuyurek_acb_judge(BOOK, sizeof BOOK - 1);
+    CHECK(cut.number == 2 && cut.place == 59 && cut.count == 0 && cut.header.space == 0);
+    return 0;
+}
+
+static int descriptor(void) {
+    uint32_t table[4 * KHUYUREK_DESCRIPTOR_WIDTH + 1] = {0};
+    table[4 * KHUYUREK_DESCRIPTOR_WIDTH] = 99;
+
+    CHECK(khuyurek_descriptor_judge(P12, sizeof P12).rows == 4);
+    khuyurek_descriptor_answer read = khuyurek_descriptor_read(
+        P12, sizeof P12, table, 4 * KHUYUREK_DESCRIPTOR_WIDTH + 1);
+    CHECK(read.number == 0 && read.place == 0 && read.rows == 4);
+    const uint32_t *list = table + KHUYUREK_DESCRIPTOR_WIDTH;
+    CHECK(list[0] == LIST_KIND && list[1] == 0 && list[2] == 17 && list[3] == 23 && list[4] == 1);
+    const uint32_t *last = table + 3 * KHUYUREK_DESCRIPTOR_WIDTH;
+    CHECK(last[0] == BOOL_KIND && last[1] == 1 && last[2] == 35 && last[3] == 5 && last[4] == 2);
+    CHECK(table[4 * KHUYUREK_DESCRIPTOR_WIDTH] == 99);
+    CHECK(khuyurek_descriptor_read(P12, sizeof P12, table, 4 * KHUYUREK_DESCRIPTOR_WIDTH - 1).number
+          == 11);
+
+    khuyurek_descriptor_value value = khuyurek_descriptor_value_at(P12, sizeof P12, 1);
+    CHECK(value.number == 0 && value.first == 26 && value.length == 14);
+    khuyurek_descriptor_typed typed = khuyurek_descriptor_typed_at(P12, sizeof P12, 3);
+    CHECK(typed.number == 0 && typed.kind == BOOL_KIND && typed.unit == 0 && typed.bits == 1);
+    CHECK(khuyurek_descriptor_typed_at(P12, sizeof P12, 1).kind == 0);
+    CHECK(khuyurek_descriptor_typed_at(P12, sizeof P12, 4).number == 12);
+    khuyurek_descriptor_answer cut = khuyurek_descriptor_judge(P12, sizeof P12 - 1);
+    CHECK(cut.number == 2 && cut.place == 39 && cut.rows == 0);
+    return 0;
+}
+
 static int conversions(void) {
     khuyurek_sample rgb = khuyurek_to_sample(RGB_MODEL, HALF);
     CHECK(rgb.number == 0 && rgb.sample == 32768);
@@ -110,7 +206,7 @@ static int conversions(void) {
 }
 
 int main(void) {
-    if (aco() || ase() || conversions()) {
+    if (aco() || ase() || acb() || descriptor() || conversions()) {
         return 1;
     }
     puts("C agrees");

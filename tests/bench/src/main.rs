@@ -1,9 +1,12 @@
 //! Times the proved library against the reference, and its conversions against
 //! plain floats as well, in the same run.
 
+mod acb;
 mod ase;
 mod conversion;
+mod descriptor;
 mod plain;
+mod stack;
 mod timing;
 
 use generate::{Lot, Palette, Random};
@@ -46,6 +49,8 @@ const KINDS: [Kind; 3] = [
 enum Part {
     Aco,
     Ase,
+    Acb,
+    Descriptors,
     Conversions,
 }
 
@@ -54,6 +59,9 @@ fn main() -> ExitCode {
     let (part, rest) = match args.first().map(String::as_str) {
         Some("aco") => (Some(Part::Aco), &args[1..]),
         Some("ase") => (Some(Part::Ase), &args[1..]),
+        Some("acb") => (Some(Part::Acb), &args[1..]),
+        Some("descriptor") => (Some(Part::Descriptors), &args[1..]),
+        Some("stack-of") => return stack::try_one(&args[1..]),
         Some("convert") => (Some(Part::Conversions), &args[1..]),
         _ => (None, &args[..]),
     };
@@ -61,7 +69,7 @@ fn main() -> ExitCode {
         None => DEFAULT_ROUNDS,
         Some(Ok(rounds)) if rounds > 0 => rounds,
         Some(_) => {
-            eprintln!("usage: bench [aco|ase|convert] [ROUNDS]");
+            eprintln!("usage: bench [aco|ase|acb|descriptor|convert] [ROUNDS]");
             return ExitCode::FAILURE;
         }
     };
@@ -75,6 +83,16 @@ fn main() -> ExitCode {
     }
     if wanted(Part::Ase) {
         ase::compare(rounds);
+    }
+    if wanted(Part::Acb) {
+        acb::compare(rounds);
+    }
+    if wanted(Part::Descriptors) {
+        descriptor::compare(rounds);
+        if let Err(error) = stack::compare() {
+            eprintln!("the stack was not measured: {error}");
+            return ExitCode::FAILURE;
+        }
     }
     if wanted(Part::Conversions) {
         conversion::compare(rounds);

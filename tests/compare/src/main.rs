@@ -1,26 +1,35 @@
 //! Compares the proved library, and its listing programs, with the reference.
 
+mod acb;
 mod ase;
 mod campaign;
 mod converting;
+mod descriptor;
 mod difference;
 mod expected;
 mod lent;
 mod listing;
 mod program;
 mod reading;
+mod real;
 mod tally;
 mod writing;
 
 use difference::Checked;
+use std::fmt::Display;
 use std::path::{Path, PathBuf};
 use std::process::ExitCode;
 
 const USAGE: &str = "usage: compare [SEED [FILES]]
        compare ase [SEED [FILES]]
+       compare acb [SEED [FILES]]
+       compare descriptor [SEED [FILES]]
        compare convert [SEED [PATTERNS]]
        compare list [PROGRAM [FILES [SEED]]]
-       compare list-ase [PROGRAM [FILES [SEED]]]";
+       compare list-ase [PROGRAM [FILES [SEED]]]
+       compare list-acb [PROGRAM [FILES [SEED]]]
+       compare list-descriptor [PROGRAM [FILES [SEED]]]
+       compare real FOLDER [PROGRAMS [SEED]]";
 const DEFAULT_SEED: u64 = 20_240_229;
 const DEFAULT_FILES: u64 = 300_000;
 const DEFAULT_PATTERNS: u64 = 60_000_000;
@@ -29,12 +38,25 @@ const PROGRAMS: &str = concat!(env!("CARGO_MANIFEST_DIR"), "/../../target/bin");
 
 fn main() -> ExitCode {
     let args: Vec<String> = std::env::args().skip(1).collect();
+    let rest = args.get(1..).unwrap_or_default();
     let outcome = match args.first().map(String::as_str) {
-        Some("ase") => compare_ase(&args[1..]),
-        Some("convert") => compare_conversions(&args[1..]),
-        Some("list") => compare_listings(&args[1..], "aco_list", listing::run),
-        Some("list-ase") => compare_listings(&args[1..], "ase_list", ase::listing::run),
-        _ => compare_library(&args),
+        Some("ase") => compare_library("ASE", rest, ase::campaign::run, ase::Tally::all_reached),
+        Some("acb") => compare_library("ACB", rest, acb::campaign::run, acb::Tally::all_reached),
+        Some("descriptor") => compare_library(
+            "descriptors",
+            rest,
+            descriptor::campaign::run,
+            descriptor::Tally::all_reached,
+        ),
+        Some("convert") => compare_conversions(rest),
+        Some("list") => compare_listings(rest, "aco_list", listing::run),
+        Some("list-ase") => compare_listings(rest, "ase_list", ase::listing::run),
+        Some("list-acb") => compare_listings(rest, "acb_list", acb::listing::run),
+        Some("list-descriptor") => {
+            compare_listings(rest, "descriptor_list", descriptor::listing::run)
+        }
+        Some("real") => compare_real(rest),
+        _ => compare_library("ACO", &args, campaign::run, tally::Tally::all_reached),
     };
     match outcome {
         Ok(summary) => {
@@ -48,27 +70,18 @@ fn main() -> ExitCode {
     }
 }
 
-fn compare_library(args: &[String]) -> Result<String, String> {
+fn compare_library<T: Display>(
+    kind: &str,
+    args: &[String],
+    run: impl Fn(u64, u64) -> Checked<T>,
+    all_reached: impl Fn(&T) -> Result<(), String>,
+) -> Result<String, String> {
     let seed = number(args, 0, DEFAULT_SEED)?;
     let files = number(args, 1, DEFAULT_FILES)?;
     println!("seed {seed}");
-    let tally = campaign::run(seed, files).map_err(|difference| with_seed(seed, difference))?;
-    tally
-        .all_reached()
-        .map_err(|missing| with_seed(seed, missing))?;
-    Ok(format!("the library agrees: {tally}"))
-}
-
-fn compare_ase(args: &[String]) -> Result<String, String> {
-    let seed = number(args, 0, DEFAULT_SEED)?;
-    let files = number(args, 1, DEFAULT_FILES)?;
-    println!("seed {seed}");
-    let tally =
-        ase::campaign::run(seed, files).map_err(|difference| with_seed(seed, difference))?;
-    tally
-        .all_reached()
-        .map_err(|missing| with_seed(seed, missing))?;
-    Ok(format!("the library agrees on ASE: {tally}"))
+    let tally = run(seed, files).map_err(|difference| with_seed(seed, difference))?;
+    all_reached(&tally).map_err(|missing| with_seed(seed, missing))?;
+    Ok(format!("the library agrees on {kind}: {tally}"))
 }
 
 fn compare_conversions(args: &[String]) -> Result<String, String> {
@@ -81,6 +94,16 @@ fn compare_conversions(args: &[String]) -> Result<String, String> {
         .all_reached()
         .map_err(|missing| with_seed(seed, missing))?;
     Ok(format!("the conversions agree: {tally}"))
+}
+
+fn compare_real(args: &[String]) -> Result<String, String> {
+    let folder = args.first().ok_or(USAGE)?;
+    let programs = args.get(1).map_or(PROGRAMS, String::as_str);
+    let seed = number(args, 2, DEFAULT_SEED)?;
+    println!("seed {seed}");
+    let compared = real::run(Path::new(folder), Path::new(programs), seed)
+        .map_err(|complaint| with_seed(seed, complaint))?;
+    Ok(format!("library and listing programs agree: {compared}"))
 }
 
 fn compare_listings(
@@ -107,6 +130,6 @@ fn number(args: &[String], index: usize, default: u64) -> Result<u64, String> {
     }
 }
 
-fn with_seed(seed: u64, complaint: impl std::fmt::Display) -> String {
+fn with_seed(seed: u64, complaint: impl Display) -> String {
     format!("seed {seed}\n{complaint}")
 }

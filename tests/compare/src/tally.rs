@@ -81,7 +81,7 @@ impl Tally {
         self.files += 1;
         self.read.add(judged.number);
         if judged.number == number::LISTS_DISAGREE {
-            self.fields[judged.field as usize] += 1;
+            self.fields[judged.field] += 1;
         }
     }
 

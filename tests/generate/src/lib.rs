@@ -1,15 +1,18 @@
-//! Swatch files and records made up from a seed: sound ones, damaged ones, and
-//! a few fixed ones with the answers written down beside them; those of ASE are
-//! in its own module. Then model tags and bit patterns of channels.
+//! Swatch files, colour books, descriptors and records made up from a seed: sound
+//! ones, damaged ones, and a few fixed ones with the answers written down beside
+//! them; those of ASE, ACB and descriptors are in their own modules. Then model
+//! tags and bit patterns of channels.
 //!
 //! Files are laid out here from the colours themselves, by no writer under test.
 
 #![forbid(unsafe_code)]
 
+pub mod acb;
 pub mod ase;
 mod bytes;
 mod channels;
 mod damage;
+pub mod descriptor;
 mod fixed;
 mod names;
 mod palette;

@@ -1,7 +1,9 @@
-//! The proved library's calls, through its C interface. Those for ASE are in
-//! their own module.
+//! The proved library's calls, through its C interface. Those for ACB, ASE and
+//! descriptors are in their own modules.
 
+pub mod acb;
 pub mod ase;
+pub mod descriptor;
 
 use std::fmt::{self, Debug, Formatter};
 

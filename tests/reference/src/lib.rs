@@ -1,5 +1,6 @@
-//! The rules of ACO and ASE swatch files, and of samples and channels, in plain,
-//! safe Rust. What is of ASE alone is in its own module.
+//! The rules of ACO and ASE swatch files, of samples and channels, of ACB colour
+//! books and of descriptors, in plain, safe Rust. What is of ASE, ACB or
+//! descriptors alone is in its own module.
 //!
 //! Written from the rules themselves, without a look at the proved
 //! library: where the two agree, they agree by the rules. It is also what the
@@ -8,9 +9,12 @@
 
 #![forbid(unsafe_code)]
 
+pub mod acb;
 pub mod ase;
 mod colour;
 mod convert;
+mod cursor;
+pub mod descriptor;
 mod listing;
 mod model;
 mod name;

@@ -47,6 +47,16 @@ pub fn units_in(text: &[u8], place: u32, units: u32) -> Option<&[u8]> {
     Some(&text[start as usize..end as usize])
 }
 
+/// The same where the place is any number at all, as a header gives it.
+#[inline(always)]
+pub fn units_within(text: &[u8], place: usize, units: u32) -> Option<&[u8]> {
+    if units == 0 {
+        return Some(&[]);
+    }
+    let len = usize::try_from(bytes_of(units)).ok()?;
+    text.get(place..)?.get(..len)
+}
+
 /// A name as a listing shows it.
 pub fn shown(units: &[u8]) -> String {
     if units.is_empty() {

@@ -1,14 +1,18 @@
 //! Refusals.
 
-/// The numbers that an ACO or ASE call or a conversion can refuse with.
+/// The numbers that a call can refuse with.
 pub mod number {
     pub const TOO_LONG: u32 = 1;
     pub const CUT: u32 = 2;
     pub const WRONG_SIGNATURE: u32 = 3;
     pub const WRONG_VERSION: u32 = 3;
+    pub const WRONG_TAG: u32 = 3;
     pub const UNKNOWN_SPACE: u32 = 4;
     pub const UNKNOWN_BLOCK: u32 = 4;
     pub const UNKNOWN_MODEL: u32 = 4;
+    pub const UNKNOWN_TYPE: u32 = 4;
+    pub const UNKNOWN_FORM: u32 = 4;
+    pub const UNKNOWN_UNIT: u32 = 4;
     pub const OUT_OF_RANGE: u32 = 5;
     pub const LEFT_OVER: u32 = 6;
     pub const LISTS_DISAGREE: u32 = 7;
@@ -17,6 +21,8 @@ pub mod number {
     pub const TOO_DEEP: u32 = 10;
     pub const NO_ROOM: u32 = 11;
     pub const NO_RECORD: u32 = 12;
+    pub const NO_PAGE: u32 = 12;
+    pub const NO_ROW: u32 = 12;
     pub const WRONG_LENGTH: u32 = 13;
     pub const NO_COUNTERPART: u32 = 14;
 }
@@ -54,5 +60,29 @@ impl Refusal {
             record,
             field,
         }
+    }
+}
+
+/// A refusal of a field on its way up: small enough to be handed on in registers.
+#[derive(Clone, Copy)]
+pub(crate) struct Fault {
+    number: u32,
+    place: u32,
+}
+
+impl Fault {
+    #[inline(always)]
+    pub fn at(number: u32, place: usize) -> Self {
+        // A file's places fit 32 bits, since its length does.
+        Fault {
+            number,
+            place: place as u32,
+        }
+    }
+}
+
+impl From<Fault> for Refusal {
+    fn from(fault: Fault) -> Self {
+        Refusal::at(fault.number, fault.place as usize)
     }
 }

@@ -6,3 +6,6 @@ pub mod listing;
 mod reading;
 mod tally;
 mod writing;
+
+pub use reading::check_file;
+pub use tally::Tally;

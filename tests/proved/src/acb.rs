@@ -1,0 +1,195 @@
+//! The library's calls for ACB.
+
+use crate::Written;
+
+/// Where a string lies in a file or text: the place of its first unit, and its
+/// units.
+#[repr(C)]
+#[derive(Clone, Copy, Debug, Default, PartialEq, Eq)]
+pub struct Text {
+    pub place: usize,
+    pub units: u32,
+}
+
+/// The tag is 0 for none, 1 for spot, 2 for process.
+#[repr(C)]
+#[derive(Clone, Copy, Debug, Default, PartialEq, Eq)]
+pub struct Header {
+    pub identifier: u16,
+    pub page_size: u16,
+    pub page_offset: u16,
+    pub space: u16,
+    pub tag: u32,
+    pub title: Text,
+    pub prefix: Text,
+    pub suffix: Text,
+    pub description: Text,
+}
+
+/// What judging or reading a file answers. `number` 0 is accepted, and then
+/// `place` is 0; on a refusal all the rest is.
+#[repr(C)]
+#[derive(Clone, Copy, Debug, Default, PartialEq, Eq)]
+pub struct Answer {
+    pub number: u32,
+    pub place: usize,
+    pub count: usize,
+    pub header: Header,
+}
+
+/// What asking for a record by its number answers.
+#[repr(C)]
+#[derive(Clone, Copy, Debug, Default, PartialEq, Eq)]
+pub struct Record {
+    pub number: u32,
+    pub units: u32,
+    pub place: usize,
+    pub name: usize,
+    pub code: [u8; 6],
+    pub components: [u8; 4],
+}
+
+/// What a record's components show: three or four of them, the rest 0.
+#[repr(C)]
+#[derive(Clone, Copy, Debug, Default, PartialEq, Eq)]
+pub struct Shown {
+    pub number: u32,
+    pub count: u32,
+    pub place: usize,
+    pub values: [i32; 4],
+}
+
+/// The length of a full name in bytes.
+#[repr(C)]
+#[derive(Clone, Copy, Debug, Default, PartialEq, Eq)]
+pub struct Full {
+    pub number: u32,
+    pub length: usize,
+    pub place: usize,
+}
+
+/// The record that a page shows.
+#[repr(C)]
+#[derive(Clone, Copy, Debug, Default, PartialEq, Eq)]
+pub struct Page {
+    pub number: u32,
+    pub record: usize,
+    pub place: usize,
+}
+
+extern "C" {
+    fn khuyurek_acb_judge(file: *const u8, file_len: usize) -> Answer;
+    fn khuyurek_acb_read(
+        file: *const u8,
+        file_len: usize,
+        table: *mut u32,
+        table_len: usize,
+    ) -> Answer;
+    fn khuyurek_acb_record_at(file: *const u8, file_len: usize, index: usize) -> Record;
+    fn khuyurek_acb_shown_at(file: *const u8, file_len: usize, index: usize) -> Shown;
+    fn khuyurek_acb_shown_start(string: *const u8, string_len: usize) -> usize;
+    fn khuyurek_acb_full_length(file: *const u8, file_len: usize, index: usize) -> Full;
+    fn khuyurek_acb_full_name(
+        file: *const u8,
+        file_len: usize,
+        index: usize,
+        out: *mut u8,
+        out_len: usize,
+    ) -> Full;
+    fn khuyurek_acb_page_at(file: *const u8, file_len: usize, page: usize) -> Page;
+    fn khuyurek_acb_length(
+        header: Header,
+        records: *const u32,
+        records_len: usize,
+        text: *const u8,
+        text_len: usize,
+    ) -> Written;
+    fn khuyurek_acb_write(
+        header: Header,
+        records: *const u32,
+        records_len: usize,
+        text: *const u8,
+        text_len: usize,
+        out: *mut u8,
+        out_len: usize,
+    ) -> Written;
+}
+
+// Each pointer below comes with the length of the slice it was taken from, is
+// aligned and not null even for an empty slice, and is not kept by the library.
+
+pub fn judge(file: &[u8]) -> Answer {
+    // SAFETY: see above.
+    unsafe { khuyurek_acb_judge(file.as_ptr(), file.len()) }
+}
+
+pub fn read(file: &[u8], table: &mut [u32]) -> Answer {
+    // SAFETY: see above; the table is borrowed for writing.
+    unsafe { khuyurek_acb_read(file.as_ptr(), file.len(), table.as_mut_ptr(), table.len()) }
+}
+
+pub fn record(file: &[u8], index: usize) -> Record {
+    // SAFETY: see above.
+    unsafe { khuyurek_acb_record_at(file.as_ptr(), file.len(), index) }
+}
+
+pub fn shown(file: &[u8], index: usize) -> Shown {
+    // SAFETY: see above.
+    unsafe { khuyurek_acb_shown_at(file.as_ptr(), file.len(), index) }
+}
+
+pub fn shown_start(string: &[u8]) -> usize {
+    // SAFETY: see above.
+    unsafe { khuyurek_acb_shown_start(string.as_ptr(), string.len()) }
+}
+
+pub fn full_length(file: &[u8], index: usize) -> Full {
+    // SAFETY: see above.
+    unsafe { khuyurek_acb_full_length(file.as_ptr(), file.len(), index) }
+}
+
+pub fn full_name(file: &[u8], index: usize, out: &mut [u8]) -> Full {
+    // SAFETY: see above; the output is borrowed for writing.
+    unsafe {
+        khuyurek_acb_full_name(
+            file.as_ptr(),
+            file.len(),
+            index,
+            out.as_mut_ptr(),
+            out.len(),
+        )
+    }
+}
+
+pub fn page(file: &[u8], page: usize) -> Page {
+    // SAFETY: see above.
+    unsafe { khuyurek_acb_page_at(file.as_ptr(), file.len(), page) }
+}
+
+pub fn length(header: Header, records: &[u32], text: &[u8]) -> Written {
+    // SAFETY: see above.
+    unsafe {
+        khuyurek_acb_length(
+            header,
+            records.as_ptr(),
+            records.len(),
+            text.as_ptr(),
+            text.len(),
+        )
+    }
+}
+
+pub fn write(header: Header, records: &[u32], text: &[u8], out: &mut [u8]) -> Written {
+    // SAFETY: see above; the output is borrowed for writing.
+    unsafe {
+        khuyurek_acb_write(
+            header,
+            records.as_ptr(),
+            records.len(),
+            text.as_ptr(),
+            text.len(),
+            out.as_mut_ptr(),
+            out.len(),
+        )
+    }
+}

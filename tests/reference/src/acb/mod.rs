@@ -1,0 +1,16 @@
+//! The rules of ACB colour books. Refusals and limits are those of the other
+//! formats.
+
+mod header;
+mod layout;
+mod listing;
+mod reader;
+mod shown;
+mod writer;
+
+pub use header::{Header, Tag, Text};
+pub use layout::{BARE_HEAD_LEN, CODE_LEN, COMPONENTS, MAX_COLOURS, ROW_LEN, STRINGS, TAG_LEN};
+pub use listing::list;
+pub use reader::{judge, read, record, Accepted, Record};
+pub use shown::{full_length, full_name, page, shown, shown_start, shown_text, Shown};
+pub use writer::{length, write};
