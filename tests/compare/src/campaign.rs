@@ -230,7 +230,7 @@ fn written_down(answer: Answer) -> proved::Answer {
 }
 
 /// Mostly one damage; some more of them set faults against each other.
-fn damages(random: &mut Random) -> usize {
+pub fn damages(random: &mut Random) -> usize {
     random.pick(&[0, 1, 1, 1, 2, 2, 3])
 }
 

@@ -13,6 +13,7 @@ mod program;
 mod reading;
 mod real;
 mod tally;
+mod walk;
 mod writing;
 
 use difference::Checked;
@@ -22,6 +23,7 @@ use std::process::ExitCode;
 
 const USAGE: &str = "usage: compare [SEED [FILES]]
        compare ase [SEED [FILES]]
+       compare walk [SEED [FILES]]
        compare acb [SEED [FILES]]
        compare descriptor [SEED [FILES]]
        compare convert [SEED [PATTERNS]]
@@ -41,6 +43,9 @@ fn main() -> ExitCode {
     let rest = args.get(1..).unwrap_or_default();
     let outcome = match args.first().map(String::as_str) {
         Some("ase") => compare_library("ASE", rest, ase::campaign::run, ase::Tally::all_reached),
+        Some("walk") => {
+            compare_library("walks", rest, walk::campaign::run, walk::Tally::all_reached)
+        }
         Some("acb") => compare_library("ACB", rest, acb::campaign::run, acb::Tally::all_reached),
         Some("descriptor") => compare_library(
             "descriptors",

@@ -28,6 +28,32 @@ pub struct Record {
     pub colour_type: u32,
 }
 
+/// What starting a walk answers: the place of its first step, or the refusal
+/// and then `at` is 0.
+#[repr(C)]
+#[derive(Clone, Copy, Debug, Default, PartialEq, Eq)]
+pub struct Start {
+    pub number: u32,
+    pub place: usize,
+    pub at: usize,
+}
+
+/// What a step of a walk answers: a block, or `done` is 1, or `number` is not 0.
+/// What a step does not have is 0, save `next`.
+#[repr(C)]
+#[derive(Clone, Copy, Debug, Default, PartialEq, Eq)]
+pub struct Step {
+    pub number: u32,
+    pub done: u32,
+    pub block: u32,
+    pub units: u32,
+    pub next: usize,
+    pub name: usize,
+    pub model: u32,
+    pub channels: [u32; 4],
+    pub colour_type: u32,
+}
+
 extern "C" {
     fn khuyurek_ase_judge(file: *const u8, file_len: usize) -> Answer;
     fn khuyurek_ase_read(
@@ -51,6 +77,9 @@ extern "C" {
         out: *mut u8,
         out_len: usize,
     ) -> Written;
+    fn khuyurek_ase_walk_start(file: *const u8, file_len: usize) -> Start;
+    fn khuyurek_ase_walk(file: *const u8, file_len: usize, at: usize) -> Step;
+    fn khuyurek_ase_walk_block(file: *const u8, file_len: usize, at: usize) -> Step;
 }
 
 // Each pointer below comes with the length of the slice it was taken from, is
@@ -88,4 +117,19 @@ pub fn write(records: &[u32], text: &[u8], out: &mut [u8]) -> Written {
             out.len(),
         )
     }
+}
+
+pub fn walk_start(file: &[u8]) -> Start {
+    // SAFETY: see above.
+    unsafe { khuyurek_ase_walk_start(file.as_ptr(), file.len()) }
+}
+
+pub fn walk(file: &[u8], at: usize) -> Step {
+    // SAFETY: see above; the place is any number.
+    unsafe { khuyurek_ase_walk(file.as_ptr(), file.len(), at) }
+}
+
+pub fn walk_block(file: &[u8], at: usize) -> Step {
+    // SAFETY: see above; the place is any number.
+    unsafe { khuyurek_ase_walk_block(file.as_ptr(), file.len(), at) }
 }

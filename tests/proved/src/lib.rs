@@ -42,6 +42,32 @@ pub struct Written {
     pub length: usize,
 }
 
+/// What starting a walk answers: the place of its first step, or the refusal
+/// and then `at` is 0.
+#[repr(C)]
+#[derive(Clone, Copy, Debug, Default, PartialEq, Eq)]
+pub struct Start {
+    pub number: u32,
+    pub place: usize,
+    pub record: usize,
+    pub field: usize,
+    pub at: usize,
+}
+
+/// What a step of a walk answers: a colour, or `done` is 1, or `number` is not 0.
+/// What a step does not have is 0, save `next`.
+#[repr(C)]
+#[derive(Clone, Copy, Debug, Default, PartialEq, Eq)]
+pub struct Step {
+    pub number: u32,
+    pub done: u32,
+    pub next: usize,
+    pub name: usize,
+    pub units: u32,
+    pub space: u16,
+    pub samples: [u16; 4],
+}
+
 /// What converting a sample answers: the channel's bits, 0 on a refusal.
 #[repr(C)]
 #[derive(Clone, Copy, Default, PartialEq, Eq)]
@@ -87,6 +113,8 @@ extern "C" {
         out: *mut u8,
         out_len: usize,
     ) -> Written;
+    fn khuyurek_aco_walk_start(file: *const u8, file_len: usize) -> Start;
+    fn khuyurek_aco_walk(file: *const u8, file_len: usize, at: usize) -> Step;
     fn khuyurek_to_channel(space: u16, sample: u16) -> Channel;
     fn khuyurek_to_sample(model: u32, bits: u32) -> Sample;
 }
@@ -126,6 +154,16 @@ pub fn write(records: &[u32], text: &[u8], out: &mut [u8]) -> Written {
             out.len(),
         )
     }
+}
+
+pub fn walk_start(file: &[u8]) -> Start {
+    // SAFETY: see above.
+    unsafe { khuyurek_aco_walk_start(file.as_ptr(), file.len()) }
+}
+
+pub fn walk(file: &[u8], at: usize) -> Step {
+    // SAFETY: see above; the place is any number.
+    unsafe { khuyurek_aco_walk(file.as_ptr(), file.len(), at) }
 }
 
 // Inlined, so that a conversion is one call and is timed as one.

@@ -21,6 +21,8 @@ mod name;
 mod output;
 mod reader;
 mod refusal;
+mod step;
+mod walk;
 mod writer;
 
 pub use colour::{COLOUR_LEN, HEAD_LEN, MAX_COLOURS, NAME_COUNT_LEN, SAMPLES};
@@ -29,6 +31,8 @@ pub use listing::{list, LISTING_LIMIT};
 pub use name::UNIT_LEN;
 pub use reader::{judge, read, record, Accepted, Swatch};
 pub use refusal::{number, Refusal};
+pub use step::Step;
+pub use walk::{walk, walk_start};
 pub use writer::{length, write};
 
 /// The longest file read and the longest output written, in bytes.

@@ -68,7 +68,7 @@ pub fn record(file: &[u8], index: usize) -> Result<Swatch, Refusal> {
         .ok_or(Refusal::of_call(number::NO_RECORD))
 }
 
-fn list_one_len(colours: usize) -> usize {
+pub(crate) fn list_one_len(colours: usize) -> usize {
     HEAD_LEN + colours * COLOUR_LEN
 }
 
@@ -153,7 +153,7 @@ fn first_difference(colour: &[u8; COLOUR_LEN], rest: &[u8], place: usize, index:
 
 /// Judges the name whose count is at `place`, and gives the place after it.
 #[inline(always)]
-fn judge_name(file: &[u8], place: usize) -> Result<usize, Refusal> {
+pub(crate) fn judge_name(file: &[u8], place: usize) -> Result<usize, Refusal> {
     let count = name_count(file, place).ok_or(Refusal::at(number::CUT, place))?;
     let badly_closed = Refusal::at(number::BADLY_CLOSED, place);
     if count == 0 {
@@ -173,12 +173,25 @@ fn judge_name(file: &[u8], place: usize) -> Result<usize, Refusal> {
 }
 
 #[inline(always)]
-fn name_count(file: &[u8], place: usize) -> Option<u32> {
+pub(crate) fn name_count(file: &[u8], place: usize) -> Option<u32> {
     let count = file.get(place..)?.first_chunk()?;
     Some(u32::from_be_bytes(*count))
 }
 
 impl Swatch {
+    /// A whole colour's fields, with where its name lies.
+    #[inline(always)]
+    pub(crate) fn of(colour: &[u8; COLOUR_LEN], (name, units): (usize, u32)) -> Self {
+        let (fields, _) = colour.as_chunks::<FIELD_LEN>();
+        let field = |index: usize| u16::from_be_bytes(fields[index]);
+        Swatch {
+            space: field(0),
+            samples: [field(1), field(2), field(3), field(4)],
+            name,
+            units,
+        }
+    }
+
     #[inline(always)]
     fn row(&self) -> [u32; ROW_LEN] {
         let [a, b, c, d] = self.samples.map(u32::from);
@@ -235,14 +248,6 @@ impl Iterator for Swatches<'_> {
     #[inline(always)]
     fn next(&mut self) -> Option<Swatch> {
         let colour = self.list_one.next()?;
-        let (fields, _) = colour.as_chunks::<FIELD_LEN>();
-        let field = |index: usize| u16::from_be_bytes(fields[index]);
-        let (name, units) = self.next_name();
-        Some(Swatch {
-            space: field(0),
-            samples: [field(1), field(2), field(3), field(4)],
-            name,
-            units,
-        })
+        Some(Swatch::of(colour, self.next_name()))
     }
 }

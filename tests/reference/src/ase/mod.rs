@@ -4,6 +4,7 @@
 mod layout;
 mod listing;
 mod reader;
+mod walk;
 mod writer;
 
 pub use layout::{
@@ -11,4 +12,5 @@ pub use layout::{
 };
 pub use listing::list;
 pub use reader::{judge, read, record, Accepted, Record};
+pub use walk::{walk, walk_block, walk_start};
 pub use writer::{length, write};

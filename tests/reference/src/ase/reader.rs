@@ -120,15 +120,15 @@ fn judge_version(file: &[u8], place: usize, version: u16) -> Result<(), Refusal>
 }
 
 #[derive(Clone, Copy)]
-struct Envelope {
-    block: u16,
+pub(super) struct Envelope {
+    pub block: u16,
     len: u32,
 }
 
 /// Judges the two fields of the envelope at `place`; a type is known or not
 /// only once the length is there.
 #[inline(always)]
-fn judge_envelope(file: &[u8], place: usize) -> Result<Envelope, Refusal> {
+pub(super) fn judge_envelope(file: &[u8], place: usize) -> Result<Envelope, Refusal> {
     let block = u16::from_be_bytes(field_or_cut(file, place)?);
     let len = u32::from_be_bytes(field_or_cut(file, place + LENGTH_OFFSET)?);
     if !matches!(block, COLOUR | GROUP_START | GROUP_END) {
@@ -138,16 +138,16 @@ fn judge_envelope(file: &[u8], place: usize) -> Result<Envelope, Refusal> {
 }
 
 /// What is left of a block's content, and where it stands.
-struct Content<'a> {
+pub(super) struct Content<'a> {
     rest: &'a [u8],
     block: usize,
-    end: usize,
+    pub end: usize,
 }
 
 impl<'a> Content<'a> {
     /// The content of the block at `block`, where all of it is in the file.
     #[inline(always)]
-    fn of(file: &'a [u8], block: usize, envelope: Envelope) -> Result<Self, Refusal> {
+    pub fn of(file: &'a [u8], block: usize, envelope: Envelope) -> Result<Self, Refusal> {
         let start = block + ENVELOPE_LEN;
         let after = &file[start..];
         if u64::from(envelope.len) > after.len() as u64 {
@@ -210,7 +210,7 @@ impl<'a> Content<'a> {
 }
 
 #[inline(always)]
-fn judge_colour(mut content: Content) -> Result<(), Refusal> {
+pub(super) fn judge_colour(mut content: Content) -> Result<(), Refusal> {
     content.take_name()?;
     let place = content.place();
     let model = u32::from_be_bytes(content.take()?);
@@ -231,7 +231,7 @@ fn judge_colour(mut content: Content) -> Result<(), Refusal> {
 }
 
 /// Judges a group's start where so many groups stand open.
-fn judge_group_start(mut content: Content, open: usize) -> Result<(), Refusal> {
+pub(super) fn judge_group_start(mut content: Content, open: usize) -> Result<(), Refusal> {
     if open == MAX_OPEN {
         return Err(Refusal::at(number::TOO_DEEP, content.block));
     }
@@ -239,7 +239,7 @@ fn judge_group_start(mut content: Content, open: usize) -> Result<(), Refusal> {
     content.judge_end()
 }
 
-fn judge_group_end(content: Content, open: usize) -> Result<(), Refusal> {
+pub(super) fn judge_group_end(content: Content, open: usize) -> Result<(), Refusal> {
     content.judge_end()?;
     if open == 0 {
         return Err(Refusal::at(number::UNBALANCED, content.block));
@@ -276,10 +276,15 @@ pub(super) struct Records<'a> {
 
 impl<'a> Records<'a> {
     pub(super) fn new(file: &'a [u8], accepted: Accepted) -> Self {
+        Records::starting_at(file, HEAD_LEN, accepted.blocks)
+    }
+
+    /// So many records from a place on, whose blocks have been judged.
+    pub(super) fn starting_at(file: &'a [u8], place: usize, blocks: usize) -> Self {
         Records {
-            rest: &file[HEAD_LEN..],
+            rest: &file[place..],
             file_len: file.len(),
-            left: accepted.blocks,
+            left: blocks,
         }
     }
 
