@@ -199,7 +199,21 @@ module _ (s : List ℕ) where
           (subst (λ (n : ℕ). Accepts (Kids s n k (v + 1)) (valueOf (item d) d k sort s v)) a (value-kids d (item d) (omega arith) ih k t v sort x (h .high)))
       sorted a ih t v h unknown x = no
 
-  -- ---- how far members reach
+  -- ---- how far values and members reach
+
+  kids-past : {d k lo : ℕ} {m : Res (List Row)} → Accepts (Kids s d k lo) m → Accepts (Past s lo) m
+  kids-past h = weaker (λ rs q w. record { low = omega (arith, w .low, five-each (w .tiled)); high = w .high }) h
+
+  -- a value ends behind its first byte
+  pub value-past : (d k t v at : ℕ) → d ≤ 32 → v ≤ length s → Accepts (Past s (v + 1)) (known (sortOf t) at (λ sort. valueOf (item d) d k sort s v))
+  value-past d k t v at l w = go (sortOf t) refl
+    where
+      go : (x : Known Sort) → sortOf t ≡ x → Accepts (Past s (v + 1)) (known x at (λ sort. valueOf (item d) d k sort s v))
+      go (is sort) e = kids-past (value-kids d (item d) l (item-rows d (omega arith)) k t v sort e w)
+      go unknown e = no
+
+  pub object-past : (d k v : ℕ) → d ≤ 32 → v ≤ length s → Accepts (Past s (v + 13)) (objectOf (item d) d k s v)
+  object-past d k v l w = kids-past (object-kids d (item d) (item-rows d (omega arith)) k v w)
 
   -- five bytes a row at least, and inside the file
   pub reach : {d p k lo : ℕ} {m : Res (List Row)} → Accepts (Rows s d p k lo) m → Accepts (Reach s lo) m

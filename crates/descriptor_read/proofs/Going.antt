@@ -8,7 +8,7 @@ use lib.ListN.{length, length-append}
 use Rattle.fields.specs.Reader.{Res, ok, refuse, Reader, then}
 use Rattle.fields.proofs.Inverse.{clash, ok-value}
 use Rattle.descriptor.specs.Reading.{Row, headed, siblings}
-use Rattle.descriptor.proofs.Ends.{Accepts, accepted}
+use Rattle.descriptor.proofs.Ends.{Accepts, accepted, Past}
 use Rattle.descriptor.proofs.Tiling.{Reach}
 use Rattle.descriptor_read.specs.declared.Walk.{Walk}
 use Rattle.descriptor_read.specs.declared.Walk.the-variants as vw
@@ -33,6 +33,16 @@ done-no {k = k} e = record { answer = sym (ap (walked k) e); rows = λ rs q h. c
 pub done-eq : {w : Walk} {only : ℕ} {t u : List ℕ} {k : ℕ} {m n : Res (List Row)} → m ≡ n → Done w only t u k n → Done w only t u k m
 done-eq {k = k} e d = record { answer = d .answer ∙ ap (walked k) (sym e); rows = λ rs q h. d .rows rs q (sym e ∙ h) }
 
+pub done-table : {w : Walk} {only : ℕ} {t v u : List ℕ} {k : ℕ} {m : Res (List Row)} → t ≡ v → Done w only t u k m → Done w only v u k m
+done-table {only = only} {k = k} e d = record { answer = d .answer; rows = λ rs q h. d .rows rs q h ∙ ap (λ (l : List ℕ). putRows only l k rs) e }
+
+-- fields with no member among them: no row is written
+pub leaf-done : {only : ℕ} {t : List ℕ} {k : ℕ} {m : Res (List Row)} (q : ℕ) → m ≡ ok [] q → Done (vw.Next q k) only t t k m
+leaf-done {only} {t} {k} {m} q e = record {
+  answer = ap (λ (j : ℕ). vw.Next q j) (sym (add-zero k)) ∙ sym (ap (walked k) e);
+  rows = λ rs r h. ap (putRows only t k) (ok-value (sym e ∙ h));
+}
+
 pub headed-no : (t d p first v : ℕ) {m : Res (List Row)} {x q r f : ℕ} → m ≡ refuse x q r f → headed t d p first v m ≡ refuse x q r f
 headed-no t d p first v e = ap (headed t d p first v) e
 
@@ -51,6 +61,27 @@ closed {only} {t} {b} {u} {k} {m} kind d p first v q j rs e n x y = record {
   where
     h : headed kind d p first v m ≡ ok (rowOf kind d p first v q ∷ rs) q
     h = ap (headed kind d p first v) e
+
+-- the same from what the reader of the rows below answered
+pub row-done : {only : ℕ} {t b u : List ℕ} {k : ℕ} {m : Res (List Row)} {w : Walk} (kind d p first v q j : ℕ) → Done w only t b (k + 1) m → w ≡ vw.Next q j
+    → u ≡ putRow only b k (rowOf kind d p first v q) → Done (vw.Next q j) only t u k (headed kind d p first v m)
+row-done {k = k} {m = m} kind d p first v q j h e y =
+    let x = walked-next (k + 1) m q j (sym e ∙ h .answer) in
+    closed kind d p first v q j (x .0) (x .1) (x .2) (h .rows (x .0) q (x .1)) y
+
+-- where it refused, so is the member
+pub row-no : {only : ℕ} {t b u : List ℕ} {k j : ℕ} {m : Res (List Row)} {w : Walk} {x y : ℕ} (kind d p first v : ℕ) → Done w only t b j m → w ≡ vw.Refused x y
+    → Done (vw.Refused x y) only t u k (headed kind d p first v m)
+row-no {j = j} {m = m} {x = x} {y = y} kind d p first v h e =
+    let z = walked-no j m x y (sym e ∙ h .answer) in
+    done-no (headed-no kind d p first v (z .2))
+
+-- the end of what was read, by what the reader of it answered
+pub done-past : {only : ℕ} {t u : List ℕ} {k lo : ℕ} {s : List ℕ} {m : Res (List Row)} {w : Walk} {q j : ℕ} → Accepts (Past s lo) m → Done w only t u k m → w ≡ vw.Next q j → (lo ≤ q) × (q ≤ length s)
+done-past {k = k} {m = m} {q = q} {j = j} a h e =
+    let x = walked-next k m q j (sym e ∙ h .answer) in
+    let z = accepted a (x .0) q (x .1) in
+    (z .low, z .high)
 
 -- ---- siblings
 
@@ -121,5 +152,12 @@ module _ (f : ℕ → Reader (List Row)) (s : List ℕ) (only : ℕ) (t₀ : Lis
         let w = walked-no row (f row s next) x p (sym e ∙ d .answer) in
         (w .0, w .1, g .rest ∙ ap (more (g .rs)) (one-more i row next h ∙ ap (λ (m : Res (List Row)). then m (λ rs q. more rs (siblings f (n - (i + 1)) (row + length rs) s q))) (w .2)))
 
-    pub all-read : n ≤ i → siblings f n k₀ s at₀ ≡ ok (g .rs) next
+    all-read : n ≤ i → siblings f n k₀ s at₀ ≡ ok (g .rs) next
     all-read h = g .rest ∙ ap (more (g .rs)) (no-more i row next h) ∙ ap (λ (l : List Row). ok l next) (append-nil (g .rs))
+
+    -- all of them were read
+    pub all-done : n ≤ i → Done (vw.Next next row) only t₀ t k₀ (siblings f n k₀ s at₀)
+    all-done h = record {
+      answer = ap (λ (j : ℕ). vw.Next next j) (g .number) ∙ sym (ap (walked k₀) (all-read h));
+      rows = λ rs q e. g .table ∙ ap (putRows only t₀ k₀) (ok-value (sym (all-read h) ∙ e));
+    }

@@ -1,18 +1,23 @@
 -- What the layout says at each step of the readers. Assumes nothing.
-use Prim.Native.Nat.{ℕ, zero, suc, _+_, _-_}
+use Prim.Native.Nat.{ℕ, zero, suc, _+_, _-_, _≤_}
 use mathlib.Core.Path.{_≡_, refl, sym, ap, _∙_, subst}
 use mathlib.Core.List.{List}
-use mathlib.Core.Bool.{Bool}
+use mathlib.Core.Bool.{Bool, true, false}
 use lib.Dec.{eqb}
+use lib.ListN.{length}
 use borrow.Author.Tests.{eq-eqb, ne-eqb}
 use native.Mathlib.Omega.{arith}
 use Rattle.fields.specs.Reader.{Res, ok, refuse, Reader, then, field, unless, judged}
 use Rattle.fields.proofs.Laws.{judged-short, judged-bad, judged-ok}
+use Rattle.fields.proofs.Inverse.{clash}
 use Rattle.descriptor.specs.declared.Value.{Value}
 use Rattle.descriptor.specs.declared.Value.the-variants as vv
 use Rattle.descriptor.specs.Reading.{Known, is, unknown, known, Sort, leaf, list, object, reference, array, sortOf, formOf, id, class, Row, headed, plain, siblings, children, refValue, refItem, column, arrayPair, arrayOf, keyed, objectOf, valueOf, item, pair, root}
 use Rattle.descriptor.specs.Answer.{endOf, begun}
 use Rattle.descriptor.proofs.Fields.{then-no, then-to}
+use Rattle.descriptor.proofs.Ends.{Accepts, yes, Past, lower, id-past, class-past}
+use Rattle.descriptor.proofs.Tiling.{Rows, keyed-rows, item-rows}
+use Rattle.descriptor_read.specs.Cycle.{optional, memberOf, holderOf, valued}
 
 -- a place or a number that cannot be another
 abbrev pub NonZero : ℕ → Type 0
@@ -192,20 +197,25 @@ module _ (p k first : ℕ) (s : List ℕ) (at : ℕ) where
   item-short zero z e = absurd (z refl)
   item-short (suc d) z e = then-no (field 4 s at) _ (sym e)
 
-  item-sort : (left t v : ℕ) → NonZero left → ok t v ≡ field 4 s at → (g : Known Sort) → sortOf t ≡ g
-      → item left p k first s at ≡ known g at (λ sort. headed t (left - 1) p first v (valueOf (item (left - 1)) (left - 1) k sort s v))
+  pub item-value : (left t v : ℕ) → NonZero left → ok t v ≡ field 4 s at → at ≡ v - 4 → item left p k first s at ≡ headed t (left - 1) p first v (valued (left - 1) k t s v)
   unfolding item
-  item-sort zero t v z e g h = absurd (z refl)
-  item-sort (suc d) t v z e g h =
+  item-value zero t v z e h = absurd (z refl)
+  item-value (suc d) t v z e h =
       let x : suc d - 1 ≡ d = omega arith in
-      rw x (then-to (field 4 s at) _ (sym e) ∙ ap (λ w. known w at (λ sort. headed t d p first v (valueOf (item d) d k sort s v))) h)
+      rw x (then-to (field 4 s at) _ (sym e) ∙ headed-known (sortOf t) ∙ ap (λ (q : ℕ). headed t d p first v (known (sortOf t) q (λ sort. valueOf (item d) d k sort s v))) h)
+    where
+      headed-known : (g : Known Sort) → known g at (λ sort. headed t d p first v (valueOf (item d) d k sort s v)) ≡ headed t d p first v (known g at (λ sort. valueOf (item d) d k sort s v))
+      headed-known (is sort) = refl
+      headed-known unknown = refl
 
-  pub item-unknown : (left t v : ℕ) → NonZero left → ok t v ≡ field 4 s at → sortOf t ≡ unknown → item left p k first s at ≡ refuse 4 at 0 0
-  item-unknown left t v z e h = item-sort left t v z e unknown h
+-- ---- a value by its type
 
-  pub item-is : (left t v : ℕ) (sort : Sort) → NonZero left → ok t v ≡ field 4 s at → sortOf t ≡ is sort
-      → item left p k first s at ≡ headed t (left - 1) p first v (valueOf (item (left - 1)) (left - 1) k sort s v)
-  item-is left t v sort z e h = item-sort left t v z e (is sort) h
+module _ (d k t : ℕ) (s : List ℕ) (v : ℕ) where
+  pub value-is : (sort : Sort) → sortOf t ≡ is sort → valued d k t s v ≡ valueOf (item d) d k sort s v
+  value-is sort h = ap (λ w. known w (v - 4) (λ sort. valueOf (item d) d k sort s v)) h
+
+  pub value-unknown : sortOf t ≡ unknown → valued d k t s v ≡ refuse 4 (v - 4) 0 0
+  value-unknown h = ap (λ w. known w (v - 4) (λ sort. valueOf (item d) d k sort s v)) h
 
 -- ---- a class before the members
 
@@ -230,6 +240,48 @@ module _ (d k : ℕ) (s : List ℕ) (at : ℕ) where
   pub array-in : {m q e : ℕ} → ok m q ≡ field 4 s at → class s q ≡ ok tt e → arrayOf d k s at ≡ children (arrayPair m d k) k s e
   unfolding arrayOf
   array-in {m} {q} x h = then-to (field 4 s at) _ (sym x) ∙ then-to (class s q) _ h
+
+-- ---- lists and objects by one reader
+
+-- a field that is not there ends where it begins
+none-ends : (at e : ℕ) → _≡_ {A = Res Unit} (ok tt at) (ok tt e) → at ≡ e
+none-ends at e h = cc
+
+module _ (d p k : ℕ) (s : List ℕ) (at : ℕ) where
+  pub member-deep : (b : Bool) → d ≡ 0 → memberOf b d p k s at ≡ refuse 10 at 0 0
+  member-deep true z = pair-deep p k s at d z
+  member-deep false z = item-deep p k at s at d z
+
+  pub member-no : (b : Bool) → NonZero d → {x q r f : ℕ} → optional b id s at ≡ refuse x q r f → memberOf b d p k s at ≡ refuse x q r f
+  member-no true z e = pair-id p k s at d z e
+  member-no false z e = clash (sym e)
+
+  pub member-item : (b : Bool) (e : ℕ) → NonZero d → optional b id s at ≡ ok tt e → memberOf b d p k s at ≡ item d p k at s e
+  member-item true e z h = pair-item p k s at d e z h
+  member-item false e z h = ap (item d p k at s) (none-ends at e h)
+
+module _ (d k : ℕ) (s : List ℕ) (at : ℕ) where
+  pub holder-no : (b : Bool) {x q r g : ℕ} → optional b class s at ≡ refuse x q r g → holderOf b d k s at ≡ refuse x q r g
+  holder-no true e = object-no (item d) d k s at e
+  holder-no false e = clash (sym e)
+
+  pub holder-is : (b : Bool) {q : ℕ} → optional b class s at ≡ ok tt q → holderOf b d k s at ≡ children (memberOf b d k) k s q
+  holder-is true e = object-is (item d) d k s at e
+  holder-is false {q} e = ap (children (memberOf false d k) k s) (none-ends at q e)
+
+  -- a list's count stands where the list begins, an object's behind its class
+  pub holder-past : (b : Bool) → at ≤ length s → Accepts (Past s at) (optional b class s at)
+  holder-past true w = lower at (at + 9) (omega arith) (class-past s at w)
+  holder-past false w = yes tt at (record { low = omega arith; high = w })
+
+  pub member-rows : (b : Bool) → d ≤ 33 → (j q : ℕ) → q ≤ length s → Accepts (Rows s (33 - d) k j q) (memberOf b d k j s q)
+  member-rows true l j q w = keyed-rows s d (item d) (item-rows s d l) k j q w
+  member-rows false l j q w = item-rows s d l k j q q (omega arith) w
+
+-- a key, where there is one
+pub key-past : (s : List ℕ) (at : ℕ) (b : Bool) → at ≤ length s → Accepts (Past s at) (optional b id s at)
+key-past s at true w = lower at (at + 5) (omega arith) (id-past s at w)
+key-past s at false w = yes tt at (record { low = omega arith; high = w })
 
 -- ---- the root
 

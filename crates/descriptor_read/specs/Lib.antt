@@ -1,4 +1,5 @@
 pub mod Table
+pub mod Cycle
 pub mod Answer
 pub mod Values
 pub mod Filled

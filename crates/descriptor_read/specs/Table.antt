@@ -51,11 +51,9 @@ pub record Within (s : List ℕ) (left p k first at : ℕ) : Type 0 where
   pub order : first ≤ at
   pub inside : at ≤ length s
 
--- the same where its type or form has been passed, and the levels left are those below it
-pub record Inside (s : List ℕ) (left p k first at : ℕ) : Type 0 where
+-- where the members of the row k may be looked for, with `left` levels below it: behind its type
+pub record Below (s : List ℕ) (left k at : ℕ) : Type 0 where
   pub size : length s ≤ 16777216
   pub levels : left ≤ 32
-  pub parent : p ≤ k
-  pub row : k ≤ first
-  pub order : first + 4 ≤ at
+  pub row : k + 4 ≤ at
   pub inside : at ≤ length s

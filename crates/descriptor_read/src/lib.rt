@@ -4,6 +4,9 @@
 // fall. Siblings are read in loops, so that the stack grows with the nesting alone, and that stops
 // at 32. A row is written after those below it, where the table has room: a first reading, over no
 // table, judges and counts; a second one fills.
+//
+// Each reader of the cycle but `list` is called at one place, and `object` hands on to `list`: the
+// compiler then makes one function of them, and a member that holds none costs no call.
 ghost use mathlib.Core.Path.{_≡_};
 ghost use Prim.Native.Nat.{_+_, _-_, _/_, _≤_, _<_};
 ghost use lib.Dec.{eqb};
@@ -13,9 +16,11 @@ ghost use lib.Ieee.Scale.{finite};
 ghost use mathlib.Core.Bool.{true};
 ghost use Rattle.fields.specs.Numbers.{num};
 ghost use Rattle.fields.specs.Reader.{field, orZero};
+ghost use Rattle.fields.specs.Answer.{toldStep};
 ghost use Rattle.descriptor.specs.Leaves.{Leafed};
-ghost use Rattle.descriptor.specs.Reading.{headed, children, refItem, referenceOf, arrayPair, arrayOf, item, pair, listOf, objectOf, root, descriptor};
-ghost use Rattle.descriptor_read.specs.Table.{putRow, Done, Within, Inside};
+ghost use Rattle.descriptor.specs.Reading.{id, class, children, refItem, referenceOf, arrayPair, arrayOf, item, objectOf, root, descriptor};
+ghost use Rattle.descriptor_read.specs.Table.{putRow, Done, Within, Below};
+ghost use Rattle.descriptor_read.specs.Cycle.{optional, memberOf, holderOf, valued};
 ghost use Rattle.descriptor_read.specs.Answer.{verdict, told, closing};
 ghost use Rattle.descriptor_read.specs.Filled.{filled, rowsIn};
 ghost use Rattle.descriptor_read.specs.Values.{rowIn, extentOf, toldExtent, placeOf, toldValue, valueIn};
@@ -178,22 +183,19 @@ fn array_pair(
     }
 }
 
-// ---- members in loops, from their count on: the row is the one that they stand under
+// ---- the members of the row `row`, with `left` levels below it; they have the row numbers after it
 
-// The reference with the row `row`, from its count on.
+// The items of a reference, from their count on.
 fn reference(
     file: &[u8],
     table: &mut [u32],
     only: usize,
-    kind: u32,
     left: usize,
-    parent: usize,
     row: usize,
-    first: usize,
     at: usize,
 ) -> Walk
-    requires { ⌜ Inside (now file) left parent row first at ⌝ }
-    ensures { λ r. ⌜ Done r only (now (table .entry)) (now (table .exit)) row (headed kind left parent first at (referenceOf left row (now (file .entry)) at)) ⌝ }
+    requires { ⌜ Below (now file) left row at ⌝ }
+    ensures { λ r. ⌜ Done r only (now (table .entry)) (now (table .exit)) (row + 1) (referenceOf left row (now (file .entry)) at) ⌝ }
 {
     let Number32::Is(n, from) = fields::u32_at(file, at) else {
         return Walk::Refused(2, at);
@@ -213,26 +215,21 @@ fn reference(
         }
         i += 1;
     }
-    put_row(table, only, row, kind, parent, first, next, left, at);
     Walk::Next(next, child)
 }
 
-// The pairs of an object array, from their count on; `value` is where its value begins.
+// The pairs of an object array, from their count on.
 fn array_pairs(
     file: &[u8],
     table: &mut [u32],
     only: usize,
-    kind: u32,
     objects: u32,
     left: usize,
-    parent: usize,
     row: usize,
-    first: usize,
-    value: usize,
     at: usize,
 ) -> Walk
-    requires { ⌜ (Inside (now file) left parent row first value) × (value ≤ at) × (at ≤ length (now file)) ⌝ }
-    ensures { λ r. ⌜ Done r only (now (table .entry)) (now (table .exit)) row (headed kind left parent first value (children (arrayPair objects left row) row (now (file .entry)) at)) ⌝ }
+    requires { ⌜ Below (now file) left row at ⌝ }
+    ensures { λ r. ⌜ Done r only (now (table .entry)) (now (table .exit)) (row + 1) (children (arrayPair objects left row) row (now (file .entry)) at) ⌝ }
 {
     let Number32::Is(n, from) = fields::u32_at(file, at) else {
         return Walk::Refused(2, at);
@@ -252,47 +249,44 @@ fn array_pairs(
         }
         i += 1;
     }
-    put_row(table, only, row, kind, parent, first, next, left, value);
     Walk::Next(next, child)
 }
 
-// The object array with the row `row`, from its number of objects on.
-fn array(
-    file: &[u8],
-    table: &mut [u32],
-    only: usize,
-    kind: u32,
-    left: usize,
-    parent: usize,
-    row: usize,
-    first: usize,
-    at: usize,
-) -> Walk
-    requires { ⌜ Inside (now file) left parent row first at ⌝ }
-    ensures { λ r. ⌜ Done r only (now (table .entry)) (now (table .exit)) row (headed kind left parent first at (arrayOf left row (now (file .entry)) at)) ⌝ }
+// An object array, from its number of objects on.
+fn array(file: &[u8], table: &mut [u32], only: usize, left: usize, row: usize, at: usize) -> Walk
+    requires { ⌜ Below (now file) left row at ⌝ }
+    ensures { λ r. ⌜ Done r only (now (table .entry)) (now (table .exit)) (row + 1) (arrayOf left row (now (file .entry)) at) ⌝ }
 {
     let Number32::Is(objects, class) = fields::u32_at(file, at) else {
         return Walk::Refused(2, at);
     };
     match descriptor::class_at(file, class) {
         Step::Refused(x, p) => Walk::Refused(x, p),
-        Step::Next(pairs) => array_pairs(
-            file,
-            table,
-            only,
-            kind,
-            objects,
-            left,
-            parent,
-            row,
-            first,
-            at,
-            pairs,
-        ),
+        Step::Next(pairs) => array_pairs(file, table, only, objects, left, row, pairs),
     }
 }
 
 // ---- the cycle
+
+// A class, where there is one.
+fn class_if(file: &[u8], there: bool, at: usize) -> Step
+    ensures { λ r. ⌜ toldStep r ≡ optional there class (now (file .entry)) at ⌝ }
+{
+    if there {
+        return descriptor::class_at(file, at);
+    }
+    Step::Next(at)
+}
+
+// A key, where there is one.
+fn key_if(file: &[u8], there: bool, at: usize) -> Step
+    ensures { λ r. ⌜ toldStep r ≡ optional there id (now (file .entry)) at ⌝ }
+{
+    if there {
+        return descriptor::id_at(file, at);
+    }
+    Step::Next(at)
+}
 
 // The item at `at`, whose row starts at `first`: at its key in a pair, else at its own first byte.
 fn item(
@@ -314,73 +308,53 @@ fn item(
     let Number32::Is(kind, value) = fields::u32_at(file, at) else {
         return Walk::Refused(2, at);
     };
-    match descriptor::begin(file, kind, value) {
-        Value::Ends(end) => {
+    match value_of(file, table, only, kind, left - 1, row, value) {
+        Walk::Refused(x, p) => Walk::Refused(x, p),
+        Walk::Next(end, k) => {
             put_row(table, only, row, kind, parent, first, end, left - 1, value);
-            Walk::Next(end, row + 1)
+            Walk::Next(end, k)
         }
-        Value::List => list(file, table, only, kind, left - 1, parent, row, first, value),
-        Value::Object => object(file, table, only, kind, left - 1, parent, row, first, value),
-        Value::Reference => reference(file, table, only, kind, left - 1, parent, row, first, value),
-        Value::Array => array(file, table, only, kind, left - 1, parent, row, first, value),
-        Value::Unknown => Walk::Refused(4, at),
+    }
+}
+
+// What follows the type of the row `row`: fields alone, or members.
+fn value_of(
+    file: &[u8],
+    table: &mut [u32],
+    only: usize,
+    kind: u32,
+    left: usize,
+    row: usize,
+    at: usize,
+) -> Walk
+    requires { ⌜ Below (now file) left row at ⌝ }
+    ensures { λ r. ⌜ Done r only (now (table .entry)) (now (table .exit)) (row + 1) (valued left row kind (now (file .entry)) at) ⌝ }
+{
+    match descriptor::begin(file, kind, at) {
+        Value::Ends(end) => Walk::Next(end, row + 1),
+        Value::List => list(file, table, only, false, left, row, at),
+        Value::Object => object(file, table, only, left, row, at),
+        Value::Reference => reference(file, table, only, left, row, at),
+        Value::Array => array(file, table, only, left, row, at),
+        Value::Unknown => Walk::Refused(4, at - 4),
         Value::Refused(x, p) => Walk::Refused(x, p),
     }
 }
 
-// The list with the row `row`, from its count on.
+// A list, from its count on; or, `keyed`, an object, from its class on, whose members are pairs.
 fn list(
     file: &[u8],
     table: &mut [u32],
     only: usize,
-    kind: u32,
+    keyed: bool,
     left: usize,
-    parent: usize,
     row: usize,
-    first: usize,
     at: usize,
 ) -> Walk
-    requires { ⌜ Inside (now file) left parent row first at ⌝ }
-    ensures { λ r. ⌜ Done r only (now (table .entry)) (now (table .exit)) row (headed kind left parent first at (listOf (item left) row (now (file .entry)) at)) ⌝ }
+    requires { ⌜ Below (now file) left row at ⌝ }
+    ensures { λ r. ⌜ Done r only (now (table .entry)) (now (table .exit)) (row + 1) (holderOf keyed left row (now (file .entry)) at) ⌝ }
 {
-    let Number32::Is(n, from) = fields::u32_at(file, at) else {
-        return Walk::Refused(2, at);
-    };
-    let mut next = from;
-    let mut child = row + 1;
-    let mut i: u32 = 0;
-    while i < n {
-        match item(file, table, only, left, row, child, next, next) {
-            Walk::Refused(x, p) => {
-                return Walk::Refused(x, p);
-            }
-            Walk::Next(q, k) => {
-                next = q;
-                child = k;
-            }
-        }
-        i += 1;
-    }
-    put_row(table, only, row, kind, parent, first, next, left, at);
-    Walk::Next(next, child)
-}
-
-// The object with the row `row`, from its class on.
-fn object(
-    file: &[u8],
-    table: &mut [u32],
-    only: usize,
-    kind: u32,
-    left: usize,
-    parent: usize,
-    row: usize,
-    first: usize,
-    at: usize,
-) -> Walk
-    requires { ⌜ Inside (now file) left parent row first at ⌝ }
-    ensures { λ r. ⌜ Done r only (now (table .entry)) (now (table .exit)) row (headed kind left parent first at (objectOf (item left) left row (now (file .entry)) at)) ⌝ }
-{
-    match descriptor::class_at(file, at) {
+    match class_if(file, keyed, at) {
         Step::Refused(x, p) => Walk::Refused(x, p),
         Step::Next(count) => {
             let Number32::Is(n, from) = fields::u32_at(file, count) else {
@@ -390,7 +364,7 @@ fn object(
             let mut child = row + 1;
             let mut i: u32 = 0;
             while i < n {
-                match pair(file, table, only, left, row, child, next) {
+                match pair(file, table, only, keyed, left, row, child, next) {
                     Walk::Refused(x, p) => {
                         return Walk::Refused(x, p);
                     }
@@ -401,29 +375,37 @@ fn object(
                 }
                 i += 1;
             }
-            put_row(table, only, row, kind, parent, first, next, left, at);
             Walk::Next(next, child)
         }
     }
 }
 
-// A key and an item.
+// An object, from its class on.
+fn object(file: &[u8], table: &mut [u32], only: usize, left: usize, row: usize, at: usize) -> Walk
+    requires { ⌜ Below (now file) left row at ⌝ }
+    ensures { λ r. ⌜ Done r only (now (table .entry)) (now (table .exit)) (row + 1) (objectOf (item left) left row (now (file .entry)) at) ⌝ }
+{
+    list(file, table, only, true, left, row, at)
+}
+
+// A key and an item; in a list, where there is no key, an item.
 fn pair(
     file: &[u8],
     table: &mut [u32],
     only: usize,
+    keyed: bool,
     left: usize,
     parent: usize,
     row: usize,
     at: usize,
 ) -> Walk
     requires { ⌜ Within (now file) left parent row at at ⌝ }
-    ensures { λ r. ⌜ Done r only (now (table .entry)) (now (table .exit)) row (pair left parent row (now (file .entry)) at) ⌝ }
+    ensures { λ r. ⌜ Done r only (now (table .entry)) (now (table .exit)) row (memberOf keyed left parent row (now (file .entry)) at) ⌝ }
 {
     if left == 0 {
         return Walk::Refused(10, at);
     }
-    match descriptor::id_at(file, at) {
+    match key_if(file, keyed, at) {
         Step::Refused(x, p) => Walk::Refused(x, p),
         Step::Next(next) => item(file, table, only, left, parent, row, at, next),
     }
@@ -442,7 +424,13 @@ fn root(file: &[u8], table: &mut [u32], only: usize) -> Walk
     if version != 16 {
         return Walk::Refused(3, 0);
     }
-    object(file, table, only, descriptor::OBJECT, 32, 0, 0, 0, value)
+    match object(file, table, only, 32, 0, value) {
+        Walk::Refused(x, p) => Walk::Refused(x, p),
+        Walk::Next(end, rows) => {
+            put_row(table, only, 0, descriptor::OBJECT, 0, 0, end, 32, value);
+            Walk::Next(end, rows)
+        }
+    }
 }
 
 // What is answered of a file of `length` bytes.
@@ -483,7 +471,15 @@ pub fn judge(file: &[u8]) -> Answer
 pub fn read(file: &[u8], table: &mut [u32]) -> Answer
     ensures { λ r. ⌜ ((told r, now (table .exit)) ≡ filled (descriptor (now (file .entry))) (now (table .entry))) × (rowsIn (told r) ≤ length (now (file .entry)) / 5) ⌝ }
 {
-    match judge(file) {
+    if LIMIT < file.len() {
+        return Answer::Refused {
+            number: 1,
+            place: 0,
+        };
+    }
+    let from = table.len();
+    let walk = root(file, &mut table[from..], 0);
+    match ended(walk, file.len()) {
         Answer::Refused { number, place } => Answer::Refused { number, place },
         Answer::Accepted { rows } => {
             if table.len() < WIDTH * rows {

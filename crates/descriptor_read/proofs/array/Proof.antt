@@ -1,7 +1,6 @@
-use Rattle.descriptor_read.proofs.Going.{done-no, done-eq, headed-no}
+use Rattle.descriptor_read.proofs.Going.{done-no, done-eq}
 use Rattle.descriptor_read.proofs.Steps.{array-cut, array-no, array-in}
 use Rattle.descriptor.proofs.Ends.{accepted, class-past}
-use Rattle.descriptor.specs.Reading.{headed}
 use Rattle.fields.proofs.Laws.{field-next}
 use Rattle.fields.specs.Answer.{told32, toldStep}
 use native.Mathlib.Omega.{arith}
@@ -22,7 +21,7 @@ enum-told c = search needs
 returns : tie.Need-returns
 returns c =
     let a = c .before .before .before .before .before .args in
-    done-no (headed-no _ (a .left) (a .parent) (a .first) _ (array-cut (a .left) (a .row) (a .file .now) (a .at) (sym (ap (told32 _) (c .enum-told .given .1)) ∙ c .before .before .u32-at .ensures)))
+    done-no (array-cut (a .left) (a .row) (a .file .now) (a .at) (sym (ap (told32 _) (c .enum-told .given .1)) ∙ c .before .before .u32-at .ensures))
 
 class-at-requires : tie.Need-class-at-requires
 class-at-requires c κs = search needs
@@ -36,16 +35,16 @@ enum-known-pairs c = search needs
 array-pairs-requires : tie.Need-array-pairs-requires
 array-pairs-requires c κs =
     let a = c .before .before .before .before .before .before .before .before .before .before .before .args in
-    let e = sym (ap (told32 _) (c .before .before .before .before .before .before .objects .given .1)) ∙ c .before .before .before .before .before .before .before .before .u32-at .ensures in
-    let h = field-next 4 (a .file .now) (a .at) _ _ e in
+    let h = field-next 4 (a .file .now) (a .at) _ _ (sym (ap (told32 _) (c .before .before .before .before .before .before .objects .given .1)) ∙ c .before .before .before .before .before .before .before .before .u32-at .ensures) in
     let w = accepted (class-past (a .file .now) _ (omega arith)) _ _ (sym (c .before .before .before .before .class-at .ensures) ∙ ap toldStep (c .before .before .pairs .given .1)) in
-    omega (arith, w .low, w .high, c .before .before .before .before .before .before .before .before .before .before .before .pre .size, c .before .before .before .before .before .before .before .before .before .before .before .pre .levels, c .before .before .before .before .before .before .before .before .before .before .before .pre .parent, c .before .before .before .before .before .before .before .before .before .before .before .pre .row, c .before .before .before .before .before .before .before .before .before .before .before .pre .order, c .before .before .before .before .before .before .before .before .before .before .before .pre .inside)
+    let p = c .before .before .before .before .before .before .before .before .before .before .before .pre in
+    omega (arith, w .low, w .high, p .size, p .levels, p .row, p .inside)
 
 returns-2 : tie.Need-returns-2
 returns-2 c =
     let a = c .before .before .before .before .before .before .before .before .before .before .args in
     let e = sym (ap (told32 _) (c .before .before .before .before .before .objects .given .1)) ∙ c .before .before .before .before .before .before .before .u32-at .ensures in
-    done-no (headed-no _ (a .left) (a .parent) (a .first) _ (array-no (a .left) (a .row) (a .file .now) (a .at) e (sym (c .before .before .before .class-at .ensures) ∙ ap toldStep (c .before .x .given .1))))
+    done-no (array-no (a .left) (a .row) (a .file .now) (a .at) e (sym (c .before .before .before .class-at .ensures) ∙ ap toldStep (c .before .x .given .1)))
 
 same-length : tie.Need-same-length
 same-length c = search needs
@@ -54,7 +53,7 @@ returns-3 : tie.Need-returns-3
 returns-3 c =
     let a = c .before .before .before .before .before .before .before .before .before .before .before .before .before .before .args in
     let e = sym (ap (told32 _) (c .before .before .before .before .before .before .before .before .before .objects .given .1)) ∙ c .before .before .before .before .before .before .before .before .before .before .before .u32-at .ensures in
-    done-eq (ap (headed _ (a .left) (a .parent) (a .first) (a .at)) (array-in (a .left) (a .row) (a .file .now) (a .at) e (sym (c .before .before .before .before .before .before .before .class-at .ensures) ∙ ap toldStep (c .before .before .before .before .before .pairs .given .1)))) (c .before .before .array-pairs .ensures)
+    done-eq (array-in (a .left) (a .row) (a .file .now) (a .at) e (sym (c .before .before .before .before .before .before .before .class-at .ensures) ∙ ap toldStep (c .before .before .before .before .before .pairs .given .1))) (c .before .before .array-pairs .ensures)
 
 pub array-spec : {M : Type 1} → statement M
 array-spec =

@@ -1,5 +1,6 @@
-use Rattle.descriptor_read.proofs.Going.{done-no, done-eq}
+use Rattle.descriptor_read.proofs.Going.{done-no, done-eq, done-past, row-done, row-no}
 use Rattle.descriptor_read.proofs.Steps.{root-short, root-other, root-is}
+use Rattle.descriptor.proofs.Tiling.{object-past}
 use Rattle.fields.proofs.Laws.{field-next}
 use Rattle.fields.specs.Answer.{told32}
 use native.Mathlib.Omega.{arith}
@@ -33,13 +34,34 @@ object-requires c κs =
     let h = field-next 4 (a .file .now) 0 _ _ (sym (ap (told32 _) (c .before .before .before .version .given .1)) ∙ c .before .before .before .before .before .u32-at .ensures) in
     omega (arith, c .before .before .before .before .before .before .before .before .pre)
 
+enum-known-x : tie.Need-enum-known-x
+enum-known-x c = search needs
+
+enum-known-end : tie.Need-enum-known-end
+enum-known-end c = search needs
+
+put-row-requires : tie.Need-put-row-requires
+put-row-requires c κs =
+    let a = c .before .before .before .before .before .before .before .before .before .before .before .before .before .before .before .args in
+    let h = field-next 4 (a .file .now) 0 _ _ (sym (ap (told32 _) (c .before .before .before .before .before .before .before .before .before .before .version .given .1)) ∙ c .before .before .before .before .before .before .before .before .before .before .before .before .u32-at .ensures) in
+    let w = done-past (object-past (a .file .now) 32 0 _ (omega arith) (omega arith)) (c .before .before .before .before .before .before .object .ensures) (c .before .before .end .given .1) in
+    omega (arith, w .0, w .1, c .before .before .before .before .before .before .before .before .before .before .before .before .before .before .before .pre)
+
 same-length : tie.Need-same-length
 same-length c = search needs
 
 returns-3 : tie.Need-returns-3
 returns-3 c =
-    let a = c .before .before .before .before .before .before .before .before .before .before .before .args in
-    done-eq (root-is (a .file .now) 0 (sym (ap (told32 _) (c .before .before .before .before .before .before .version .given .1)) ∙ c .before .before .before .before .before .before .before .before .u32-at .ensures) (c .before .before .before .before .if1 .left)) (c .before .before .object .ensures)
+    let a = c .before .before .before .before .before .before .before .before .before .before .before .before .before .before .args in
+    done-eq (root-is (a .file .now) 0 (sym (ap (told32 _) (c .before .before .before .before .before .before .before .before .before .version .given .1)) ∙ c .before .before .before .before .before .before .before .before .before .before .before .u32-at .ensures) (c .before .before .before .before .before .before .before .if1 .left)) (row-no _ 32 0 0 _ (c .before .before .before .before .before .object .ensures) (c .before .x .given .1))
+
+same-length-2 : tie.Need-same-length-2
+same-length-2 c = search needs
+
+returns-4 : tie.Need-returns-4
+returns-4 c =
+    let a = c .before .before .before .before .before .before .before .before .before .before .before .before .before .before .before .before .before .before .args in
+    done-eq (root-is (a .file .now) 0 (sym (ap (told32 _) (c .before .before .before .before .before .before .before .before .before .before .before .before .before .version .given .1)) ∙ c .before .before .before .before .before .before .before .before .before .before .before .before .before .before .before .u32-at .ensures) (c .before .before .before .before .before .before .before .before .before .before .before .if1 .left)) (row-done _ 32 0 0 _ _ _ (c .before .before .before .before .before .before .before .before .before .object .ensures) (c .before .before .before .before .before .end .given .1) (c .before .before .put-row .ensures))
 
 pub root-spec : {M : Type 1} → statement M
 root-spec =
@@ -51,5 +73,10 @@ root-spec =
     returns
     returns-2
     object-requires
+    enum-known-x
+    enum-known-end
+    put-row-requires
     same-length
-    returns-3)
+    returns-3
+    same-length-2
+    returns-4)
