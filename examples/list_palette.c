@@ -151,5 +151,9 @@ int main(int argc, char **argv) {
     int ase = length >= 4 && memcmp(file, "ASEF", 4) == 0;
     int status = ase ? list_ase(file, length) : list_aco(file, length);
     free(file);
-    return fflush(stdout) == 0 && !ferror(stdout) ? status : 2;
+    if (fflush(stdout) != 0 || ferror(stdout)) {
+        perror("standard output");
+        return 2;
+    }
+    return status;
 }

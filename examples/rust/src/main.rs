@@ -71,9 +71,13 @@ fn list_ase(file: &[u8]) -> Result<Vec<String>, Refusal> {
             }
             ase::Block::Stop => indent -= 2,
             ase::Block::Colour(colour) => {
-                let (name, colour_type) = (quoted(colour.name), colour.colour_type);
-                let channels = colour.channels;
-                lines.push(format!("{:indent$}{name} {channels:?} {colour_type:?}", ""));
+                let (name, channels) = (quoted(colour.name), colour.channels);
+                let (model, values) = (channels.model(), channels.values());
+                let colour_type = colour.colour_type;
+                lines.push(format!(
+                    "{:indent$}{name} {model:?} {values:?} {colour_type:?}",
+                    ""
+                ));
             }
         }
     }
