@@ -347,6 +347,80 @@ fn descriptor_values_have_their_types() {
     assert_eq!(none, Err(refusal(12, 0)));
 }
 
+// ---- damaged files
+
+/// Every cut of a file, and the file with each byte at some other values.
+fn damaged(file: &[u8]) -> impl Iterator<Item = Vec<u8>> + '_ {
+    let cuts = (0..file.len()).map(|end| file[..end].to_vec());
+    let altered = (0..file.len()).flat_map(move |at| {
+        [0x00, 0x01, 0x02, 0x10, 0x7F, 0xC0, 0xD8, 0xFF].map(|byte| {
+            let mut altered = file.to_vec();
+            altered[at] = byte;
+            altered
+        })
+    });
+    cuts.chain(altered)
+}
+
+/// Whether accepted or refused, all calls on a file say the same.
+#[test]
+fn damaged_files_are_refused_or_read() {
+    for file in damaged(&example("swatches.aco")) {
+        match aco::read(&file) {
+            Ok(palette) => {
+                assert!(palette.iter().eq(aco::walk(&file).unwrap()));
+                assert!(palette.write().is_ok());
+            }
+            Err(refusal) => {
+                assert_eq!(aco::walk(&file).unwrap_err(), refusal);
+                assert_eq!(aco::record_at(&file, 0), Err(refusal));
+            }
+        }
+    }
+    for file in damaged(&example("palette.ase")) {
+        match ase::read(&file) {
+            Ok(palette) => {
+                assert!(palette.iter().eq(ase::walk_blocks(&file).unwrap()));
+                assert_eq!(palette.write().unwrap(), file);
+            }
+            Err(refusal) => {
+                assert_eq!(ase::walk(&file).unwrap_err(), refusal);
+                assert_eq!(ase::record_at(&file, 0), Err(refusal));
+            }
+        }
+    }
+    for file in damaged(&example("book.acb")) {
+        match acb::read(&file) {
+            Ok(book) => {
+                assert_eq!(book.write().unwrap(), file);
+                for i in 0..book.len() {
+                    let full = acb::full_name(&file, i).unwrap();
+                    assert_eq!(acb::full_length(&file, i), Ok(full.len()));
+                }
+            }
+            Err(refusal) => {
+                assert_eq!(acb::shown_at(&file, 0), Err(refusal));
+                assert_eq!(acb::full_name(&file, 0), Err(refusal));
+                assert_eq!(acb::page_at(&file, 0), Err(refusal));
+            }
+        }
+    }
+    for file in damaged(&example("swatch.desc")) {
+        match descriptor::read(&file) {
+            Ok(rows) => {
+                for (i, row) in rows.iter().enumerate() {
+                    let value = descriptor::value_at(&file, i).unwrap();
+                    assert!(rows.bytes(&row).unwrap().ends_with(value));
+                }
+            }
+            Err(refusal) => {
+                assert_eq!(descriptor::value_at(&file, 0), Err(refusal));
+                assert_eq!(descriptor::typed_at(&file, 0), Err(refusal));
+            }
+        }
+    }
+}
+
 // ---- conversions
 
 #[test]
