@@ -92,6 +92,9 @@ fn list_acb(file: &[u8]) -> Result<Vec<String>, Refusal> {
     let mut lines = vec![format!(
         "ACB: {title}, {records} records on {pages} pages, {space:?}"
     )];
+    // Full names, shown components and, below, values are asked for one by one,
+    // and the whole file is judged each time: that is for books and settings of
+    // usual length.
     for (i, swatch) in book.iter().enumerate() {
         if !swatch.is_dummy() {
             let name = acb::full_name(file, i)?;
