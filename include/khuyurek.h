@@ -2,7 +2,8 @@
  *
  * Link target/staticlib/libkhuyurek.a, which `rt staticlib khuyurek` makes.
  * No call allocates, keeps a pointer or changes a buffer on a refusal. A pointer
- * is aligned and not null even where its length is 0. Refusal numbers: README.md.
+ * is aligned and not null even where its length is 0. docs/INTERFACE.md has every
+ * function with its refusals, and examples/list_palette.c a program.
  */
 #ifndef KHUYUREK_H
 #define KHUYUREK_H
@@ -13,6 +14,11 @@
 #ifdef __cplusplus
 extern "C" {
 #endif
+
+/* The longest file that is taken or written, in bytes: a longer one is 1. */
+#define KHUYUREK_LIMIT 16777216u
+
+/* ---- ACO */
 
 /* The numbers of a record in a table or run: space, four samples, place of the
  * name's first unit in the file or text, number of its units (16 bits each,
@@ -30,8 +36,8 @@ typedef struct {
     size_t lists;
 } khuyurek_aco_answer;
 
-/* number 0: accepted, with the colour and where its name lies. Else the refusal,
- * and all the rest is 0. */
+/* number 0: accepted, with the colour and where its name lies. Else the refusal as
+ * khuyurek_aco_judge gives it, or 12; all the rest is 0. */
 typedef struct {
     uint32_t number;
     uint32_t units;

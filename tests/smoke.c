@@ -1,7 +1,7 @@
 /* The header and the archive from C: P3, P6 and a book of one Lab colour are read, listed by their
  * record and written back; P4 is refused with its record and field, P7 with its place, a group left
  * open and a tag that is none by the writer; the book's colour, full name and page are shown; P12 is
- * read into its rows; a few samples and channels are converted. */
+ * read into its rows; P3 and P6 are walked; a few samples and channels are converted. */
 #include <stdio.h>
 #include <string.h>
 
@@ -193,6 +193,31 @@ static int descriptor(void) {
     return 0;
 }
 
+static int walks(void) {
+    khuyurek_aco_start aco = khuyurek_aco_walk_start(P3, sizeof P3);
+    CHECK(aco.number == 0 && aco.place == 0 && aco.at == 18);
+    khuyurek_aco_step swatch = khuyurek_aco_walk(P3, sizeof P3, aco.at);
+    CHECK(swatch.number == 0 && swatch.done == 0 && swatch.next == sizeof P3);
+    CHECK(swatch.name == 32 && swatch.units == 1 && swatch.space == 0);
+    CHECK(swatch.samples[0] == 65535 && swatch.samples[2] == 32896 && swatch.samples[3] == 0);
+    khuyurek_aco_step end = khuyurek_aco_walk(P3, sizeof P3, swatch.next);
+    CHECK(end.number == 0 && end.done == 1 && end.next == sizeof P3 && end.samples[0] == 0);
+    khuyurek_aco_step lost = khuyurek_aco_walk(P3, sizeof P3, sizeof P3 + 1);
+    CHECK(lost.number == 5 && lost.done == 0);
+
+    khuyurek_ase_start ase = khuyurek_ase_walk_start(P6, sizeof P6);
+    CHECK(ase.number == 0 && ase.place == 0 && ase.at == 12);
+    khuyurek_ase_step colour = khuyurek_ase_walk(P6, sizeof P6, ase.at);
+    CHECK(colour.number == 0 && colour.done == 0 && colour.next == sizeof P6);
+    CHECK(colour.block == KHUYUREK_ASE_COLOUR && colour.name == 20 && colour.units == 0);
+    CHECK(colour.model == KHUYUREK_GRAY && colour.channels[0] == ONE && colour.type == 2);
+    CHECK(khuyurek_ase_walk(P6, sizeof P6, colour.next).done == 1);
+    khuyurek_ase_step block = khuyurek_ase_walk_block(P6, sizeof P6, ase.at);
+    CHECK(block.block == KHUYUREK_ASE_COLOUR && block.next == sizeof P6);
+    CHECK(khuyurek_ase_walk_start(P6, sizeof P6 - 1).number == 2);
+    return 0;
+}
+
 static int conversions(void) {
     khuyurek_sample rgb = khuyurek_to_sample(RGB_MODEL, HALF);
     CHECK(rgb.number == 0 && rgb.sample == 32768);
@@ -206,7 +231,7 @@ static int conversions(void) {
 }
 
 int main(void) {
-    if (aco() || ase() || acb() || descriptor() || conversions()) {
+    if (aco() || ase() || acb() || descriptor() || walks() || conversions()) {
         return 1;
     }
     puts("C agrees");

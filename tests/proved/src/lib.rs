@@ -1,5 +1,18 @@
 //! The proved library's calls, through its C interface. Those for ACB, ASE and
 //! descriptors are in their own modules.
+//!
+//! This crate has the only declarations of the C functions in Rust, and all
+//! `unsafe` code over them. What makes it sound:
+//!
+//! - Each pointer is a slice's, with that slice's length: it is aligned, not null
+//!   even for no elements, and borrowed, for writing where it is `*mut`, for the
+//!   whole call. No two slices of a call overlap where one is written.
+//! - The library has no precondition besides. It is proved to return for any
+//!   input, to stay inside the slices, to write to none but the lent output, and
+//!   to keep no pointer.
+//! - The structs have the fields of the library's own, in their order and with
+//!   `repr(C)` on both sides; every bit pattern of a field is a value of its type.
+//!   A test of the crate `khuyurek` holds the declarations to the library's source.
 
 pub mod acb;
 pub mod ase;

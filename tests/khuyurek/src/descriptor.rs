@@ -1,0 +1,147 @@
+//! Serialized descriptors.
+
+use std::fmt::{self, Debug, Display, Formatter, Write};
+
+use crate::raw::descriptor as raw;
+use crate::Refusal;
+
+/// How many numbers a row has in a table.
+pub const WIDTH: usize = 5;
+
+/// Four characters: a row's kind or a unit. Shown without the spaces at its end.
+#[derive(Clone, Copy, PartialEq, Eq, Hash)]
+pub struct Tag(pub [u8; 4]);
+
+/// The root, a pair, a list item or a reference item.
+#[derive(Clone, Copy, Debug, PartialEq, Eq)]
+pub struct Row {
+    /// The item's type or the reference's form; `Objc` for the root, `UnFl` for
+    /// the pair of an object array.
+    pub kind: Tag,
+    /// The number of the parent's row; 0 for the root too.
+    pub parent: usize,
+    /// The place of its first byte.
+    pub first: usize,
+    /// How many bytes it has, its children's too.
+    pub length: usize,
+    /// How deep it stands; the root has 0.
+    pub depth: usize,
+}
+
+/// A row's value by its kind.
+#[derive(Clone, Copy, Debug, PartialEq)]
+pub enum Value {
+    /// Of a `bool`.
+    Bool(bool),
+    /// Of a `long`.
+    Long(i32),
+    /// Of a `comp`.
+    Comp(i64),
+    /// Of a `doub`.
+    Double(f64),
+    /// Of a `UntF`: its unit and its number.
+    UnitDouble(Tag, f64),
+    /// A row of any other kind.
+    Other,
+}
+
+/// The rows of an accepted file, in a table of the exact length.
+#[derive(Clone, Debug)]
+pub struct Rows<'a> {
+    file: &'a [u8],
+    table: Vec<u32>,
+}
+
+/// Judges a file: the number of its rows.
+pub fn judge(file: &[u8]) -> Result<usize, Refusal> {
+    rows(raw::judge(file))
+}
+
+/// Reads a file.
+pub fn read(file: &[u8]) -> Result<Rows<'_>, Refusal> {
+    let mut table = vec![0; WIDTH * judge(file)?];
+    rows(raw::read(file, &mut table))?;
+    Ok(Rows { file, table })
+}
+
+/// A row's value, the part of the file after its type or form. The whole file is
+/// judged first.
+pub fn value_at(file: &[u8], row: usize) -> Result<&[u8], Refusal> {
+    let value = raw::value(file, row);
+    Refusal::unless(value.number, value.place)?;
+    Ok(&file[value.first..value.first + value.length])
+}
+
+/// A row's value by its kind. The whole file is judged first.
+pub fn typed_at(file: &[u8], row: usize) -> Result<Value, Refusal> {
+    let typed = raw::typed(file, row);
+    Refusal::unless(typed.number, typed.place)?;
+    let bits = typed.bits;
+    Ok(match &typed.kind.to_be_bytes() {
+        b"bool" => Value::Bool(bits != 0),
+        b"long" => Value::Long(bits as u32 as i32),
+        b"comp" => Value::Comp(bits as i64),
+        b"doub" => Value::Double(f64::from_bits(bits)),
+        b"UntF" => Value::UnitDouble(Tag(typed.unit.to_be_bytes()), f64::from_bits(bits)),
+        _ => Value::Other,
+    })
+}
+
+fn rows(answer: raw::Answer) -> Result<usize, Refusal> {
+    Refusal::unless(answer.number, answer.place)?;
+    Ok(answer.rows)
+}
+
+impl<'a> Rows<'a> {
+    /// How many rows there are, never none.
+    #[allow(clippy::len_without_is_empty)]
+    pub fn len(&self) -> usize {
+        self.table.len() / WIDTH
+    }
+
+    /// The rows in file order.
+    pub fn iter(&self) -> impl ExactSizeIterator<Item = Row> + '_ {
+        self.table.chunks_exact(WIDTH).map(Row::from_numbers)
+    }
+
+    /// A row by its number, from 0.
+    pub fn get(&self, row: usize) -> Option<Row> {
+        let numbers = self.table.chunks_exact(WIDTH).nth(row)?;
+        Some(Row::from_numbers(numbers))
+    }
+
+    /// All bytes of a row, a part of the file.
+    pub fn bytes(&self, row: &Row) -> Option<&'a [u8]> {
+        self.file.get(row.first..)?.get(..row.length)
+    }
+
+    /// The table.
+    pub fn numbers(&self) -> &[u32] {
+        &self.table
+    }
+}
+
+impl Row {
+    fn from_numbers(numbers: &[u32]) -> Row {
+        Row {
+            kind: Tag(numbers[0].to_be_bytes()),
+            parent: numbers[1] as usize,
+            first: numbers[2] as usize,
+            length: numbers[3] as usize,
+            depth: numbers[4] as usize,
+        }
+    }
+}
+
+impl Display for Tag {
+    fn fmt(&self, f: &mut Formatter<'_>) -> fmt::Result {
+        let mut shown = self.0.trim_ascii_end().iter();
+        shown.try_for_each(|&byte| f.write_char(byte.into()))
+    }
+}
+
+impl Debug for Tag {
+    fn fmt(&self, f: &mut Formatter<'_>) -> fmt::Result {
+        write!(f, "`{}`", self.0.escape_ascii())
+    }
+}

@@ -1,0 +1,61 @@
+//! Colour files judged, read and written by a proved library: what its C
+//! interface gives, as types of Rust. docs/INTERFACE.md has every function and
+//! its refusals.
+//!
+//! A swatch palette becomes an ASE palette, where every colour has a
+//! counterpart:
+//!
+//! ```
+//! use khuyurek::{aco, ase, to_channel, Refusal, Space};
+//!
+//! fn to_ase(file: &[u8]) -> Result<Vec<u8>, Refusal> {
+//!     let mut blocks = Vec::new();
+//!     for swatch in aco::walk(file)? {
+//!         let channel = |i: usize| to_channel(swatch.space, swatch.samples[i]);
+//!         let channels = match swatch.space {
+//!             Space::Cmyk => {
+//!                 ase::Channels::Cmyk([channel(0)?, channel(1)?, channel(2)?, channel(3)?])
+//!             }
+//!             Space::Gray => ase::Channels::Gray(channel(0)?),
+//!             // HSB and Lab have no counterpart: their channels are refused.
+//!             _ => ase::Channels::Rgb([channel(0)?, channel(1)?, channel(2)?]),
+//!         };
+//!         let name = swatch.name;
+//!         let colour_type = ase::ColourType::Global;
+//!         blocks.push(ase::Block::Colour(ase::Colour { name, channels, colour_type }));
+//!     }
+//!     ase::write(&blocks)
+//! }
+//!
+//! let gray = [0, 1, 0, 1, 0, 8, 0xFF, 0xFF, 0, 0, 0, 0, 0, 0];
+//! let palette = to_ase(&gray).unwrap();
+//! assert_eq!(ase::judge(&palette).unwrap().colours, 1);
+//! let lab = [0, 1, 0, 1, 0, 7, 0, 0, 0, 0, 0, 0, 0, 0];
+//! assert_eq!(to_ase(&lab).unwrap_err().number, 14);
+//! ```
+//!
+//! Nothing here is `unsafe`: the declarations of the C functions, and the calls
+//! of them, are in the crate `proved`, which is [`raw`] here. It has the same
+//! calls on numbers and slices, for a program that lends its own tables.
+
+#![forbid(unsafe_code)]
+#![warn(missing_docs)]
+
+pub mod acb;
+pub mod aco;
+pub mod ase;
+mod convert;
+pub mod descriptor;
+mod refusal;
+mod space;
+mod text;
+mod units;
+
+pub use convert::{to_channel, to_sample};
+pub use proved as raw;
+pub use refusal::Refusal;
+pub use space::{Model, Space};
+pub use units::Units;
+
+/// The longest file that is taken or written, in bytes.
+pub const LIMIT: usize = 16_777_216;

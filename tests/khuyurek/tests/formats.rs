@@ -1,0 +1,469 @@
+//! The wrapper over each format: agreed files by their rule's number, files
+//! written back, refusals.
+
+use std::fs;
+use std::path::Path;
+
+use khuyurek::descriptor::{self, Tag, Value};
+use khuyurek::{acb, aco, ase, to_channel, to_sample, Model, Refusal, Space, Units};
+
+const P2: [u8; 4] = [0, 1, 0, 0];
+const P3: [u8; 36] = [
+    0x00, 0x01, 0x00, 0x01, 0x00, 0x00, 0xFF, 0xFF, 0x00, 0x00, 0x80, 0x80, //
+    0x00, 0x00, 0x00, 0x02, 0x00, 0x01, 0x00, 0x00, 0xFF, 0xFF, 0x00, 0x00, //
+    0x80, 0x80, 0x00, 0x00, 0x00, 0x00, 0x00, 0x02, 0x00, 0x41, 0x00, 0x00,
+];
+const P5: [u8; 12] = *b"ASEF\0\x01\0\0\0\0\0\0";
+const P6: [u8; 32] = *b"ASEF\0\x01\0\0\0\0\0\x01\0\x01\0\0\0\x0E\0\x01\0\0Gray\x3F\x80\0\0\0\x02";
+const P11: [u8; 17] = *b"\0\0\0\x10\0\0\0\0\0\0\0\x01a\0\0\0\0";
+const P12: [u8; 40] =
+    *b"\0\0\0\x10\0\0\0\0\0\0\0\x01a\0\0\0\x01\0\0\0\x01aVlLs\0\0\0\x02bool\x01bool\x01";
+
+fn refusal(number: u32, place: usize) -> Refusal {
+    Refusal {
+        number,
+        place,
+        record: 0,
+        field: 0,
+    }
+}
+
+fn example(name: &str) -> Vec<u8> {
+    let folder = Path::new(env!("CARGO_MANIFEST_DIR")).join("../../examples/files");
+    fs::read(folder.join(name)).expect("the example is there")
+}
+
+#[test]
+fn no_bytes_are_refused_by_every_kind() {
+    assert_eq!(aco::judge(&[]), Err(refusal(2, 0)));
+    assert_eq!(ase::judge(&[]), Err(refusal(2, 0)));
+    assert_eq!(acb::judge(&[]), Err(refusal(2, 0)));
+    assert_eq!(descriptor::judge(&[]), Err(refusal(2, 0)));
+}
+
+#[test]
+fn too_long_a_file_is_refused_by_every_kind() {
+    let file = vec![0; khuyurek::LIMIT + 1];
+    assert_eq!(aco::read(&file).unwrap_err(), refusal(1, 0));
+    assert_eq!(ase::read(&file).unwrap_err(), refusal(1, 0));
+    assert_eq!(acb::read(&file).unwrap_err(), refusal(1, 0));
+    assert_eq!(descriptor::read(&file).unwrap_err(), refusal(1, 0));
+}
+
+// ---- ACO
+
+#[test]
+fn aco_is_read() {
+    let palette = aco::read(&P3).unwrap();
+    assert_eq!((palette.len(), palette.lists()), (1, 2));
+    let swatch = palette.get(0).unwrap();
+    assert_eq!(swatch.space, Space::Rgb);
+    assert_eq!(swatch.samples, [65535, 0, 32896, 0]);
+    assert_eq!(swatch.name.to_string(), "A");
+    assert_eq!(swatch.name.bytes().as_ptr(), P3[32..].as_ptr());
+    assert_eq!(palette.get(1), None);
+    assert_eq!(aco::record_at(&P3, 0), Ok(swatch));
+    assert_eq!(aco::record_at(&P3, 1), Err(refusal(12, 0)));
+    assert!(aco::read(&P2).unwrap().is_empty());
+    let counts = aco::Counts {
+        colours: 0,
+        lists: 1,
+    };
+    assert_eq!(aco::judge(&P2), Ok(counts));
+}
+
+#[test]
+fn aco_lists_that_disagree_name_record_and_field() {
+    let mut p4 = P3;
+    p4[25] = 0x81;
+    let differs = Refusal {
+        number: 7,
+        place: 24,
+        record: 0,
+        field: 3,
+    };
+    assert_eq!(aco::judge(&p4), Err(differs));
+    assert_eq!(aco::record_at(&p4, 9), Err(differs));
+    assert_eq!(aco::walk(&p4).unwrap_err(), differs);
+    assert_eq!(
+        differs.to_string(),
+        "refused 7 at 24: the two ACO lists disagree (record 0, field 3)"
+    );
+}
+
+#[test]
+fn aco_is_walked() {
+    let file = example("swatches.aco");
+    let palette = aco::read(&file).unwrap();
+    let mut walk = aco::walk(&file).unwrap();
+    assert!(palette.iter().eq(walk.by_ref()));
+    assert_eq!(walk.next(), None);
+    assert_eq!(palette.len(), 5);
+    // A plain file is walked by its only list.
+    let plain = &P3[..14];
+    assert_eq!(aco::walk(plain).unwrap().count(), 1);
+    assert_eq!(aco::step_at(plain, 5), Err(refusal(5, 0)));
+    assert_eq!(aco::step_at(plain, 14), Ok(None));
+    assert_eq!(aco::step_at(plain, usize::MAX), Err(refusal(5, 0)));
+}
+
+#[test]
+fn aco_is_written() {
+    let file = example("swatches.aco");
+    let palette = aco::read(&file).unwrap();
+    assert_eq!(palette.write().unwrap(), file);
+    let swatches: Vec<_> = palette.iter().collect();
+    assert_eq!(aco::write_length(&swatches), Ok(file.len()));
+    assert_eq!(aco::write(&swatches).unwrap(), file);
+    // A file of one list is written with both.
+    let both = aco::read(&P2).unwrap().write().unwrap();
+    assert_eq!(both, [0, 1, 0, 0, 0, 2, 0, 0]);
+    let closed = Units::encode("a\0");
+    let mut swatch = aco::Swatch {
+        space: Space::Gray,
+        samples: [9, 0, 0, 0],
+        name: Units::new(&closed),
+    };
+    assert_eq!(aco::write(&[swatch]), Err(refusal(8, 0)));
+    swatch.samples[1] = 1;
+    assert_eq!(aco::write(&[swatch]), Err(refusal(5, 0)));
+    assert_eq!(aco::write_length(&[swatch; 4097]), Err(refusal(5, 0)));
+    let long = vec![0; khuyurek::LIMIT];
+    swatch.name = Units::new(&long);
+    assert_eq!(aco::write_length(&[swatch]), Err(refusal(1, 0)));
+}
+
+// ---- ASE
+
+#[test]
+fn ase_is_read() {
+    let gray = ase::Block::Colour(ase::Colour {
+        name: Units::default(),
+        channels: ase::Channels::Gray(1.0),
+        colour_type: ase::ColourType::Normal,
+    });
+    assert!(ase::read(&P5).unwrap().is_empty());
+    let palette = ase::read(&P6).unwrap();
+    assert!(palette.iter().eq([gray]));
+    assert_eq!((palette.get(0), palette.get(1)), (Some(gray), None));
+    assert_eq!(ase::record_at(&P6, 0), Ok(gray));
+    assert_eq!(ase::record_at(&P6, 1), Err(refusal(12, 0)));
+    let mut p7 = P6.to_vec();
+    p7[17] = 0x0F;
+    p7.push(0);
+    assert_eq!(ase::judge(&p7), Err(refusal(13, 14)));
+}
+
+#[test]
+fn ase_is_walked() {
+    let file = example("palette.ase");
+    let palette = ase::read(&file).unwrap();
+    let mut blocks = ase::walk_blocks(&file).unwrap();
+    assert!(palette.iter().eq(blocks.by_ref()));
+    assert_eq!(blocks.next(), None);
+    let mut colours = ase::walk(&file).unwrap();
+    let only = palette.iter().filter_map(|block| match block {
+        ase::Block::Colour(colour) => Some(colour),
+        _ => None,
+    });
+    assert!(only.eq(colours.by_ref()));
+    assert_eq!(colours.next(), None);
+    let counts = ase::Counts {
+        blocks: 8,
+        colours: 4,
+    };
+    assert_eq!(ase::judge(&file), Ok(counts));
+    for (i, block) in palette.iter().enumerate() {
+        assert_eq!(ase::record_at(&file, i), Ok(block));
+    }
+    assert_eq!(ase::step_at(&file, 13), Err(refusal(5, 0)));
+    assert_eq!(ase::block_at(&file, file.len()), Ok(None));
+}
+
+#[test]
+fn ase_is_written() {
+    let file = example("palette.ase");
+    let palette = ase::read(&file).unwrap();
+    assert_eq!(palette.write().unwrap(), file);
+    let blocks: Vec<_> = palette.iter().collect();
+    assert_eq!(ase::write_length(&blocks), Ok(file.len()));
+    assert_eq!(ase::write(&blocks).unwrap(), file);
+    let open = ase::Block::Start(Units::default());
+    assert_eq!(ase::write(&[open]), Err(refusal(9, 0)));
+    assert_eq!(ase::write(&[ase::Block::Stop]), Err(refusal(9, 0)));
+    assert_eq!(ase::write(&[open; 17]), Err(refusal(10, 0)));
+    let gray = |channel| {
+        ase::Block::Colour(ase::Colour {
+            name: Units::default(),
+            channels: ase::Channels::Gray(channel),
+            colour_type: ase::ColourType::Spot,
+        })
+    };
+    assert_eq!(ase::write(&[gray(f32::NAN)]), Err(refusal(5, 0)));
+    let minus_zero = ase::write(&[gray(-0.0)]).unwrap();
+    assert_eq!(minus_zero[26..30], [0x80, 0, 0, 0]);
+}
+
+// ---- ACB
+
+/// A book of seven colours, three to a page, the third its sample.
+fn book(space: Space, components: [u8; 4], names: [&str; 7]) -> Result<Vec<u8>, Refusal> {
+    let names = names.map(Units::encode);
+    let swatches: Vec<_> = names
+        .iter()
+        .map(|name| acb::Swatch {
+            name: Units::new(name),
+            code: *b"abcdef",
+            components,
+        })
+        .collect();
+    let prefix = Units::encode("$$$/key=p ");
+    let suffix = Units::encode(" s");
+    let header = acb::Header {
+        identifier: 3000,
+        page_size: 3,
+        page_offset: 2,
+        space,
+        tag: Some(acb::Tag::Spot),
+        title: Units::default(),
+        prefix: Units::new(&prefix),
+        suffix: Units::new(&suffix),
+        description: Units::default(),
+    };
+    acb::write(&header, &swatches)
+}
+
+#[test]
+fn acb_is_read_and_written() {
+    for file in [
+        example("book.acb"),
+        book(Space::Lab, [1, 2, 3, 0], ["n"; 7]).unwrap(),
+    ] {
+        let book = acb::read(&file).unwrap();
+        assert_eq!(book.write().unwrap(), file);
+        let swatches: Vec<_> = book.iter().collect();
+        assert_eq!(acb::write_length(book.header(), &swatches), Ok(file.len()));
+        assert_eq!(acb::write(book.header(), &swatches).unwrap(), file);
+        for (i, swatch) in swatches.iter().enumerate() {
+            assert_eq!(acb::record_at(&file, i).as_ref(), Ok(swatch));
+            assert_eq!(book.get(i).as_ref(), Some(swatch));
+        }
+        let none = Err(refusal(12, 0));
+        assert_eq!(acb::record_at(&file, book.len()), none);
+        assert_eq!(acb::judge(&file).unwrap(), (book.len(), *book.header()));
+        let cut = acb::judge(&file[..file.len() - 1]);
+        assert_eq!(cut, Err(refusal(2, file.len() - 8)));
+    }
+}
+
+#[test]
+fn acb_is_shown() {
+    let shown = |space, components| {
+        let file = book(space, components, ["n"; 7]).unwrap();
+        acb::shown_at(&file, 6).unwrap().values().to_vec()
+    };
+    assert_eq!(shown(Space::Lab, [0xF8, 0x7B, 0x7B, 0]), [97, -5, -5]);
+    assert_eq!(shown(Space::Cmyk, [0, 128, 255, 0]), [100, 50, 0, 100]);
+    assert_eq!(shown(Space::Rgb, [1, 2, 255, 9]), [1, 2, 255]);
+    let file = book(Space::Rgb, [0; 4], ["n"; 7]).unwrap();
+    assert_eq!(acb::shown_at(&file, 7), Err(refusal(12, 0)));
+    let full = acb::full_name(&file, 0).unwrap();
+    assert_eq!(Units::new(&full).to_string(), "p n s");
+    assert_eq!(acb::full_length(&file, 0), Ok(10));
+    assert_eq!(acb::full_name(&file, 7), Err(refusal(12, 0)));
+    let bare = Units::encode("bare");
+    assert_eq!(acb::shown_text(Units::new(&bare)).to_string(), "bare");
+}
+
+#[test]
+fn acb_pages_show_their_sample() {
+    let file = book(Space::Rgb, [0; 4], ["n"; 7]).unwrap();
+    assert_eq!(acb::read(&file).unwrap().pages(), 3);
+    let pages = [0, 1, 2, 3, usize::MAX].map(|page| acb::page_at(&file, page));
+    let none = Err(refusal(12, 0));
+    assert_eq!(pages, [Ok(2), Ok(5), Ok(6), none, none]);
+    let dummies = book(Space::Rgb, [0; 4], ["", "n", "", "", "", "", "n"]).unwrap();
+    let pages = [0, 1, 2].map(|page| acb::page_at(&dummies, page));
+    assert_eq!(pages, [Ok(1), none, Ok(6)]);
+}
+
+#[test]
+fn acb_writer_refuses() {
+    assert_eq!(book(Space::Gray, [0; 4], ["n"; 7]), Err(refusal(4, 0)));
+    let file = example("book.acb");
+    let mut header = *acb::read(&file).unwrap().header();
+    header.page_size = 0;
+    assert_eq!(acb::write(&header, &[]), Err(refusal(5, 0)));
+}
+
+// ---- descriptors
+
+#[test]
+fn descriptor_is_read() {
+    assert_eq!(descriptor::judge(&P11), Ok(1));
+    let rows = descriptor::read(&P12).unwrap();
+    let told: Vec<_> = rows
+        .iter()
+        .map(|r| (r.kind.to_string(), r.parent, r.first, r.length, r.depth))
+        .collect();
+    let row =
+        |kind: &str, parent, first, length, depth| (kind.to_string(), parent, first, length, depth);
+    let expected = [
+        row("Objc", 0, 0, 40, 0),
+        row("VlLs", 0, 17, 23, 1),
+        row("bool", 1, 30, 5, 2),
+        row("bool", 1, 35, 5, 2),
+    ];
+    assert_eq!(told, expected);
+    let last = rows.get(3).unwrap();
+    assert_eq!(rows.bytes(&last), Some(&b"bool\x01"[..]));
+    assert_eq!(rows.get(4), None);
+    assert_eq!(descriptor::value_at(&P12, 1), Ok(&P12[26..]));
+    assert_eq!(descriptor::value_at(&P12, 4), Err(refusal(12, 0)));
+    assert_eq!(descriptor::judge(&P12[..39]), Err(refusal(2, 39)));
+}
+
+#[test]
+fn descriptor_values_have_their_types() {
+    let file = example("swatch.desc");
+    let rows = descriptor::read(&file).unwrap();
+    let values: Vec<_> = (0..rows.len())
+        .map(|row| descriptor::typed_at(&file, row).unwrap())
+        .collect();
+    let expected = [
+        Value::Other,
+        Value::Other,
+        Value::Bool(true),
+        Value::Other,
+        Value::Double(255.0),
+        Value::Double(128.5),
+        Value::UnitDouble(Tag(*b"#Prc"), 75.0),
+        Value::Other,
+        Value::Long(-3),
+        Value::Comp(1 << 40),
+    ];
+    assert_eq!(values, expected);
+    let none = descriptor::typed_at(&file, rows.len());
+    assert_eq!(none, Err(refusal(12, 0)));
+}
+
+// ---- damaged files
+
+/// Every cut of a file, and the file with each byte at some other values.
+fn damaged(file: &[u8]) -> impl Iterator<Item = Vec<u8>> + '_ {
+    let cuts = (0..file.len()).map(|end| file[..end].to_vec());
+    let altered = (0..file.len()).flat_map(move |at| {
+        [0x00, 0x01, 0x02, 0x10, 0x7F, 0xC0, 0xD8, 0xFF].map(|byte| {
+            let mut altered = file.to_vec();
+            altered[at] = byte;
+            altered
+        })
+    });
+    cuts.chain(altered)
+}
+
+/// Whether accepted or refused, all calls on a file say the same.
+#[test]
+fn damaged_files_are_refused_or_read() {
+    for file in damaged(&example("swatches.aco")) {
+        match aco::read(&file) {
+            Ok(palette) => {
+                assert!(palette.iter().eq(aco::walk(&file).unwrap()));
+                assert!(palette.write().is_ok());
+            }
+            Err(refusal) => {
+                assert_eq!(aco::walk(&file).unwrap_err(), refusal);
+                assert_eq!(aco::record_at(&file, 0), Err(refusal));
+            }
+        }
+    }
+    for file in damaged(&example("palette.ase")) {
+        match ase::read(&file) {
+            Ok(palette) => {
+                assert!(palette.iter().eq(ase::walk_blocks(&file).unwrap()));
+                assert_eq!(palette.write().unwrap(), file);
+            }
+            Err(refusal) => {
+                assert_eq!(ase::walk(&file).unwrap_err(), refusal);
+                assert_eq!(ase::record_at(&file, 0), Err(refusal));
+            }
+        }
+    }
+    for file in damaged(&example("book.acb")) {
+        match acb::read(&file) {
+            Ok(book) => {
+                assert_eq!(book.write().unwrap(), file);
+                for i in 0..book.len() {
+                    let full = acb::full_name(&file, i).unwrap();
+                    assert_eq!(acb::full_length(&file, i), Ok(full.len()));
+                }
+            }
+            Err(refusal) => {
+                assert_eq!(acb::shown_at(&file, 0), Err(refusal));
+                assert_eq!(acb::full_name(&file, 0), Err(refusal));
+                assert_eq!(acb::page_at(&file, 0), Err(refusal));
+            }
+        }
+    }
+    for file in damaged(&example("swatch.desc")) {
+        match descriptor::read(&file) {
+            Ok(rows) => {
+                for (i, row) in rows.iter().enumerate() {
+                    let value = descriptor::value_at(&file, i).unwrap();
+                    assert!(rows.bytes(&row).unwrap().ends_with(value));
+                }
+            }
+            Err(refusal) => {
+                assert_eq!(descriptor::value_at(&file, 0), Err(refusal));
+                assert_eq!(descriptor::typed_at(&file, 0), Err(refusal));
+            }
+        }
+    }
+}
+
+// ---- conversions
+
+#[test]
+fn samples_come_back() {
+    for (space, model) in [
+        (Space::Rgb, Model::Rgb),
+        (Space::Cmyk, Model::Cmyk),
+        (Space::Gray, Model::Gray),
+    ] {
+        for sample in 0..=u16::MAX {
+            let channel = to_channel(space, sample).unwrap();
+            assert_eq!(to_sample(model, channel), Ok(sample));
+        }
+    }
+    assert_eq!(to_sample(Model::Rgb, 0.5), Ok(32768));
+    assert_eq!(to_sample(Model::Cmyk, 0.5), Ok(32767));
+    assert_eq!(to_channel(Space::Hsb, 0), Err(refusal(14, 0)));
+    assert_eq!(to_sample(Model::Lab, 2.0), Err(refusal(14, 0)));
+    assert_eq!(to_sample(Model::Gray, 2.0), Err(refusal(5, 0)));
+}
+
+// ---- names and refusals
+
+#[test]
+fn units_are_shown_as_text() {
+    let text = "Grün \u{1F3A8}";
+    let bytes = Units::encode(text);
+    let units = Units::new(&bytes);
+    assert_eq!(units.to_string(), text);
+    assert_eq!(units.len(), 7);
+    let unpaired = [0xDC, 0x00, 0xD8, 0x3C, 0x00, 0x41, 0xD8];
+    let unpaired = Units::new(&unpaired);
+    assert_eq!(unpaired.to_string(), "\u{FFFD}\u{FFFD}A");
+    assert_eq!(unpaired.iter().collect::<Vec<_>>(), [0xDC00, 0xD83C, 0x41]);
+}
+
+#[test]
+fn sentences_are_those_of_the_rules() {
+    let rules = Path::new(env!("CARGO_MANIFEST_DIR")).join("../../docs/RULES.md");
+    let rules = fs::read_to_string(rules).expect("the rules are there");
+    for number in 0..15 {
+        let sentence = refusal(number, 0).sentence();
+        let line = format!("| {number} | {sentence} |\n");
+        assert!(rules.contains(&line), "the rules have no line {line}");
+    }
+}
