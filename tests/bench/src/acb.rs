@@ -1,86 +1,51 @@
-//! Times reading and writing ACB at several sizes.
+//! Times judging, reading and writing ACB at several sizes.
 
-use crate::timing::{alternate, Times};
-use crate::{LONG_NAME, SEED, SHORT_NAME};
+use crate::report::{Report, SIZES};
+use crate::size::{Frame, Size};
+use crate::timing::{alternate, alternate_judges, Times};
+use crate::{NAMES, SEED};
 use generate::acb::{Book, Lot};
 use generate::Random;
 use proved::acb::Header;
 use reference::acb::{self, BARE_HEAD_LEN, MAX_COLOURS, ROW_LEN};
 use std::hint::black_box;
 
-const MIB: usize = 1 << 20;
-/// The last one is the limit; a file is as near below as whole colours get.
-const SIZES: [usize; 3] = [MIB, 4 * MIB, 16 * MIB];
-/// What a Lab colour has besides its name's units.
-const UNNAMED_LEN: usize = 13;
+const FRAME: Frame = Frame {
+    head: BARE_HEAD_LEN,
+    // A Lab colour.
+    unnamed: 13,
+    most_colours: MAX_COLOURS,
+};
 
-const KINDS: [(&str, usize); 2] = [("short names", SHORT_NAME), ("long names", LONG_NAME)];
-
-/// A book's colours, and the units of each of their names.
-#[derive(Clone, Copy)]
-struct Size {
-    colours: usize,
-    units: usize,
-}
-
-impl Size {
-    /// Names of so many units, or longer ones where more colours would be
-    /// needed than a book may have.
-    fn within(len: usize, units: usize) -> Self {
-        let room = len - BARE_HEAD_LEN;
-        let colours = (room / (UNNAMED_LEN + 2 * units)).min(MAX_COLOURS);
-        Size {
-            colours,
-            units: (room / colours - UNNAMED_LEN) / 2,
-        }
-    }
-}
-
-/// Linear is where the time a byte stays about the same.
-pub fn compare(rounds: usize) {
-    println!("\nACB, Lab colours; ratio: library to reference, in time");
+pub fn compare(report: &mut Report, rounds: usize) {
+    println!("\nACB, Lab colours");
     println!("a book has {MAX_COLOURS} colours at most: short names are longer where it is full");
-    println!(
-        "{:6} {:12} {:>9} {:>8} {:>6} {:>12} {:>12} {:>15} {:>15} {:>7}",
-        "call",
-        "book",
-        "bytes",
-        "colours",
-        "units",
-        "library ns",
-        "reference ns",
-        "library ns/B",
-        "reference ns/B",
-        "ratio"
-    );
-    for (title, units) in KINDS {
-        let sizes = SIZES.map(|len| Size::within(len, units));
-        for size in sizes {
-            print_times("read", title, size, &time_read(size, rounds));
-        }
-        for size in sizes {
-            print_times("write", title, size, &time_write(size, rounds));
-        }
+    let mut table = report.table("ACB", "colours");
+    for (shape, units) in NAMES {
+        let sizes = SIZES.map(|len| FRAME.within(len, units));
+        let colours = sizes.map(|size| size.colours);
+        let mut add = |call, time: fn(Size, usize) -> Times| {
+            table.add(call, shape, colours, sizes.map(|size| time(size, rounds)));
+        };
+        add("judge", time_judge);
+        add("read", time_read);
+        add("write", time_write);
     }
 }
 
-fn print_times(call: &str, title: &str, size: Size, times: &Times) {
-    let bytes = times.bytes as f64;
-    println!(
-        "{call:6} {title:12} {:>9} {:>8} {:>6} {:>12.0} {:>12.0} {:>15.4} {:>15.4} {:>7.2}",
-        times.bytes,
-        size.colours,
-        size.units,
-        times.library,
-        times.reference,
-        times.library / bytes,
-        times.reference / bytes,
-        times.ratio()
-    );
+fn file(size: Size) -> Vec<u8> {
+    Book::uniform(&mut Random::new(SEED), size.colours, size.units).file()
+}
+
+fn time_judge(size: Size, rounds: usize) -> Times {
+    let file = file(size);
+    assert_eq!(proved::acb::judge(&file).number, 0);
+    assert!(acb::judge(&file).is_ok());
+    alternate_judges(&file, rounds, proved::acb::judge, acb::judge)
 }
 
 fn time_read(size: Size, rounds: usize) -> Times {
-    let file = Book::uniform(&mut Random::new(SEED), size.colours, size.units).file();
+    let file = file(size);
     let mut library_table = vec![1; size.colours * ROW_LEN];
     let mut reference_table = library_table.clone();
     assert_eq!(proved::acb::read(&file, &mut library_table).number, 0);

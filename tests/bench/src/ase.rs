@@ -1,69 +1,53 @@
-//! Times reading and writing ASE at several sizes.
+//! Times judging, reading and writing ASE at several sizes.
 
-use crate::timing::{alternate, Times};
-use crate::{LONG_NAME, SEED, SHORT_NAME};
+use crate::report::{Report, SIZES};
+use crate::size::{Frame, Size};
+use crate::timing::{alternate, alternate_judges, Times};
+use crate::{NAMES, SEED};
 use generate::ase::{Lot, Palette};
 use generate::Random;
-use reference::ase::{HEAD_LEN, ROW_LEN};
+use reference::ase::{self, HEAD_LEN, ROW_LEN};
 use std::hint::black_box;
 
-const MIB: usize = 1 << 20;
-/// The last one is the limit; a file is as near below as whole blocks get.
-const SIZES: [usize; 3] = [MIB, 4 * MIB, 16 * MIB];
-/// What an RGB colour's block has besides its name's units.
-const UNNAMED_LEN: usize = 28;
+const FRAME: Frame = Frame {
+    head: HEAD_LEN,
+    // An RGB colour's block.
+    unnamed: 28,
+    most_colours: usize::MAX,
+};
 
-const KINDS: [(&str, usize); 2] = [("short names", SHORT_NAME), ("long names", LONG_NAME)];
-
-/// Linear is where the time a byte stays about the same.
-pub fn compare(rounds: usize) {
-    println!("\nASE, RGB colours; ratio: library to reference, in time");
-    println!(
-        "{:6} {:12} {:>9} {:>8} {:>12} {:>12} {:>15} {:>15} {:>7}",
-        "call",
-        "palette",
-        "bytes",
-        "colours",
-        "library ns",
-        "reference ns",
-        "library ns/B",
-        "reference ns/B",
-        "ratio"
-    );
-    for (title, units) in KINDS {
-        let colours = SIZES.map(|size| colours_within(size, units));
-        for colours in colours {
-            print_times("read", title, colours, &time_read(colours, units, rounds));
-        }
-        for colours in colours {
-            print_times("write", title, colours, &time_write(colours, units, rounds));
-        }
+pub fn compare(report: &mut Report, rounds: usize) {
+    println!("\nASE, RGB colours");
+    let mut table = report.table("ASE", "colours");
+    for (shape, units) in NAMES {
+        let sizes = SIZES.map(|len| FRAME.within(len, units));
+        let colours = sizes.map(|size| size.colours);
+        let mut add = |call, time: fn(Size, usize) -> Times| {
+            table.add(call, shape, colours, sizes.map(|size| time(size, rounds)));
+        };
+        add("judge", time_judge);
+        add("read", time_read);
+        add("write", time_write);
     }
 }
 
-fn colours_within(size: usize, units: usize) -> usize {
-    (size - HEAD_LEN) / (UNNAMED_LEN + 2 * units)
+fn file(size: Size) -> Vec<u8> {
+    Palette::uniform(&mut Random::new(SEED), size.colours, size.units).file()
 }
 
-fn print_times(call: &str, title: &str, colours: usize, times: &Times) {
-    let bytes = times.bytes as f64;
-    println!(
-        "{call:6} {title:12} {:>9} {colours:>8} {:>12.0} {:>12.0} {:>15.4} {:>15.4} {:>7.2}",
-        times.bytes,
-        times.library,
-        times.reference,
-        times.library / bytes,
-        times.reference / bytes,
-        times.ratio()
-    );
+fn time_judge(size: Size, rounds: usize) -> Times {
+    let file = file(size);
+    assert_eq!(proved::ase::judge(&file).number, 0);
+    assert!(ase::judge(&file).is_ok());
+    alternate_judges(&file, rounds, proved::ase::judge, ase::judge)
 }
 
-fn time_read(colours: usize, units: usize, rounds: usize) -> Times {
-    let file = Palette::uniform(&mut Random::new(SEED), colours, units).file();
-    let mut library_table = vec![1; colours * ROW_LEN];
+fn time_read(size: Size, rounds: usize) -> Times {
+    let file = file(size);
+    let mut library_table = vec![1; size.colours * ROW_LEN];
     let mut reference_table = library_table.clone();
     assert_eq!(proved::ase::read(&file, &mut library_table).number, 0);
-    assert!(reference::ase::read(&file, &mut reference_table).is_ok());
+    assert!(ase::read(&file, &mut reference_table).is_ok());
     assert_eq!(library_table, reference_table);
     alternate(
         file.len(),
@@ -74,19 +58,20 @@ fn time_read(colours: usize, units: usize, rounds: usize) -> Times {
         },
         || {
             let table = black_box(&mut reference_table);
-            let _ = black_box(reference::ase::read(black_box(&file), table));
+            let _ = black_box(ase::read(black_box(&file), table));
         },
     )
 }
 
-fn time_write(colours: usize, units: usize, rounds: usize) -> Times {
-    let Lot { records, text } = Lot::uniform(&mut Random::new(SEED), colours, units);
-    let need = reference::ase::length(&records, &text).expect("a made-up lot is sound");
+fn time_write(size: Size, rounds: usize) -> Times {
+    let lot = Lot::uniform(&mut Random::new(SEED), size.colours, size.units);
+    let Lot { records, text } = lot;
+    let need = ase::length(&records, &text).expect("a made-up lot is sound");
     let mut library_out = vec![1; need];
     let mut reference_out = library_out.clone();
     let written = proved::ase::write(&records, &text, &mut library_out);
     assert_eq!(written.number, 0);
-    assert!(reference::ase::write(&records, &text, &mut reference_out).is_ok());
+    assert!(ase::write(&records, &text, &mut reference_out).is_ok());
     assert_eq!(library_out, reference_out);
     alternate(
         need,
@@ -99,7 +84,7 @@ fn time_write(colours: usize, units: usize, rounds: usize) -> Times {
         || {
             let (records, text) = black_box((&records, &text));
             let out = black_box(&mut reference_out);
-            let _ = black_box(reference::ase::write(records, text, out));
+            let _ = black_box(ase::write(records, text, out));
         },
     )
 }

@@ -1,6 +1,7 @@
 //! Times the conversions, a buffer of elements at a time.
 
 use crate::plain::{self, called};
+use crate::report::Report;
 use crate::timing::by_turns;
 use crate::SEED;
 use generate::{Random, ONE, PAIRS};
@@ -36,20 +37,19 @@ impl<'a, To> Way<'a, To> {
     }
 }
 
-pub fn compare(rounds: usize) {
+pub fn compare(report: &mut Report, rounds: usize) {
     println!("\nconversions of RGB, {ELEMENTS} elements in a buffer, each by a call or inlined");
     println!("ratio: library to the other, in time; differ: elements that come out otherwise");
     let samples: Vec<u16> = (0..=u16::MAX).collect();
-    print_times("every sample to its channel", &there(&samples), rounds);
+    let title = "every sample to its channel";
+    report.add_conversion(title, print_times(title, &there(&samples), rounds));
     let random = &mut Random::new(SEED);
     let values = patterns(|| (random.below(EVEN_VALUES + 1) as f32 / EVEN_VALUES as f32).to_bits());
-    print_times(
-        "channels to samples, evenly by value",
-        &back(&values),
-        rounds,
-    );
+    let title = "channels to samples, evenly by value";
+    report.add_conversion(title, print_times(title, &back(&values), rounds));
     let bits = patterns(|| random.below(ONE as usize + 1) as u32);
-    print_times("channels to samples, evenly by bits", &back(&bits), rounds);
+    let title = "channels to samples, evenly by bits";
+    report.add_conversion(title, print_times(title, &back(&bits), rounds));
 }
 
 /// Bit patterns of channels from 0 to 1, in no order.
@@ -127,8 +127,13 @@ fn reference_sample(model: u32, bits: u32) -> Result<u16, u32> {
     reference::to_sample(model, bits)
 }
 
-/// The library is the first of the ways.
-fn print_times<To: Copy + Default + PartialEq>(title: &str, ways: &[Way<To>], rounds: usize) {
+/// The library is the first of the ways and the reference the second, whose
+/// ratio is given back.
+fn print_times<To: Copy + Default + PartialEq>(
+    title: &str,
+    ways: &[Way<To>],
+    rounds: usize,
+) -> f64 {
     let mut outputs: Vec<Vec<To>> = ways.iter().map(|_| vec![To::default(); ELEMENTS]).collect();
     let pairs = ways.iter().zip(&mut outputs);
     let mut calls: Vec<Box<dyn FnMut() + '_>> = pairs
@@ -153,4 +158,5 @@ fn print_times<To: Copy + Default + PartialEq>(title: &str, ways: &[Way<To>], ro
             best[0] / nanoseconds
         );
     }
+    best[0] / best[1]
 }

@@ -1,15 +1,12 @@
 //! Times reading descriptors at several sizes and of several shapes.
 
-use crate::timing::{alternate, Times};
+use crate::report::{Report, SIZES};
+use crate::timing::{alternate, alternate_judges, Times};
 use crate::SEED;
 use generate::descriptor::{deep, flat, wide, Long};
 use generate::Random;
 use reference::descriptor::{self, ROW_LEN};
 use std::hint::black_box;
-
-const MIB: usize = 1 << 20;
-/// The last one is the limit.
-const SIZES: [usize; 3] = [MIB, 4 * MIB, 16 * MIB];
 
 type Shape = fn(usize) -> Long;
 
@@ -19,58 +16,31 @@ const SHAPES: [(&str, Shape); 3] = [
     ("deep", deep),
 ];
 
-/// Linear is where the time a byte stays about the same.
-pub fn compare(rounds: usize) {
-    println!("\ndescriptors; ratio: library to reference, in time");
+pub fn compare(report: &mut Report, rounds: usize) {
+    println!("\ndescriptors");
     println!("flat: a list of booleans; wide: pairs of every type; deep: lists 31 in each other");
-    println!(
-        "{:6} {:6} {:>9} {:>8} {:>12} {:>12} {:>15} {:>15} {:>7}",
-        "call",
-        "shape",
-        "bytes",
-        "rows",
-        "library ns",
-        "reference ns",
-        "library ns/B",
-        "reference ns/B",
-        "ratio"
-    );
-    for (title, shape) in SHAPES {
-        for size in SIZES {
-            let long = shape(size);
-            print_times("judge", title, long.rows, &time_judge(&long, rounds));
-            print_times("read", title, long.rows, &time_read(&long, rounds));
-        }
+    let mut table = report.table("descriptors", "rows");
+    for (shape, make) in SHAPES {
+        let files = SIZES.map(make);
+        let rows = files.each_ref().map(|long| long.rows);
+        let mut add = |call, time: fn(&Long, usize) -> Times| {
+            table.add(
+                call,
+                shape,
+                rows,
+                files.each_ref().map(|long| time(long, rounds)),
+            );
+        };
+        add("judge", time_judge);
+        add("read", time_read);
     }
-}
-
-fn print_times(call: &str, title: &str, rows: usize, times: &Times) {
-    let bytes = times.bytes as f64;
-    println!(
-        "{call:6} {title:6} {:>9} {rows:>8} {:>12.0} {:>12.0} {:>15.4} {:>15.4} {:>7.2}",
-        times.bytes,
-        times.library,
-        times.reference,
-        times.library / bytes,
-        times.reference / bytes,
-        times.ratio()
-    );
 }
 
 fn time_judge(long: &Long, rounds: usize) -> Times {
     let file = &long.file;
     assert_eq!(proved::descriptor::judge(file).rows, long.rows);
     assert_eq!(descriptor::judge(file), Ok(long.rows));
-    alternate(
-        file.len(),
-        rounds,
-        || {
-            black_box(proved::descriptor::judge(black_box(file)));
-        },
-        || {
-            let _ = black_box(descriptor::judge(black_box(file)));
-        },
-    )
+    alternate_judges(file, rounds, proved::descriptor::judge, descriptor::judge)
 }
 
 fn time_read(long: &Long, rounds: usize) -> Times {

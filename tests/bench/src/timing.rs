@@ -1,5 +1,6 @@
 //! Timing several ways to do the same, by turns.
 
+use std::hint::black_box;
 use std::time::{Duration, Instant};
 
 /// A batch of calls takes about this long, far above the clock's resolution.
@@ -15,6 +16,14 @@ pub struct Times {
 impl Times {
     pub fn ratio(&self) -> f64 {
         self.library / self.reference
+    }
+
+    pub fn library_a_byte(&self) -> f64 {
+        self.library / self.bytes as f64
+    }
+
+    pub fn reference_a_byte(&self) -> f64 {
+        self.reference / self.bytes as f64
     }
 
     pub fn megabytes_a_second(&self, nanoseconds: f64) -> f64 {
@@ -35,6 +44,25 @@ pub fn alternate(
         library: best[0],
         reference: best[1],
     }
+}
+
+/// Judging a file, which fills nothing.
+pub fn alternate_judges<A, B>(
+    file: &[u8],
+    rounds: usize,
+    library: impl Fn(&[u8]) -> A,
+    reference: impl Fn(&[u8]) -> B,
+) -> Times {
+    alternate(
+        file.len(),
+        rounds,
+        || {
+            black_box(library(black_box(file)));
+        },
+        || {
+            black_box(reference(black_box(file)));
+        },
+    )
 }
 
 /// The best of `rounds` batches of each way, in nanoseconds a call. The ways

@@ -64,10 +64,10 @@ impl Campaign {
             agree(
                 || format!("judge of {}", fixed.title),
                 &wanted,
-                &proved::judge(fixed.file),
+                &proved::judge(&fixed.file),
             )
-            .map_err(|difference| difference.given("file", hex(fixed.file)))?;
-            check_file(fixed.file, &mut random, &mut self.tally)?;
+            .map_err(|difference| difference.given("file", hex(&fixed.file)))?;
+            check_file(&fixed.file, &mut random, &mut self.tally)?;
         }
         Ok(())
     }

@@ -18,10 +18,7 @@ pub fn run(program: &Path, seed: u64, files: u64) -> Checked<usize> {
 }
 
 fn inputs(seed: u64, files: u64) -> Vec<Vec<u8>> {
-    let mut inputs: Vec<Vec<u8>> = fixed_files()
-        .iter()
-        .map(|fixed| fixed.file.to_vec())
-        .collect();
+    let mut inputs: Vec<Vec<u8>> = fixed_files().into_iter().map(|fixed| fixed.file).collect();
     let mut random = Random::new(seed);
     inputs.extend(inputs_about_the_limit(&mut random));
     inputs.push(Palette::plain(&mut random, MAX_COLOURS).file());

@@ -15,10 +15,10 @@ pub enum Answer {
     },
 }
 
-#[derive(Clone, Copy, Debug)]
+#[derive(Clone, Debug)]
 pub struct Fixed {
     pub title: &'static str,
-    pub file: &'static [u8],
+    pub file: Vec<u8>,
     pub answer: Answer,
 }
 
@@ -151,6 +151,27 @@ const HUGE_NAME: &[u8] = &[
     0xFF, 0xFF, 0xFF, 0xFF, 0x00, 0x41, 0x00, 0x00,
 ];
 
+/// A colour of each space. Their names: a letter, none, two letters, a surrogate
+/// pair, and units that hold a zero byte or are the last there is.
+const EVERY_SPACE: &[u8] = b"\0\x01\0\x05\
+    \0\0\xFF\xFF\0\0\x80\x80\0\0\
+    \0\x01\x55\x55\xFF\xFF\x80\0\0\0\
+    \0\x02\0\0\x12\x34\xFF\xFE\xFF\xFF\
+    \0\x07\x27\x10\xD8\xF0\x27\x10\0\0\
+    \0\x08\x27\x10\0\0\0\0\0\0\
+    \0\x02\0\x05\
+    \0\0\xFF\xFF\0\0\x80\x80\0\0\0\0\0\x02\0A\0\0\
+    \0\x01\x55\x55\xFF\xFF\x80\0\0\0\0\0\0\x01\0\0\
+    \0\x02\0\0\x12\x34\xFF\xFE\xFF\xFF\0\0\0\x03\0B\0c\0\0\
+    \0\x07\x27\x10\xD8\xF0\x27\x10\0\0\0\0\0\x03\xD8\x3D\xDE\0\0\0\
+    \0\x08\x27\x10\0\0\0\0\0\0\0\0\0\x04\0\x01\x01\0\xFF\xFF\0\0";
+
+/// Its list 1 alone.
+const EVERY_SPACE_PLAIN: &[u8] = EVERY_SPACE.split_at(54).0;
+
+/// What P3 has before the count of its name, which begins at 28.
+const UNNAMED: &[u8] = P3.split_at(28).0;
+
 const fn accepted(colours: usize, lists: usize) -> Answer {
     Answer::Accepted { colours, lists }
 }
@@ -174,11 +195,20 @@ const fn differing(place: usize, record: usize, field: usize) -> Answer {
 }
 
 pub fn fixed_files() -> Vec<Fixed> {
-    let fixed = |title, file, answer| Fixed {
+    let parts = [orders(), spaces(), names()];
+    parts.into_iter().flatten().collect()
+}
+
+fn fixed(title: &'static str, file: &[u8], answer: Answer) -> Fixed {
+    Fixed {
         title,
-        file,
+        file: file.to_vec(),
         answer,
-    };
+    }
+}
+
+/// Heads, and faults of several kinds: the first one in file order counts.
+fn orders() -> Vec<Fixed> {
     vec![
         fixed("P1", &[], refused(2, 0)),
         fixed("P2", P2, accepted(0, 1)),
@@ -242,6 +272,67 @@ pub fn fixed_files() -> Vec<Fixed> {
             "names last, differing",
             NAMES_LAST_DIFFERING,
             differing(50, 1, 1),
+        ),
+    ]
+}
+
+fn spaces() -> Vec<Fixed> {
+    let one = |bytes: &[u8; 10]| [&[0, 1, 0, 1], &bytes[..]].concat();
+    let unused = |title, bytes, place| fixed(title, &one(bytes), refused(5, place));
+    vec![
+        fixed("every space", EVERY_SPACE, accepted(5, 2)),
+        fixed("every space, one list", EVERY_SPACE_PLAIN, accepted(5, 1)),
+        fixed(
+            "unknown space",
+            &one(b"\0\x09\0\0\0\0\0\0\0\0"),
+            refused(4, 4),
+        ),
+        fixed(
+            "CMYK read backwards",
+            &one(b"\x02\0\0\0\0\0\0\0\0\0"),
+            refused(4, 4),
+        ),
+        unused("fourth sample of RGB", b"\0\0\0\0\0\0\0\0\0\x01", 12),
+        unused("fourth sample of HSB", b"\0\x01\0\0\0\0\0\0\x01\0", 12),
+        unused("fourth sample of Lab", b"\0\x07\0\0\0\0\0\0\xFF\xFF", 12),
+        unused("second sample of gray", b"\0\x08\0\0\0\x01\0\0\0\0", 8),
+        unused("third sample of gray", b"\0\x08\0\0\0\0\0\x01\0\0", 10),
+        unused("fourth sample of gray", b"\0\x08\0\0\0\0\0\0\0\x01", 12),
+    ]
+}
+
+fn names() -> Vec<Fixed> {
+    let named = |bytes: &[u8]| [UNNAMED, bytes].concat();
+    let other_space = [&P3[..18], &[0, 1], &P3[20..]].concat();
+    let mut second_differs = TWO_COLOURS.to_vec();
+    // The first sample of the second record, in list 2.
+    second_differs[48] ^= 1;
+    vec![
+        fixed("an empty name", &named(&[0, 0, 0, 1, 0, 0]), accepted(1, 2)),
+        fixed("name count 0", &named(&[0; 4]), refused(8, 28)),
+        fixed("no name count", UNNAMED, refused(2, 28)),
+        fixed("half a name count", &named(&[0, 0]), refused(2, 28)),
+        fixed("no name", &named(&[0, 0, 0, 1]), refused(2, 32)),
+        fixed(
+            "name not closed",
+            &named(&[0, 0, 0, 1, 0, 0x41]),
+            refused(8, 28),
+        ),
+        fixed(
+            "zero in a name",
+            &named(&[0, 0, 0, 3, 0, 0x41, 0, 0, 0, 0]),
+            refused(8, 28),
+        ),
+        fixed(
+            "one byte after a name",
+            &[P3, &[0]].concat(),
+            refused(6, 36),
+        ),
+        fixed("another space in list 2", &other_space, differing(18, 0, 0)),
+        fixed(
+            "second record differs",
+            &second_differs,
+            differing(48, 1, 1),
         ),
     ]
 }

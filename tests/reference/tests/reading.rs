@@ -35,7 +35,7 @@ fn answer(file: &[u8]) -> Answer {
 #[test]
 fn fixed_files_get_their_answers() {
     for fixed in fixed_files() {
-        assert_eq!(answer(fixed.file), fixed.answer, "{}", fixed.title);
+        assert_eq!(answer(&fixed.file), fixed.answer, "{}", fixed.title);
     }
 }
 

@@ -78,7 +78,7 @@ impl Campaign {
 
     fn fixed(&mut self) -> Checked {
         for fixed in fixed_files() {
-            self.both(fixed.file)?;
+            self.both(&fixed.file)?;
         }
         for fixed in generate_ase::fixed_files() {
             self.both(&fixed.file)?;

@@ -12,7 +12,7 @@ pub enum Answer {
 
 #[derive(Clone, Debug)]
 pub struct Fixed {
-    pub title: &'static str,
+    pub title: String,
     pub file: Vec<u8>,
     pub answer: Answer,
 }
@@ -107,6 +107,14 @@ pub const P10: &[u8] = b"8BCB\0\x01\0\0\0\0\0\0\0\0\0\0\0\0\0\0\0\0\0\0\
 /// Its pages with their samples; the fourth is not there.
 pub const P10_PAGES: [Option<usize>; 4] = [Some(2), Some(5), Some(6), None];
 
+/// The book that docs/LISTINGS.md lists.
+const TWO_AND_DUMMY: &[u8] = b"8BCB\0\x01\x0B\xB8\0\0\0\x01\0T\0\0\0\0\0\0\0\0\0\0\0\0\
+    \0\x03\0\x02\0\0\0\0\
+    \0\0\0\x01\0A     1\xFF\0\0\
+    \0\0\0\0\0\0\0\0\0\0\0\0\0\
+    \0\0\0\x01\0B     2\0\0\xFF\
+    spflspot";
+
 /// Where the colours begin in a file without strings, and the field before.
 const COLOURS: usize = 32;
 const SPACE: usize = 30;
@@ -136,13 +144,23 @@ fn one(space: u16, parts: &[&[u8]]) -> Vec<u8> {
 }
 
 pub fn fixed_files() -> Vec<Fixed> {
-    let parts = [heads(), strings(), numbers(), colours(), tails(), books()];
-    let fixed = |(title, file, answer)| Fixed {
-        title,
+    let parts = [
+        heads(),
+        strings(),
+        numbers(),
+        colours(),
+        tags(),
+        books(),
+        texts(),
+        pages(),
+    ];
+    let fixed = |(title, file, answer): Written| Fixed {
+        title: title.to_string(),
         file,
         answer,
     };
-    parts.into_iter().flatten().map(fixed).collect()
+    let fixed = parts.into_iter().flatten().map(fixed);
+    fixed.chain(tails()).collect()
 }
 
 type Written = (&'static str, Vec<u8>, Answer);
@@ -359,7 +377,7 @@ fn colours() -> Vec<Written> {
 }
 
 /// Tails of every length: right bytes, right bytes again, and zeros.
-fn tails() -> Vec<Written> {
+fn tails() -> Vec<Fixed> {
     let spot = [SPOT, SPOT].concat();
     let process = [PROCESS, SPOT].concat();
     let mut tails = Vec::new();
@@ -374,15 +392,20 @@ fn tails() -> Vec<Written> {
             1..=7 => refused(2, COLOURS),
             _ => refused(3, COLOURS),
         };
-        tails.push(("a tail of spot", book(0, RGB, &[&spot[..len]]), right));
-        tails.push((
-            "a tail of process",
-            book(0, CMYK, &[&process[..len]]),
-            right,
-        ));
-        tails.push(("a tail of zeros", book(0, LAB, &[&[0; 16][..len]]), wrong));
+        let tail = |of, space, tail: &[u8], answer| Fixed {
+            title: format!("a tail of {of}, {len} bytes"),
+            file: book(0, space, &[&tail[..len]]),
+            answer,
+        };
+        tails.push(tail("spot", RGB, &spot, right));
+        tails.push(tail("process", CMYK, &process, right));
+        tails.push(tail("zeros", LAB, &[0; 16], wrong));
     }
-    tails.extend([
+    tails
+}
+
+fn tags() -> Vec<Written> {
+    vec![
         (
             "a capital tag",
             book(0, RGB, &[b"spflSpot"]),
@@ -403,8 +426,7 @@ fn tails() -> Vec<Written> {
             book(0, RGB, &[b"\0spflspot"]),
             refused(3, COLOURS),
         ),
-    ]);
-    tails
+    ]
 }
 
 fn books() -> Vec<Written> {
@@ -431,9 +453,100 @@ fn books() -> Vec<Written> {
             refused(3, 0x139),
         ),
         ("ANPA with a tag", tagged, accepted(2)),
+        (
+            "two colours and a dummy, spot",
+            TWO_AND_DUMMY.to_vec(),
+            accepted(3),
+        ),
         ("P8", P8.to_vec(), accepted(1)),
         ("P9", P9.to_vec(), accepted(1)),
         ("P10", P10.to_vec(), accepted(7)),
+    ]
+}
+
+fn units(text: &str) -> Vec<u8> {
+    text.encode_utf16().flat_map(u16::to_be_bytes).collect()
+}
+
+/// Header strings with keys, nearly so, and without.
+fn texts() -> Vec<Written> {
+    let counted = |text: &str| {
+        let bytes = units(text);
+        [&(bytes.len() as u32 / 2).to_be_bytes()[..], &bytes].concat()
+    };
+    let texts = |strings: [&str; 4]| {
+        let strings = strings.map(counted).concat();
+        [b"8BCB\0\x01\x0B\xB8", &strings[..], &P8[24..]].concat()
+    };
+    let same = |text| texts([text; 4]);
+    vec![
+        (
+            "strings without a key",
+            texts(["Title", "Pre ", " Suf", "Words"]),
+            accepted(1),
+        ),
+        (
+            "strings with a key",
+            texts(["$$$/a=Title", "$$$/b=Pre ", "$$$/c= Suf", "$$$/d=Words"]),
+            accepted(1),
+        ),
+        ("a key without an equals sign", same("$$$/a"), accepted(1)),
+        ("a key and no text", same("$$$/a="), accepted(1)),
+        (
+            "a key, several equals signs",
+            same("$$$/a=b=c"),
+            accepted(1),
+        ),
+        ("a key in a text", same("$$$/a=$$$/b=c"), accepted(1)),
+        ("a key of no letters", same("$$$/=b"), accepted(1)),
+        ("an equals sign without a key", same("a=b"), accepted(1)),
+        (
+            "three dollars and an equals sign",
+            same("$$$=a"),
+            accepted(1),
+        ),
+        ("a key after a space", same(" $$$/a=b"), accepted(1)),
+    ]
+}
+
+/// Pages of two and more, with dummies on them.
+fn pages() -> Vec<Written> {
+    let colour = [&[0, 0, 0, 1, 0, 0x41], CODE, &[1, 2, 3]].concat();
+    let bare = [DUMMY, CODE, &[0, 0, 0]].concat();
+    // `x` stands for a colour, `-` for a dummy.
+    let paged = |size: u16, offset: u16, colours: &str| {
+        let numbers = [colours.len() as u16, size, offset, RGB].map(u16::to_be_bytes);
+        let records = colours.bytes().map(|sort| match sort {
+            b'-' => &bare,
+            _ => &colour,
+        });
+        let records: Vec<u8> = records.flatten().copied().collect();
+        [&P8[..24], &numbers.concat(), &records].concat()
+    };
+    vec![
+        ("pages of one", paged(1, 0, "xxx"), accepted(3)),
+        ("pages of two, one left", paged(2, 1, "xxxxx"), accepted(5)),
+        (
+            "a page larger than the book",
+            paged(9, 1, "xxx"),
+            accepted(3),
+        ),
+        (
+            "an offset past the page",
+            paged(3, 7, "xxxxxx"),
+            accepted(6),
+        ),
+        ("dummies passed over", paged(4, 1, "-x-x--xx"), accepted(8)),
+        (
+            "too few on a page for the offset",
+            paged(3, 2, "x--xxx"),
+            accepted(6),
+        ),
+        (
+            "a page of dummies between two",
+            paged(2, 0, "xx--xx"),
+            accepted(6),
+        ),
     ]
 }
 
@@ -471,7 +584,7 @@ pub fn fixed_strings() -> Vec<FixedString> {
         (b"$\0$\0$\0/\0\0=", 0),
     ];
     let of_text = |(text, start): (&str, usize)| FixedString {
-        string: text.encode_utf16().flat_map(u16::to_be_bytes).collect(),
+        string: units(text),
         start,
     };
     let of_bytes = |(bytes, start): (&[u8], usize)| FixedString {

@@ -245,6 +245,16 @@ fn group_ends() -> Vec<Written> {
             refused(13, 24),
         ),
         ("an empty group", groups(1, &[], 1, 2), accepted(2, 0)),
+        (
+            "a group and a colour in a group",
+            groups(1, &[&P6[12..], START, &P6[12..], END].concat(), 1, 6),
+            accepted(6, 2),
+        ),
+        (
+            "two groups side by side",
+            groups(1, &[&P6[12..], END, START, &P6[12..]].concat(), 1, 6),
+            accepted(6, 2),
+        ),
         ("two ends for a group", groups(1, &[], 2, 3), refused(9, 28)),
         ("a group not closed", groups(1, &[], 0, 1), refused(9, 22)),
         (

@@ -431,8 +431,12 @@ fn units() -> Vec<Fixed> {
         (b"#Pnt", false, false),
         (b"#pxl", false, false),
     ];
+    let shown = |unit: &[u8; 4]| match unit {
+        b"#pxl" => "small #pxl".to_string(),
+        _ => unit.escape_ascii().to_string(),
+    };
     let alone = known.iter().map(|&(unit, is_unit, _)| Fixed {
-        title: format!("a unit double in {}", unit.escape_ascii()),
+        title: format!("a unit double in {}", shown(unit)),
         file: item(&[b"UntF", unit, HALF]),
         answer: if is_unit {
             accepted(2)
@@ -441,7 +445,7 @@ fn units() -> Vec<Fixed> {
         },
     });
     let in_arrays = known.iter().map(|&(unit, _, is_unit)| Fixed {
-        title: format!("an object array in {}", unit.escape_ascii()),
+        title: format!("an object array in {}", shown(unit)),
         file: array(ONE, &[ID, b"UnFl", unit, ONE, HALF]),
         answer: if is_unit { accepted(3) } else { refused(4, 52) },
     });
@@ -535,38 +539,66 @@ fn references() -> Vec<Written> {
             one(&[b"prop", ONE, b"\0A"]),
             refused(8, 34),
         ),
-        ("a class", one(&[b"Clss", CLASS]), accepted(3)),
         (
-            "a class, then a number",
+            "a reference to a class",
+            one(&[b"Clss", CLASS]),
+            accepted(3),
+        ),
+        (
+            "a reference to a class, then a number",
             one(&[b"Clss", CLASS, NONE]),
             refused(6, 43),
         ),
         (
-            "an enumerated cut",
+            "a reference to an enumerated, cut",
             one(&[b"Enmr", CLASS, ID]),
             refused(2, 48),
         ),
-        ("an enumerated", one(&[b"Enmr", CLASS, ID, ID]), accepted(3)),
         (
-            "an identifier cut",
+            "a reference to an enumerated",
+            one(&[b"Enmr", CLASS, ID, ID]),
+            accepted(3),
+        ),
+        (
+            "a reference by identifier, cut",
             one(&[b"Idnt", CLASS, &[0; 3]]),
             refused(2, 43),
         ),
-        ("an identifier", one(&[b"Idnt", CLASS, ALL]), accepted(3)),
-        ("an index", one(&[b"indx", CLASS, ALL]), accepted(3)),
-        ("an offset", one(&[b"rele", CLASS, ALL]), accepted(3)),
-        ("a name", one(&[b"name", CLASS, NONE]), accepted(3)),
         (
-            "a name not closed",
+            "a reference by identifier",
+            one(&[b"Idnt", CLASS, ALL]),
+            accepted(3),
+        ),
+        (
+            "a reference by index",
+            one(&[b"indx", CLASS, ALL]),
+            accepted(3),
+        ),
+        (
+            "a reference by offset",
+            one(&[b"rele", CLASS, ALL]),
+            accepted(3),
+        ),
+        (
+            "a reference by name",
+            one(&[b"name", CLASS, NONE]),
+            accepted(3),
+        ),
+        (
+            "a reference by name, not closed",
             one(&[b"name", CLASS, ONE, b"\0A"]),
             refused(8, 43),
         ),
         (
-            "a property cut",
+            "a reference to a property, cut",
             one(&[b"prop", CLASS, ONE]),
             refused(2, 47),
         ),
-        ("a property", one(&[b"prop", CLASS, ID]), accepted(3)),
+        (
+            "a reference to a property",
+            one(&[b"prop", CLASS, ID]),
+            accepted(3),
+        ),
     ]
 }
 
@@ -580,19 +612,35 @@ fn arrays() -> Vec<Written> {
     let two: &[u8] = &[0, 0, 0, 2];
     let bare = |objects: &[u8]| item(&[b"ObAr", objects, CLASS, NONE]);
     vec![
-        ("no objects", item(&[b"ObAr"]), refused(2, VALUE)),
-        ("no class", item(&[b"ObAr", ONE]), refused(2, 30)),
+        ("no array", item(&[b"ObAr"]), refused(2, VALUE)),
         (
-            "no pair count",
+            "an array without a class",
+            item(&[b"ObAr", ONE]),
+            refused(2, 30),
+        ),
+        (
+            "an array without a pair count",
             item(&[b"ObAr", ONE, CLASS]),
             refused(2, 39),
         ),
-        ("no objects, no pairs", bare(NONE), accepted(2)),
-        ("all objects, no pairs", bare(ALL), accepted(2)),
-        ("a missing pair", array(ONE, &[]), refused(2, 43)),
-        ("a key alone", array(ONE, &[ID]), refused(2, 48)),
         (
-            "an item for a pair",
+            "an array of no objects and no pairs",
+            bare(NONE),
+            accepted(2),
+        ),
+        (
+            "an array of all objects and no pairs",
+            bare(ALL),
+            accepted(2),
+        ),
+        (
+            "an array of a missing pair",
+            array(ONE, &[]),
+            refused(2, 43),
+        ),
+        ("an array of a key alone", array(ONE, &[ID]), refused(2, 48)),
+        (
+            "an array of an item for a pair",
             array(ONE, &[ID, b"UntF#Pxl", HALF]),
             refused(4, 48),
         ),
@@ -623,7 +671,7 @@ fn arrays() -> Vec<Written> {
             refused(2, 60),
         ),
         (
-            "no doubles",
+            "an array of no doubles",
             array(NONE, &[ID, b"UnFl#Pxl", NONE]),
             accepted(3),
         ),
@@ -643,7 +691,7 @@ fn arrays() -> Vec<Written> {
             refused(5, 68),
         ),
         (
-            "two doubles",
+            "an array of two doubles",
             array(two, &[ID, b"UnFl#Pxl", two, HALF, MINUS_ZERO]),
             accepted(3),
         ),
