@@ -55,6 +55,41 @@ fn fourth_at(file: &[u8], code: usize, n: usize) -> u32
     0
 }
 
+// Stores the twelve numbers of a row. The stores stand by themselves, so that their proof knows of
+// nothing else.
+fn put_numbers(
+    table: &mut [u32],
+    to: usize,
+    place: u32,
+    units: u32,
+    a: u32,
+    b: u32,
+    c: u32,
+    d: u32,
+    e: u32,
+    f: u32,
+    g: u32,
+    h: u32,
+    k: u32,
+    l: u32,
+)
+    requires { ⌜ to + 12 ≤ length (now table) ⌝ }
+    ensures { λ _. ⌜ now (table .exit) ≡ sets (now (table .entry)) to (place ∷ units ∷ a ∷ b ∷ c ∷ d ∷ e ∷ f ∷ g ∷ h ∷ k ∷ l ∷ []) ⌝ }
+{
+    table[to] = place;
+    table[to + 1] = units;
+    table[to + 2] = a;
+    table[to + 3] = b;
+    table[to + 4] = c;
+    table[to + 5] = d;
+    table[to + 6] = e;
+    table[to + 7] = f;
+    table[to + 8] = g;
+    table[to + 9] = h;
+    table[to + 10] = k;
+    table[to + 11] = l;
+}
+
 // Stores the numbers of the record of n components at `at`: all is loaded and only then stored,
 // which compilers join.
 fn put_row(file: &[u8], at: usize, n: usize, table: &mut [u32], to: usize)
@@ -73,18 +108,22 @@ fn put_row(file: &[u8], at: usize, n: usize, table: &mut [u32], to: usize)
     let h = wide(file[code + 7]);
     let k = wide(file[code + 8]);
     let l = fourth_at(file, code, n);
-    table[to] = (at + 4) as u32;
-    table[to + 1] = units;
-    table[to + 2] = a;
-    table[to + 3] = b;
-    table[to + 4] = c;
-    table[to + 5] = d;
-    table[to + 6] = e;
-    table[to + 7] = f;
-    table[to + 8] = g;
-    table[to + 9] = h;
-    table[to + 10] = k;
-    table[to + 11] = l;
+    put_numbers(
+        table,
+        to,
+        (at + 4) as u32,
+        units,
+        a,
+        b,
+        c,
+        d,
+        e,
+        f,
+        g,
+        h,
+        k,
+        l,
+    );
 }
 
 // Stores the records of an accepted file.
