@@ -181,13 +181,7 @@ pub fn shown_component(space: u16, position: usize, byte: u8) -> i32 {
 }
 
 /// A page of `count` records that were read into `table`.
-pub fn page_in(
-    table: &[u32],
-    count: usize,
-    page_size: u16,
-    page_offset: u16,
-    page: usize,
-) -> Page {
+pub fn page_in(table: &[u32], count: usize, page_size: u16, page_offset: u16, page: usize) -> Page {
     // SAFETY: see above.
     unsafe {
         khuyurek_acb_page_in(
