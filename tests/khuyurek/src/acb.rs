@@ -64,6 +64,8 @@ pub struct Book<'a> {
     file: &'a [u8],
     lies: raw::Header,
     header: Header<'a>,
+    /// The shown texts of prefix and suffix, looked for once.
+    around: [Units<'a>; 2],
     table: Vec<u32>,
 }
 
@@ -82,6 +84,7 @@ pub fn read(file: &[u8]) -> Result<Book<'_>, Refusal> {
         file,
         lies: answer.header,
         header,
+        around: [header.prefix, header.suffix].map(shown_text),
         table,
     })
 }
@@ -227,9 +230,10 @@ impl<'a> Book<'a> {
     /// A record's full name, as [`full_name`] gives it, without judging the file
     /// again.
     pub fn full_name(&self, swatch: &Swatch<'_>) -> Vec<u8> {
-        let (prefix, suffix) = (self.header.prefix, self.header.suffix);
-        let parts = [shown_text(prefix), swatch.name, shown_text(suffix)];
-        parts.map(|part| part.bytes()).concat()
+        let [prefix, suffix] = self.around;
+        [prefix, swatch.name, suffix]
+            .map(|part| part.bytes())
+            .concat()
     }
 
     /// The number of the record that a page shows, without judging the file

@@ -175,8 +175,9 @@ pub fn page(file: &[u8], page: usize) -> Page {
     unsafe { khuyurek_acb_page_at(file.as_ptr(), file.len(), page) }
 }
 
+#[inline]
 pub fn shown_component(space: u16, position: usize, byte: u8) -> i32 {
-    // SAFETY: any numbers are taken.
+    // SAFETY: numbers are all that is handed over.
     unsafe { khuyurek_acb_shown_component(space, position, byte) }
 }
 

@@ -8,7 +8,7 @@ use crate::lent::Lent;
 use generate::Random;
 use proved::acb::{Answer, Header, Page, Text};
 use reference::acb::ROW_LEN;
-use reference::UNIT_LEN;
+use reference::{number, UNIT_LEN};
 
 /// Rows lent with a file that is refused.
 const SPARE_ROWS: usize = 6;
@@ -40,12 +40,11 @@ fn check_calls(file: &[u8], random: &mut Random, tally: &mut Tally) -> Checked {
     let mut records = vec![0; judged.count * ROW_LEN];
     proved::acb::read(file, &mut records);
     let pages = pages(&judged);
-    let every = if pages.saturating_mul(file.len()) <= PAGED_BYTES {
-        0..pages
-    } else {
-        0..0
-    };
-    for page in every.chain(numbers(pages, random)) {
+    let mut asked = numbers(pages, random);
+    if pages > FEW_COLOURS && pages * file.len() <= PAGED_BYTES {
+        asked.extend(0..pages);
+    }
+    for page in asked {
         check_page(file, &judged, &records, page, tally)?;
     }
     if judged.number == 0 {
@@ -202,13 +201,20 @@ fn page_in(records: &[u32], count: usize, judged: &Answer, page: usize) -> Page 
 
 /// Pages by the first records alone of an accepted file, which are those of
 /// another file: by a count below theirs, and by a table that ends before the
-/// next record does.
+/// next record does. A page of the size 0 shows none.
 pub fn check_pages_cut(file: &[u8], first: &[u8]) -> Checked {
     let judged = check_judge(file)?;
     let mut records = vec![0; judged.count * ROW_LEN];
     proved::acb::read(file, &mut records);
     let count = check_judge(first)?.count;
+    let none = Page {
+        number: number::NO_PAGE,
+        ..Page::default()
+    };
     for page in 0..=judged.count {
+        let offset = judged.header.page_offset;
+        let found = proved::acb::page_in(&records, judged.count, 0, offset, page);
+        agree(|| format!("page {page} of no records"), &none, &found)?;
         let wanted = expected::page(reference::acb::page(first, page));
         let found = page_in(&records, count, &judged, page);
         agree(
