@@ -252,6 +252,18 @@ khuyurek_acb_full khuyurek_acb_full_name(const uint8_t *file, size_t file_len,
 /* Judges the whole file, then 12 where the page shows no record. */
 khuyurek_acb_page khuyurek_acb_page_at(const uint8_t *file, size_t file_len, size_t page);
 
+/* This and the next are for listing a whole book that khuyurek_acb_read has read: neither
+ * looks at the file. What the byte of a component shows, by the header's space and the
+ * component's position in its record, from 0. */
+int32_t khuyurek_acb_shown_component(uint16_t space, size_t position, uint8_t byte);
+
+/* As khuyurek_acb_page_at, by the table and by the count, page size and page offset that
+ * reading answered: 12 where the page shows no record. Records that the table does not
+ * hold whole are not there. */
+khuyurek_acb_page khuyurek_acb_page_in(const uint32_t *table, size_t table_len, size_t count,
+                                       uint16_t page_size, uint16_t page_offset,
+                                       size_t page);
+
 /* The exact length that writing needs: 3 for an unknown tag, before all else. A remainder
  * of fewer than KHUYUREK_ACB_WIDTH numbers is left alone. */
 khuyurek_acb_written khuyurek_acb_length(khuyurek_acb_header header,

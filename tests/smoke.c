@@ -151,6 +151,11 @@ static int acb(void) {
     khuyurek_acb_page page = khuyurek_acb_page_at(BOOK, sizeof BOOK, 0);
     CHECK(page.number == 0 && page.record == 0);
     CHECK(khuyurek_acb_page_at(BOOK, sizeof BOOK, 1).number == 12);
+    CHECK(khuyurek_acb_shown_component(read.header.space, 1, 0x7B) == -5);
+    page = khuyurek_acb_page_in(table, KHUYUREK_ACB_WIDTH, read.count, read.header.page_size,
+                                read.header.page_offset, 0);
+    CHECK(page.number == 0 && page.record == 0);
+    CHECK(khuyurek_acb_page_in(table, KHUYUREK_ACB_WIDTH - 1, 1, 1, 0, 0).number == 12);
 
     CHECK(khuyurek_acb_length(read.header, table, KHUYUREK_ACB_WIDTH, BOOK, sizeof BOOK).length
           == sizeof BOOK);

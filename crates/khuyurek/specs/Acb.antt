@@ -11,7 +11,8 @@ use Rattle.acb.specs.Answer.{Shown, Verdict, accepted, refused}
 use Rattle.acb.specs.Parts.{Found, tagged, unknown}
 use Rattle.acb_read.specs.Answer.{Where, lies, refusal}
 use Rattle.acb_read.specs.Answer as record-of
-use Rattle.acb_show.specs.Answer.{Told, record-is, refused as noPage}
+use Rattle.acb_show.specs.Pages.{sampleOf, dummiesIn}
+use Rattle.acb_show.specs.Answer.{Told, record-is, refused as noPage, pageOf as sampled}
 use Rattle.acb_view.specs.View.{Counted, counted, refusal as refusalView}
 use Rattle.acb_write.specs.Writing.{Given, needed, written}
 use Rattle.khuyurek.specs.declared.books.AcbText.{AcbText}
@@ -103,6 +104,10 @@ fullReadOf w = (fullOf (w .0), w .1)
 abbrev pub pageOf : Told → AcbPage
 pageOf (record-is i) = record { number = 0; rec = i; place = 0 }
 pageOf (noPage x p) = record { number = x; rec = 0; place = p }
+
+-- the same of a table, as page size, page offset and page number say
+abbrev pub pageInOf : List ℕ → ℕ → ℕ → ℕ → ℕ → AcbPage
+pageInOf t count size offset p = pageOf (sampled (sampleOf size offset p (dummiesIn t count)))
 
 -- ---- writing
 

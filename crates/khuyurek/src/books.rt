@@ -4,13 +4,14 @@ ghost use Rattle.acb.specs.Reading.{acb};
 ghost use Rattle.acb.specs.Answer.{verdict, told, toldTag, toldHeader, toldKnown};
 ghost use Rattle.acb_read.specs.Table.{filled, recordAt};
 ghost use Rattle.acb_read.specs.Answer.{shown};
+ghost use Rattle.acb_show.specs.Components.{shownComponent};
 ghost use Rattle.acb_show.specs.Texts.{shownStart};
 ghost use Rattle.acb_show.specs.Answer.{toldPage};
 ghost use Rattle.acb_view.specs.View.{shownAt, pageAt, fullLength, fullNameAt};
 ghost use Rattle.acb_view.specs.Answer.{toldCount};
 ghost use Rattle.acb_write.specs.Writing.{given};
 ghost use Rattle.acb_write.specs.Answer.{told as toldWritten};
-ghost use Rattle.khuyurek.specs.Acb.{numberOf, headerOf, noHeader, answerOf, readOf, recordOf, fourOf, shownOf, fullOf, fullReadOf, pageOf, givenOf, tagOf, writtenOf, lengthOf, wroteOf};
+ghost use Rattle.khuyurek.specs.Acb.{numberOf, headerOf, noHeader, answerOf, readOf, recordOf, fourOf, shownOf, fullOf, fullReadOf, pageOf, pageInOf, givenOf, tagOf, writtenOf, lengthOf, wroteOf};
 use acb::Answer;
 use acb::Header;
 use acb::Known;
@@ -263,6 +264,14 @@ pub extern "C" fn khuyurek_acb_shown_at(file: &[u8], i: usize) -> AcbShown
     }
 }
 
+// What the byte of a component shows, by the space and its position in a record.
+#[no_mangle]
+pub extern "C" fn khuyurek_acb_shown_component(space: u16, position: usize, byte: u8) -> i32
+    ensures { λ r. ⌜ r ≡ shownComponent space position byte ⌝ }
+{
+    wide(acb_show::shown_component(space, position, byte))
+}
+
 fn exported_full(c: Count) -> AcbFull
     ensures { λ r. ⌜ r ≡ fullOf (toldCount c) ⌝ }
 {
@@ -319,6 +328,20 @@ pub extern "C" fn khuyurek_acb_page_at(file: &[u8], page: usize) -> AcbPage
     ensures { λ r. ⌜ r ≡ pageOf (pageAt page (acb (now (file .entry)))) ⌝ }
 {
     exported_page(acb_view::page_at(file, page))
+}
+
+// The record that a page shows, of the records of a table that was read.
+#[no_mangle]
+pub extern "C" fn khuyurek_acb_page_in(
+    table: &[u32],
+    count: usize,
+    size: u16,
+    offset: u16,
+    page: usize,
+) -> AcbPage
+    ensures { λ r. ⌜ r ≡ pageInOf (now (table .entry)) count size offset page ⌝ }
+{
+    exported_page(acb_show::page_in(table, count, size, offset, page))
 }
 
 // ---- writing

@@ -64,6 +64,8 @@ pub struct Book<'a> {
     file: &'a [u8],
     lies: raw::Header,
     header: Header<'a>,
+    /// The shown texts of prefix and suffix, looked for once.
+    around: [Units<'a>; 2],
     table: Vec<u32>,
 }
 
@@ -82,6 +84,7 @@ pub fn read(file: &[u8]) -> Result<Book<'_>, Refusal> {
         file,
         lies: answer.header,
         header,
+        around: [header.prefix, header.suffix].map(shown_text),
         table,
     })
 }
@@ -97,7 +100,8 @@ pub fn record_at(file: &[u8], index: usize) -> Result<Swatch<'_>, Refusal> {
     })
 }
 
-/// What the components of a record show. The whole file is judged first.
+/// What the components of a record show. The whole file is judged first; of a
+/// book that was read, [`Book::shown`] gives the same.
 pub fn shown_at(file: &[u8], index: usize) -> Result<Shown, Refusal> {
     let shown = raw::shown(file, index);
     Refusal::unless(shown.number, shown.place)?;
@@ -121,7 +125,8 @@ pub fn full_name(file: &[u8], index: usize) -> Result<Vec<u8>, Refusal> {
 }
 
 /// The number of the record that a page shows: 12 where there is no such page,
-/// or where it holds dummies alone. The whole file is judged first.
+/// or where it holds dummies alone. The whole file is judged first; of a book
+/// that was read, [`Book::sample`] gives the same.
 pub fn page_at(file: &[u8], page: usize) -> Result<usize, Refusal> {
     let page = raw::page(file, page);
     Refusal::unless(page.number, page.place)?;
@@ -209,6 +214,39 @@ impl<'a> Book<'a> {
     pub fn get(&self, index: usize) -> Option<Swatch<'a>> {
         let row = self.table.chunks_exact(WIDTH).nth(index)?;
         Some(self.swatch(row))
+    }
+
+    /// What the components of a record show, without judging the file again.
+    pub fn shown(&self, swatch: &Swatch<'_>) -> Shown {
+        let space = self.header.space;
+        let count = space.count();
+        let mut values = [0; 4];
+        for (i, value) in values.iter_mut().enumerate().take(count) {
+            *value = raw::shown_component(space.number(), i, swatch.components[i]);
+        }
+        Shown { count, values }
+    }
+
+    /// A record's full name, as [`full_name`] gives it, without judging the file
+    /// again.
+    pub fn full_name(&self, swatch: &Swatch<'_>) -> Vec<u8> {
+        let [prefix, suffix] = self.around;
+        [prefix, swatch.name, suffix]
+            .map(|part| part.bytes())
+            .concat()
+    }
+
+    /// The number of the record that a page shows, without judging the file
+    /// again: none where there is no such page, or where it holds dummies alone.
+    pub fn sample(&self, page: usize) -> Option<usize> {
+        let (size, offset) = (self.header.page_size, self.header.page_offset);
+        let page = raw::page_in(&self.table, self.len(), size, offset, page);
+        (page.number == 0).then_some(page.record)
+    }
+
+    /// The samples of all pages, in their order.
+    pub fn samples(&self) -> impl ExactSizeIterator<Item = Option<usize>> + '_ {
+        (0..self.pages()).map(|page| self.sample(page))
     }
 
     /// The table, as [`raw::write`](fn@raw::write) takes it with the file.

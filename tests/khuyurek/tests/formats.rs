@@ -247,6 +247,8 @@ fn acb_is_read_and_written() {
         for (i, swatch) in swatches.iter().enumerate() {
             assert_eq!(acb::record_at(&file, i).as_ref(), Ok(swatch));
             assert_eq!(book.get(i).as_ref(), Some(swatch));
+            assert_eq!(acb::shown_at(&file, i), Ok(book.shown(swatch)));
+            assert_eq!(acb::full_name(&file, i), Ok(book.full_name(swatch)));
         }
         let none = Err(refusal(12, 0));
         assert_eq!(acb::record_at(&file, book.len()), none);
@@ -260,7 +262,10 @@ fn acb_is_read_and_written() {
 fn acb_is_shown() {
     let shown = |space, components| {
         let file = book(space, components, ["n"; 7]).unwrap();
-        acb::shown_at(&file, 6).unwrap().values().to_vec()
+        let shown = acb::shown_at(&file, 6).unwrap();
+        let read = acb::read(&file).unwrap();
+        assert_eq!(read.shown(&read.get(6).unwrap()), shown);
+        shown.values().to_vec()
     };
     assert_eq!(shown(Space::Lab, [0xF8, 0x7B, 0x7B, 0]), [97, -5, -5]);
     assert_eq!(shown(Space::Cmyk, [0, 128, 255, 0]), [100, 50, 0, 100]);
@@ -278,13 +283,19 @@ fn acb_is_shown() {
 #[test]
 fn acb_pages_show_their_sample() {
     let file = book(Space::Rgb, [0; 4], ["n"; 7]).unwrap();
-    assert_eq!(acb::read(&file).unwrap().pages(), 3);
+    let read = acb::read(&file).unwrap();
+    assert_eq!(read.pages(), 3);
+    assert!(read.samples().eq([Some(2), Some(5), Some(6)]));
+    let samples = [2, 3, usize::MAX].map(|page| read.sample(page));
+    assert_eq!(samples, [Some(6), None, None]);
     let pages = [0, 1, 2, 3, usize::MAX].map(|page| acb::page_at(&file, page));
     let none = Err(refusal(12, 0));
     assert_eq!(pages, [Ok(2), Ok(5), Ok(6), none, none]);
     let dummies = book(Space::Rgb, [0; 4], ["", "n", "", "", "", "", "n"]).unwrap();
     let pages = [0, 1, 2].map(|page| acb::page_at(&dummies, page));
     assert_eq!(pages, [Ok(1), none, Ok(6)]);
+    let read = acb::read(&dummies).unwrap();
+    assert!(read.samples().eq([Some(1), None, Some(6)]));
 }
 
 #[test]

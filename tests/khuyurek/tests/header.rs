@@ -85,7 +85,7 @@ fn differences_are_seen() {
             "uint32_t bits, uint32_t model",
         ),
         ("const uint8_t *string", "uint8_t *string"),
-        ("khuyurek_acb_page_at", "khuyurek_acb_page_in"),
+        ("khuyurek_acb_page_at", "khuyurek_acb_page_of"),
     ] {
         assert!(text.contains(from), "the header has no {from}");
         let altered = header(&text.replacen(from, to, 1));

@@ -97,6 +97,15 @@ extern "C" {
         out_len: usize,
     ) -> Full;
     fn khuyurek_acb_page_at(file: *const u8, file_len: usize, page: usize) -> Page;
+    fn khuyurek_acb_shown_component(space: u16, position: usize, byte: u8) -> i32;
+    fn khuyurek_acb_page_in(
+        table: *const u32,
+        table_len: usize,
+        count: usize,
+        page_size: u16,
+        page_offset: u16,
+        page: usize,
+    ) -> Page;
     fn khuyurek_acb_length(
         header: Header,
         records: *const u32,
@@ -164,6 +173,27 @@ pub fn full_name(file: &[u8], index: usize, out: &mut [u8]) -> Full {
 pub fn page(file: &[u8], page: usize) -> Page {
     // SAFETY: see above.
     unsafe { khuyurek_acb_page_at(file.as_ptr(), file.len(), page) }
+}
+
+#[inline]
+pub fn shown_component(space: u16, position: usize, byte: u8) -> i32 {
+    // SAFETY: numbers are all that is handed over.
+    unsafe { khuyurek_acb_shown_component(space, position, byte) }
+}
+
+/// A page of `count` records that were read into `table`.
+pub fn page_in(table: &[u32], count: usize, page_size: u16, page_offset: u16, page: usize) -> Page {
+    // SAFETY: see above.
+    unsafe {
+        khuyurek_acb_page_in(
+            table.as_ptr(),
+            table.len(),
+            count,
+            page_size,
+            page_offset,
+            page,
+        )
+    }
 }
 
 pub fn length(header: Header, records: &[u32], text: &[u8]) -> Written {

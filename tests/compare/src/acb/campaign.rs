@@ -1,6 +1,6 @@
 //! The files, strings and records a run goes through.
 
-use super::reading::{check_briefly, check_file, check_string};
+use super::reading::{check_briefly, check_file, check_pages_cut, check_string};
 use super::tally::Tally;
 use super::writing::check_lot;
 use crate::difference::{agree, agree_runs, hex, Checked};
@@ -9,7 +9,7 @@ use generate::acb::{
     ANPA_FULL_NAME, P10, P10_PAGES, P8, P8_SHOWN, P9, P9_SHOWN,
 };
 use generate::Random;
-use reference::acb::{BARE_HEAD_LEN, MAX_COLOURS, ROW_LEN, TAG_LEN};
+use reference::acb::{BARE_HEAD_LEN, COMPONENTS, MAX_COLOURS, ROW_LEN, TAG_LEN};
 use reference::{number, LIMIT, UNIT_LEN};
 
 /// One lot of records, and one string, for so many files.
@@ -29,7 +29,10 @@ const SPACE: usize = 30;
 
 const RGB: u16 = 0;
 const CMYK: u16 = 2;
+const LAB: u16 = 7;
 const SPACES: [u16; 4] = [0, 1, 2, 7];
+/// Positions past the fourth component, too.
+const POSITIONS: usize = 5;
 /// What a colour has besides its name's units, in CMYK.
 const UNNAMED_LEN: usize = 14;
 
@@ -63,6 +66,7 @@ pub fn run(seed: u64, files: u64) -> Checked<Tally> {
     };
     campaign.fixed()?;
     fixed_shown()?;
+    every_component()?;
     campaign.every_byte()?;
     campaign.every_number()?;
     campaign.every_tail()?;
@@ -101,6 +105,43 @@ fn fixed_shown() -> Checked {
         let found = proved::acb::shown_start(&fixed.string);
         agree(|| "a fixed string".to_string(), &fixed.start, &found)
             .map_err(|difference| difference.given("string", hex(&fixed.string)))?;
+    }
+    Ok(())
+}
+
+/// Each byte at the first positions of a record, and at the largest, in every
+/// space. The reference shows those of a book; a position past its components is
+/// shown as the last of them, and a space that no book has as RGB.
+fn every_component() -> Checked {
+    for byte in 0..=u8::MAX {
+        let shown = |space| {
+            let mut file = p9_with(SPACE, space);
+            let components = file.len() - COMPONENTS;
+            file[components..].fill(byte);
+            let last = if space == CMYK {
+                COMPONENTS
+            } else {
+                COMPONENTS - 1
+            };
+            file.truncate(components + last);
+            reference::acb::shown(&file, 0)
+        };
+        let known = [RGB, CMYK, LAB].map(|space| (space, shown(space)));
+        for space in 0..=u16::MAX {
+            let (_, wanted) = known
+                .iter()
+                .find(|(of, _)| *of == space)
+                .unwrap_or(&known[0]);
+            let wanted = wanted.as_ref().expect("P9 is accepted in each space");
+            for position in (0..=POSITIONS).chain([usize::MAX]) {
+                let found = proved::acb::shown_component(space, position, byte);
+                agree(
+                    || format!("byte {byte} at position {position} in space {space}"),
+                    &wanted.values[position.min(wanted.count - 1)],
+                    &found,
+                )?;
+            }
+        }
     }
     Ok(())
 }
@@ -211,7 +252,12 @@ impl Campaign {
                 for size in 1..=colours + 1 {
                     for offset in 0..=colours + 1 {
                         (book.page_size, book.page_offset) = (size as u16, offset as u16);
-                        check_file(&book.file(), &mut random, &mut self.tally)?;
+                        let file = book.file();
+                        check_file(&file, &mut random, &mut self.tally)?;
+                        let mut first = book.clone();
+                        while first.colours.pop().is_some() {
+                            check_pages_cut(&file, &first.file())?;
+                        }
                     }
                 }
             }

@@ -6,9 +6,9 @@ use super::writing::check_records;
 use crate::difference::{agree, agree_runs, hex, Checked};
 use crate::lent::Lent;
 use generate::Random;
-use proved::acb::{Answer, Text};
+use proved::acb::{Answer, Header, Page, Text};
 use reference::acb::ROW_LEN;
-use reference::UNIT_LEN;
+use reference::{number, UNIT_LEN};
 
 /// Rows lent with a file that is refused.
 const SPARE_ROWS: usize = 6;
@@ -17,6 +17,9 @@ const SPARE_ROOM: usize = 40;
 /// In a file of more colours only some are asked for, since each call judges the
 /// whole file.
 const FEW_COLOURS: usize = 12;
+/// Every page is asked for where judging the file for each goes over no more
+/// bytes.
+const PAGED_BYTES: usize = 1 << 18;
 
 /// Compares every call on a file, and writing it back where it is accepted.
 pub fn check_file(file: &[u8], random: &mut Random, tally: &mut Tally) -> Checked {
@@ -34,12 +37,19 @@ fn check_calls(file: &[u8], random: &mut Random, tally: &mut Tally) -> Checked {
         check_record(file, &judged, index, tally)?;
         check_full_name(file, &judged, index, random, tally)?;
     }
-    for page in numbers(pages(&judged), random) {
-        check_page(file, &judged, page, tally)?;
+    let mut records = vec![0; judged.count * ROW_LEN];
+    proved::acb::read(file, &mut records);
+    let pages = pages(&judged);
+    let mut asked = numbers(pages, random);
+    if pages > FEW_COLOURS && pages * file.len() <= PAGED_BYTES {
+        asked.extend(0..pages);
+    }
+    for page in asked {
+        check_page(file, &judged, &records, page, tally)?;
     }
     if judged.number == 0 {
         check_header_strings(file, &judged, tally)?;
-        check_write_back(file, &judged, random, tally)?;
+        check_write_back(file, &judged, &records, random, tally)?;
     }
     Ok(())
 }
@@ -161,12 +171,63 @@ fn check_full_name(
     Ok(())
 }
 
-fn check_page(file: &[u8], judged: &Answer, page: usize, tally: &mut Tally) -> Checked {
+/// A page by the file, and where that is accepted by its records too.
+fn check_page(
+    file: &[u8],
+    judged: &Answer,
+    records: &[u32],
+    page: usize,
+    tally: &mut Tally,
+) -> Checked {
     let found = proved::acb::page(file, page);
     let wanted = expected::page(reference::acb::page(file, page));
     agree(|| format!("page {page}"), &wanted, &found)?;
     if judged.number == 0 {
         tally.paging_call(found.number);
+        let found = page_in(records, judged.count, judged, page);
+        agree(|| format!("page {page} by the records"), &wanted, &found)?;
+    }
+    Ok(())
+}
+
+fn page_in(records: &[u32], count: usize, judged: &Answer, page: usize) -> Page {
+    let Header {
+        page_size,
+        page_offset,
+        ..
+    } = judged.header;
+    proved::acb::page_in(records, count, page_size, page_offset, page)
+}
+
+/// Pages by the first records alone of an accepted file, which are those of
+/// another file: by a count below theirs, and by a table that ends before the
+/// next record does. A page of the size 0 shows none.
+pub fn check_pages_cut(file: &[u8], first: &[u8]) -> Checked {
+    let judged = check_judge(file)?;
+    let mut records = vec![0; judged.count * ROW_LEN];
+    proved::acb::read(file, &mut records);
+    let count = check_judge(first)?.count;
+    let none = Page {
+        number: number::NO_PAGE,
+        ..Page::default()
+    };
+    for page in 0..=judged.count {
+        let offset = judged.header.page_offset;
+        let found = proved::acb::page_in(&records, judged.count, 0, offset, page);
+        agree(|| format!("page {page} of no records"), &none, &found)?;
+        let wanted = expected::page(reference::acb::page(first, page));
+        let found = page_in(&records, count, &judged, page);
+        agree(
+            || format!("page {page} of {count} records"),
+            &wanted,
+            &found,
+        )?;
+        for len in count * ROW_LEN..((count + 1) * ROW_LEN).min(records.len() + 1) {
+            for told in [judged.count, usize::MAX] {
+                let found = page_in(&records[..len], told, &judged, page);
+                agree(|| format!("page {page} by {len} numbers"), &wanted, &found)?;
+            }
+        }
     }
     Ok(())
 }
@@ -200,12 +261,11 @@ pub fn check_string(string: &[u8], tally: &mut Tally) -> Checked {
 fn check_write_back(
     file: &[u8],
     judged: &Answer,
+    records: &[u32],
     random: &mut Random,
     tally: &mut Tally,
 ) -> Checked {
-    let mut records = vec![0; judged.count * ROW_LEN];
-    proved::acb::read(file, &mut records);
-    let written = check_records(judged.header, &records, file, random, tally)?;
+    let written = check_records(judged.header, records, file, random, tally)?;
     agree(
         || "writing an accepted file back".to_string(),
         &true,
