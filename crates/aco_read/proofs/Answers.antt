@@ -1,4 +1,4 @@
--- What `read` and `record` answer, on plain values. Assumes nothing.
+-- What `read` and `record_at` answer, on plain values. Assumes nothing.
 use Prim.Native.Nat.{ℕ, zero, suc, _+_, _*_, _-_, _≤_, _<_}
 use mathlib.Core.Path.{_≡_, refl, sym, ap, ap₂, _∙_}
 use mathlib.Core.List.{List, [], _∷_, _++_}

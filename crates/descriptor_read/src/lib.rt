@@ -5,8 +5,9 @@
 // at 32. A row is written after those below it, where the table has room: a first reading, over no
 // table, judges and counts; a second one fills.
 //
-// Each reader of the cycle but `list` is called at one place, and `object` hands on to `list`: the
-// compiler then makes one function of them, and a member that holds none costs no call.
+// In the cycle only `list` is called at several places; `object`, which only hands on to it, counts
+// for nothing. The compiler then makes one function of all, and a member without members costs no
+// call.
 ghost use mathlib.Core.Path.{_≡_};
 ghost use Prim.Native.Nat.{_+_, _-_, _/_, _≤_, _<_};
 ghost use lib.Dec.{eqb};

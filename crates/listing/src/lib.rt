@@ -1,11 +1,10 @@
-// What every listing program needs: text in a buffer that is written out when full, the units of
-// names, refusals, and input that is too long.
+// What every listing program needs: text in a buffer that is written out when full, refusals, and
+// input that is too long.
 ghost use mathlib.Core.Path.{_≡_};
 ghost use Prim.Native.Nat.{_≤_, _<_};
 ghost use lib.Dec.{leb};
 ghost use lib.ListN.{length};
 ghost use Rattle.fields.specs.Reader.{pick};
-ghost use Rattle.listing.specs.Units.{unitsOf};
 use libc::STDIN_FILENO;
 use libc::STDOUT_FILENO;
 
@@ -84,22 +83,6 @@ pub fn put_bits(out: &mut [u8], n: usize, v: u32) -> usize
     let mut bytes = [0u8; 4];
     fields::put_u32(&mut bytes, 0, v);
     put_bytes(out, n, &bytes)
-}
-
-// The units of a name that lies in the file.
-pub fn units_of(file: &[u8], place: u32, units: u32) -> &[u8]
-    ensures { λ r. ⌜ now r ≡ unitsOf (now (file .entry)) place units ⌝ }
-{
-    let start = place as usize;
-    let size = 2 * (units as usize);
-    if file.len() < start {
-        return &file[..0];
-    }
-    if file.len() - start < size {
-        return &file[..0];
-    }
-    let end = start + size;
-    &file[start..end]
 }
 
 // The line of a refused file, in a buffer of which nothing is full.
