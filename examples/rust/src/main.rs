@@ -92,19 +92,13 @@ fn list_acb(file: &[u8]) -> Result<Vec<String>, Refusal> {
     let mut lines = vec![format!(
         "ACB: {title}, {records} records on {pages} pages, {space:?}"
     )];
-    // Full names, shown components and, below, values are asked for one by one,
-    // and the whole file is judged each time: that is for books and settings of
-    // usual length.
-    for (i, swatch) in book.iter().enumerate() {
-        if !swatch.is_dummy() {
-            let name = acb::full_name(file, i)?;
-            let shown = acb::shown_at(file, i)?;
-            lines.push(format!(
-                "{} {:?}",
-                quoted(Units::new(&name)),
-                shown.values()
-            ));
-        }
+    for swatch in book.iter().filter(|swatch| !swatch.is_dummy()) {
+        let name = book.full_name(&swatch);
+        lines.push(format!(
+            "{} {:?}",
+            quoted(Units::new(&name)),
+            book.shown(&swatch).values()
+        ));
     }
     Ok(lines)
 }
@@ -112,6 +106,8 @@ fn list_acb(file: &[u8]) -> Result<Vec<String>, Refusal> {
 fn list_descriptor(file: &[u8]) -> Result<Vec<String>, Refusal> {
     let rows = descriptor::read(file)?;
     let mut lines = vec![format!("descriptor: {} rows", rows.len())];
+    // Values are asked for one by one, and the whole file is judged each time: that
+    // is for settings of usual length.
     for (i, row) in rows.iter().enumerate() {
         let mut line = " ".repeat(2 * row.depth);
         let value = descriptor::value_at(file, i)?;
