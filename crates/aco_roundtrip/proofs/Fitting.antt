@@ -24,19 +24,12 @@ use Rattle.aco.specs.Faults.{fieldsFault, paletteFault, Fits}
 use Rattle.aco.specs.Faults as a
 use Rattle.aco.proofs.Whole.{length-one, length-two}
 use Rattle.aco_write.specs.Writing.{Given, givens, swatchIn, sizes, size, spaceFault, sampleFault, colourFault, nameFault, fault}
-use Rattle.aco_write.proofs.Judging.{test-holds, space-is, space-small, sample-large, sample-is, name-number, name-inside}
+use Rattle.aco_write.proofs.Judging.{space-is, space-small, sample-large, sample-is, name-inside}
 use Rattle.aco_write.proofs.Puts.{length-entry}
 use Rattle.aco_roundtrip.specs.Tie.{made, Fitting}
+use Rattle.fields.proofs.Firsts.{all-image, test-holds, name-number}
 
 -- ---- values of a list
-
-pub all-image : {A B : Type 0} (f : A → B) (P : ℕ → B → Type 0) (i : ℕ) (l : List A) → All (λ k a. P k (f a)) i l → All P i (map f l)
-all-image f P i [] h = tt
-all-image f P i (a ∷ l) h = (h .0, all-image f P (i + 1) l (h .1))
-
-pub all-source : {A B : Type 0} (f : A → B) (P : ℕ → B → Type 0) (i : ℕ) (l : List A) → All P i (map f l) → All (λ k a. P k (f a)) i l
-all-source f P i [] h = tt
-all-source f P i (a ∷ l) h = (h .0, all-source f P (i + 1) l (h .1))
 
 -- values that have the same faults have the same first fault
 faults-from-same : {A : Type 0} (f g : ℕ → A → ℕ) (i : ℕ) (l : List A) → All (λ k a. f k a ≡ g k a) i l → faultsFrom f i l ≡ faultsFrom g i l

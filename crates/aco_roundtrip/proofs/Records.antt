@@ -20,7 +20,7 @@ use Rattle.aco_read.specs.Table.{row}
 use Rattle.aco_write.specs.Writing.{Given, givenAt, givens, given, swatchIn}
 use Rattle.aco_write.proofs.Puts.{four}
 use Rattle.aco_roundtrip.specs.Tie.{tabled, Fitting}
-use Rattle.aco_roundtrip.proofs.Fitting.{all-image, all-source}
+use Rattle.fields.proofs.Firsts.{all-image, all-source}
 
 -- a record that was read, as it is given to a writer
 abbrev pub taken : Entry → Given

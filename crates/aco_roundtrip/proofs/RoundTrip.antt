@@ -19,10 +19,10 @@ use Rattle.aco.specs.Places.{entryPlace}
 use Rattle.aco.proofs.RoundTrip.{allowed-reads, written-number, written-allowed, two-lists, lists-agree, records-place}
 use Rattle.aco_write.specs.Writing.{Given, given, swatchIn, size, fault, needed, written}
 use Rattle.fields.specs.Writing.{bytes}
-use Rattle.aco_write.proofs.Judging.{test-holds}
 use Rattle.aco_roundtrip.specs.Tie.{Holds, made, tabled, Fitting}
 use Rattle.aco_roundtrip.proofs.Fitting.{length-made, all-four, all-fit, fault-same, faultless-fit, givens-four}
 use Rattle.aco_roundtrip.proofs.Back.{written-inv, needs, writes, itself, bare, palette, length-is, short}
+use Rattle.fields.proofs.Firsts.{test-holds}
 
 -- ---- what is written reads back
 

@@ -2,13 +2,13 @@
 use Prim.Native.Nat.{ℕ, zero, suc, _+_, _*_, _-_, _≤_, _<_}
 use mathlib.Core.Path.{_≡_, refl, sym, ap, _∙_, subst}
 use mathlib.Core.List.{List, [], _∷_}
-use mathlib.Core.Bool.{Bool, true, false}
+use mathlib.Core.Bool.{Bool, true}
 use lib.ListN.{length, getD}
 use borrow.Author.Tests.{eq-eqb, ne-eqb, le-leb, lt-leb}
 use native.Mathlib.Omega.{arith}
 use native.Mathlib.Nat.{sub-zero, lt-of-not-le}
 use native.Mathlib.Decide.{ℕ-discrete, decLe}
-use Rattle.fields.specs.Reader.{Res, ok, refuse, pick, done, numberOf}
+use Rattle.fields.specs.Reader.{pick}
 use Rattle.fields.specs.Text.{text}
 use Rattle.fields.specs.Faults.{firstOf, faults, faultsFrom}
 use Rattle.fields.proofs.Tells.{first-none, first-zero, first-inv}
@@ -17,23 +17,9 @@ use Rattle.colour.specs.Spaces.{uses, known, allowed, sound}
 use Rattle.colour.proofs.Laws.{sound-inv}
 use Rattle.aco_write.specs.Writing.{Given, givenAt, givens, sizes, spaceFault, sampleFault, nameFault}
 use Rattle.aco_write.specs.Parts.{start, EntryFits, EntriesFit}
+use Rattle.fields.proofs.Firsts.{hit, name-number}
 
 -- ---- the first of two faults
-
-first-found : (a b : ℕ) → (a ≡ 0 → ⊥) → firstOf a b ≡ a
-first-found a b h = simp (ne-eqb a 0 h)
-
--- what was found is the first fault, or the one behind it
-pub hit : (r a b : ℕ) → r ≡ a → (r ≡ 0 → ⊥) → r ≡ firstOf a b
-hit r a b e h = e ∙ sym (first-found a b (λ z. h (e ∙ z)))
-
-pub pass : (r a b z : ℕ) → z ≡ a → z ≡ 0 → r ≡ b → r ≡ firstOf a b
-pass r a b z e h k = k ∙ sym (first-none a b (sym e ∙ h))
-
--- a test that gives no fault holds
-pub test-holds : (t : Bool) (m x : ℕ) → 0 < x → pick t m x ≡ 0 → (t ≡ true) × (m ≡ 0)
-test-holds true m x h e = (refl, e)
-test-holds false m x h e = absurd (omega arith)
 
 -- ---- a colour
 
@@ -79,13 +65,6 @@ unfolding faultsFrom
 colour-faults x a b c d = ap (λ (k : ℕ). firstOf (spaceFault x) (firstOf (sampleFault x 0 a) (firstOf (sampleFault x 1 b) (firstOf (sampleFault x 2 c) k)))) (sym (first-zero (sampleFault x 3 d)))
 
 -- ---- a name
-
-number-done : {A : Type 0} (m : Res A) → numberOf (done m) ≡ numberOf m
-number-done (ok a n) = refl
-number-done (refuse x p r f) = refl
-
-pub name-number : {A : Type 0} (m : Res A) (r : Res Unit) → r ≡ done m → numberOf r ≡ numberOf m
-name-number m r e = ap numberOf e ∙ number-done m
 
 -- a name without a fault lies in the lent bytes, from where its copy starts
 pub name-inside : (names : List ℕ) (g : Given) → nameFault names g ≡ 0 → start g + 2 * g .units ≤ length names

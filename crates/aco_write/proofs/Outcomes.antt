@@ -13,7 +13,7 @@ use Rattle.aco_write.specs.Writing.{Given, size, colourFault, nameFault,
 use Rattle.fields.specs.Writing.{bytes, refused}
 use Rattle.fields.proofs.Tells.{first-inv}
 use Rattle.fields.proofs.Writing.{needs-no, needs-all, needs-inv}
-use Rattle.aco_write.proofs.Judging.{hit, pass, test-holds}
+use Rattle.fields.proofs.Firsts.{hit, pass, test-holds}
 
 -- ---- the length that is needed, or the refusal
 

@@ -12,7 +12,7 @@ use native.Mathlib.Numerals.{unary-clauses}
 use Rattle.fields.specs.Numbers.{be, nums, joined, Bytes}
 use Rattle.fields.specs.Store.{stored, part}
 use Rattle.fields.specs.Text.{nameBytes, countedUnits}
-use Rattle.fields.proofs.Stores.{stored-in, sets-append, length-stored}
+use Rattle.fields.proofs.Stores.{length-stored}
 use Rattle.fields.proofs.Places.{length-be, length-nums, length-part, part-nums}
 use Rattle.fields.proofs.Exact.{length-map, length-nameBytes}
 use Rattle.colour.specs.declared.space.Colour.{Colour}
@@ -21,17 +21,9 @@ use Rattle.aco.proofs.Whole.{length-colour}
 use Rattle.aco_write.specs.Writing.{Given, givenAt, givens, swatchIn, sizes, size, nameFault}
 use Rattle.aco_write.specs.Parts.{colourIn, plain, start}
 use Rattle.aco_write.proofs.Judging.{name-inside, givens-start, givens-turn, givens-end, length-givens}
+use Rattle.fields.proofs.Storing.{as-sets, peel}
 
 -- ---- one store
-
--- a store that has room
-pub as-sets : (o out : List ℕ) (at : ℕ) (l : List ℕ) (k : ℕ) → o ≡ stored out at l → length l ≡ k → at + k ≤ length out → o ≡ sets out at l
-as-sets o out at l k e f h = e ∙ stored-in out at l (omega arith)
-
--- a store that was made, taken off the front of a longer one
-pub peel : (out o a b : List ℕ) (at k next : ℕ) → length a ≡ k → at + k ≡ next → o ≡ sets out at a → sets out at (a ++ b) ≡ sets o next b
-peel out o a b at k next e f g =
-    sets-append a b out at ∙ ap (λ (n : ℕ). sets (sets out at a) n b) (ap (λ (x : ℕ). at + x) e ∙ f) ∙ ap (λ (l : List ℕ). sets l next b) (sym g)
 
 -- a store over the whole of a part, when the part is back
 pub put-part : (out o : List ℕ) (at e : ℕ) (l : List ℕ) → at ≤ e → e ≤ length out → length l ≡ e - at → o ≡ sets (part out at (e - at)) 0 l → putMid at (e - at) out o ≡ sets out at l

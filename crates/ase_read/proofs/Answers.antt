@@ -141,7 +141,7 @@ refused-of (refuse x p r f) e = (r, f, cc)
 
 -- ---- the table
 
-row-length : (e : Entry) → length (row e) ≡ 9
+pub row-length : (e : Entry) → length (row e) ≡ 9
 row-length (started nm) = refl
 row-length stopped = refl
 row-length (coloured nm t bs k) = refl

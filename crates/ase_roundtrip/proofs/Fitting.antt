@@ -19,10 +19,8 @@ use Rattle.fields.proofs.Exact.{all-map, length-nameBytes}
 use Rattle.fields.proofs.Tells.{first-inv, pick-none}
 use Rattle.fields.proofs.Texts.{text-short, text-zero, text-fine}
 use Rattle.fields.proofs.Chain.{in-map, in-both, all-in, in-all, in-inv, state-map}
-use Rattle.colour.specs.Models.{isModel, modelOf, countIn, channelsOf}
+use Rattle.colour.specs.Models.{isModel, channelsOf}
 use Rattle.colour.specs.Channels.{allowsBits}
-use Rattle.colour.specs.declared.model.Known.{Known}
-use Rattle.colour.specs.declared.model.Known.the-variants.{Is, Unknown}
 use Rattle.colour.specs.declared.model.Model.the-variants as vm
 use Rattle.ase.specs.Grammar.{Block, start, stop, colour, payload, blockBytes}
 use Rattle.ase.specs.Reading.{deepest, standing}
@@ -33,16 +31,10 @@ use Rattle.ase.proofs.Laws.{length-block}
 use Rattle.ase.proofs.Whole.{length-file}
 use Rattle.ase_write.specs.Writing.{Given, givens, unitsIn, channelsIn, blockIn, sizeIn, sizes, size, nameFault, colourFault, blockFault, standingIn, fault}
 use Rattle.ase_roundtrip.specs.Tie.{Words, made, NameFitting, ColourFitting, Fitting, a-start, an-end, a-colour}
+use Rattle.fields.proofs.Firsts.{test-holds, all-image}
+use Rattle.ase_write.proofs.Judging.{channels-few}
 
 -- ---- values of a list
-
-pub all-image : {A B : Type 0} (f : A → B) (P : ℕ → B → Type 0) (i : ℕ) (l : List A) → All (λ k a. P k (f a)) i l → All P i (map f l)
-all-image f P i [] h = tt
-all-image f P i (a ∷ l) h = (h .0, all-image f P (i + 1) l (h .1))
-
-pub all-source : {A B : Type 0} (f : A → B) (P : ℕ → B → Type 0) (i : ℕ) (l : List A) → All P i (map f l) → All (λ k a. P k (f a)) i l
-all-source f P i [] h = tt
-all-source f P i (a ∷ l) h = (h .0, all-source f P (i + 1) l (h .1))
 
 pub all-take : {A : Type 0} (P : ℕ → A → Type 0) (n i : ℕ) (l : List A) → All P i l → All P i (take n l)
 all-take P zero i l h = tt
@@ -56,28 +48,12 @@ unfolding faultsIn
 faults-same next view f g d i [] h = refl
 faults-same next view f g d i (a ∷ l) h = ap₂ (λ (x y : ℕ). firstOf x y) (h .0 d) (faults-same next view f g (next d (view a)) (i + 1) l (h .1))
 
-pub test-holds : (t : Bool) (m x : ℕ) → 0 < x → pick t m x ≡ 0 → (t ≡ true) × (m ≡ 0)
-test-holds true m x h e = (refl, e)
-test-holds false m x h e = absurd (omega arith)
-
 number-done : {A : Type 0} (m : Res A) → numberOf m ≡ numberOf (done m)
 number-done (ok a q) = refl
 number-done (refuse x p r f) = refl
 
--- no model has more than four channels
-pub channels-most : (t : ℕ) → channelsOf t ≤ 4
-unfolding channelsOf
-channels-most t = go (modelOf t)
-  where
-    go : (k : Known) → countIn k ≤ 4
-    go (Is vm.Rgb) = omega arith
-    go (Is vm.Cmyk) = omega arith
-    go (Is vm.Lab) = omega arith
-    go (Is vm.Gray) = omega arith
-    go Unknown = omega arith
-
 pub channels-all : (g : Given) → length (g .channels) ≡ 4 → length (channelsIn g) ≡ channelsOf (g .model)
-channels-all g four = length-take-le (channelsOf (g .model)) (g .channels) (omega (arith, channels-most (g .model)))
+channels-all g four = length-take-le (channelsOf (g .model)) (g .channels) (omega (arith, channels-few (g .model)))
 
 -- a record of a run of words: its channels are four, and fit 32 bits
 abbrev pub Worded : Given → Type 0

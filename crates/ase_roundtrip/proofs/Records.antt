@@ -26,7 +26,9 @@ use Rattle.ase.proofs.RoundTrip.{accepted-allowed}
 use Rattle.ase_read.specs.Table.{fourOf, row}
 use Rattle.ase_write.specs.Writing.{Given, givenAt, givens, given, blockIn}
 use Rattle.ase_roundtrip.specs.Tie.{taken, tabled, Fitting, a-start, an-end, a-colour}
-use Rattle.ase_roundtrip.proofs.Fitting.{all-image, all-source, channels-most}
+use Rattle.fields.proofs.Firsts.{all-image, all-source}
+use Rattle.ase_read.proofs.Answers.{row-length}
+use Rattle.ase_write.proofs.Judging.{channels-few}
 
 -- ---- a run made of rows gives the records
 
@@ -44,23 +46,18 @@ row-back p k (started nm) more l = nine-back p k 0xC001 (nm .first) (length (nm 
 row-back p k stopped more l = nine-back p k 0xC002 0 0 0 0 0 0 0 0 more l
 row-back p k (coloured nm t bs c) more l = nine-back p k 0x0001 (nm .first) (length (nm .units)) t (getD bs 0 0) (getD bs 1 0) (getD bs 2 0) (getD bs 3 0) c more l
 
-length-row : (e : Entry) → length (row e) ≡ 9
-length-row (started nm) = refl
-length-row stopped = refl
-length-row (coloured nm t bs k) = refl
-
 rows-back : (p : List ℕ) (k : ℕ) (es : List Entry) → length p ≡ 9 * k → givens (p ++ joined row es) (length es) k ≡ map taken es
 unfolding givens joined
 rows-back p k [] l = refl
 rows-back p k (e ∷ es) l =
-    let len : length (p ++ row e) ≡ 9 * (k + 1) = omega (arith, length-append p (row e), length-row e) in
+    let len : length (p ++ row e) ≡ 9 * (k + 1) = omega (arith, length-append p (row e), row-length e) in
     ap₂ (λ (x : Given) (xs : List Given). x ∷ xs) (row-back p k e (joined row es) l)
     (ap (λ (r : List ℕ). givens r (length es) (k + 1)) (sym (append-assoc p (row e) (joined row es))) ∙ rows-back (p ++ row e) (k + 1) es len)
 
 length-rows : (es : List Entry) → length (joined row es) ≡ 9 * length es
 unfolding joined
 length-rows [] = refl
-length-rows (e ∷ es) = omega (arith, length-append (row e) (joined row es), length-row e, length-rows es)
+length-rows (e ∷ es) = omega (arith, length-append (row e) (joined row es), row-length e, length-rows es)
 
 pub given-rows : (es : List Entry) → given (joined row es) ≡ tabled es
 given-rows es =
@@ -173,7 +170,7 @@ four-take (a ∷ b ∷ c ∷ d ∷ []) h = refl
 four-take (a ∷ b ∷ c ∷ d ∷ e ∷ more) h = absurd (omega arith)
 
 used-back : (t : ℕ) (bs : List ℕ) → length bs ≡ channelsOf t → take (channelsOf t) (fourOf bs) ≡ bs
-used-back t bs l = ap (λ (n : ℕ). take n (fourOf bs)) (sym l) ∙ four-take bs (omega (arith, channels-most t))
+used-back t bs l = ap (λ (n : ℕ). take n (fourOf bs)) (sym l) ∙ four-take bs (omega (arith, channels-few t))
 
 block-back : (s : List ℕ) (e : Entry) → Lies s e → BlockFits (blockOf e) → blockIn s (taken e) ≡ blockOf e
 block-back s (started nm) l f = ap start (l .are)

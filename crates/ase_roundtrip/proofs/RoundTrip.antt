@@ -17,10 +17,11 @@ use Rattle.ase.proofs.RoundTrip.{allowed-reads, written-number, written-allowed
 use Rattle.ase_read.specs.Table.{row}
 use Rattle.ase_write.specs.Writing.{Given, given, blockIn, sizeIn, size, blockFault, fault, needed, written}
 use Rattle.ase_roundtrip.specs.Tie.{Words, Holds, made, tabled, Fitting, Alike, AllAlike}
-use Rattle.ase_roundtrip.proofs.Fitting.{test-holds, length-made, all-fit, fault-same, faultless-fit, givens-words}
+use Rattle.ase_roundtrip.proofs.Fitting.{length-made, all-fit, fault-same, faultless-fit, givens-words}
 use Rattle.ase_roundtrip.proofs.Records.{given-rows}
 use Rattle.ase_roundtrip.proofs.Back.{written-inv, needs-all, writes-all}
 use Rattle.ase_roundtrip.proofs.Spare.{block-alike, fault-alike, size-alike, needed-alike, written-alike}
+use Rattle.fields.proofs.Firsts.{test-holds}
 
 -- ---- what is written reads back
 

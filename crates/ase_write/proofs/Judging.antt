@@ -10,7 +10,7 @@ use borrow.Author.Tests.{eq-eqb, ne-eqb, le-leb, lt-leb, leb-true, ltb-true}
 use native.Mathlib.Omega.{arith}
 use native.Mathlib.Nat.{sub-zero, lt-of-not-le}
 use native.Mathlib.Decide.{ℕ-discrete, decLe}
-use Rattle.fields.specs.Reader.{Res, ok, refuse, pick, done, numberOf, stateAfter}
+use Rattle.fields.specs.Reader.{Res, pick, done, numberOf, stateAfter}
 use Rattle.fields.specs.Text.{text}
 use Rattle.fields.specs.Faults.{firstOf, faults, faultsFrom, faultsIn}
 use Rattle.fields.proofs.Tells.{first-none, first-zero, first-inv, pick-none}
@@ -24,27 +24,13 @@ use Rattle.colour.specs.declared.model.Model.the-variants.{Rgb, Cmyk, Lab, Gray
 use Rattle.ase.specs.Reading.{deepest}
 use Rattle.ase_write.specs.Writing.{Given, givenAt, givens, channelsIn, sizeIn, sizes, nameFault, blockFault, standingIn}
 use Rattle.ase_write.specs.Parts.{headFault, depthAfter, channelsFault, shadeFault, blocksFault, start, ownFault, RecordFits, RecordsFit}
+use Rattle.fields.proofs.Firsts.{first-found, hit, pass, test-holds, name-number}
 
 -- ---- the first of two faults
-
-first-found : (a b : ℕ) → (a ≡ 0 → ⊥) → firstOf a b ≡ a
-first-found a b h = simp (ne-eqb a 0 h)
-
--- what was found is the first fault, or the one behind it
-hit : (r a b : ℕ) → r ≡ a → (r ≡ 0 → ⊥) → r ≡ firstOf a b
-hit r a b e h = e ∙ sym (first-found a b (λ z. h (e ∙ z)))
-
-pass : (r a b z : ℕ) → z ≡ a → z ≡ 0 → r ≡ b → r ≡ firstOf a b
-pass r a b z e h k = k ∙ sym (first-none a b (sym e ∙ h))
 
 first-assoc : (a b c : ℕ) → firstOf (firstOf a b) c ≡ firstOf a (firstOf b c)
 first-assoc zero b c = refl
 first-assoc (suc a) b c = let h = first-found (suc a) b (λ z. omega arith) in ap (λ (x : ℕ). firstOf x c) h ∙ first-found (suc a) c (λ z. omega arith) ∙ sym (first-found (suc a) (firstOf b c) (λ z. omega arith))
-
--- a test that gives no fault holds
-pub test-holds : (t : Bool) (m x : ℕ) → 0 < x → pick t m x ≡ 0 → (t ≡ true) × (m ≡ 0)
-test-holds true m x h e = (refl, e)
-test-holds false m x h e = absurd (omega arith)
 
 -- ---- a record's length
 
@@ -82,13 +68,6 @@ module _ (g : Given) where
       go false = refl
 
 -- ---- a name
-
-number-done : {A : Type 0} (m : Res A) → numberOf (done m) ≡ numberOf m
-number-done (ok a n) = refl
-number-done (refuse x p r f) = refl
-
-name-number : {A : Type 0} (m : Res A) (r : Res Unit) → r ≡ done m → numberOf r ≡ numberOf m
-name-number m r e = ap numberOf e ∙ number-done m
 
 module _ (names : List ℕ) (g : Given) where
   pub name-large : 65534 < g .units → nameFault names g ≡ 5

@@ -13,7 +13,8 @@ use Rattle.fields.proofs.Tells.{first-inv}
 use Rattle.fields.proofs.Writing.{needs-no, needs-all, needs-inv}
 use Rattle.ase_write.specs.Writing.{Given, size, blockFault, standingIn, fault, needed}
 use Rattle.ase_write.specs.Parts.{blocksFault, ownFault}
-use Rattle.ase_write.proofs.Judging.{test-holds, all-own}
+use Rattle.ase_write.proofs.Judging.{all-own}
+use Rattle.fields.proofs.Firsts.{test-holds}
 
 -- ---- the length that is needed, or the refusal
 

@@ -12,7 +12,6 @@ use Rattle.fields.specs.Numbers.{be, nums, joined, Bytes}
 use Rattle.fields.specs.Store.{stored, part}
 use Rattle.fields.specs.Text.{nameBytes, countedUnits}
 use Rattle.fields.specs.Faults.{faults}
-use Rattle.fields.proofs.Stores.{stored-in, sets-append, length-stored}
 use Rattle.fields.proofs.Places.{length-be, length-bes, length-nums, part-nums}
 use Rattle.fields.proofs.Exact.{length-map, length-nameBytes}
 use Rattle.fields.proofs.Tells.{first-inv}
@@ -25,24 +24,9 @@ use Rattle.ase_write.specs.Writing.{Given, givenAt, givens, unitsIn, cha
 use Rattle.ase_write.specs.Parts.{shadeBytes, ownFault}
 use Rattle.ase_write.specs.Parts as parts
 use Rattle.ase_write.proofs.Judging.{Sort, is-start, is-stop, is-colour, head-fine, block-head, channels-few, size-start, size-stop, size-colour, name-inside, givens-start, givens-turn, givens-end, length-givens}
+use Rattle.fields.proofs.Storing.{as-sets, peel, peel-be, length-kept}
 
 -- ---- one store
-
--- a store that has room
-as-sets : (o out : List ℕ) (at : ℕ) (l : List ℕ) (k : ℕ) → o ≡ stored out at l → length l ≡ k → at + k ≤ length out → o ≡ sets out at l
-as-sets o out at l k e f h = e ∙ stored-in out at l (omega arith)
-
--- a store that was made, taken off the front of a longer one
-peel : (out o a b : List ℕ) (at k next : ℕ) → length a ≡ k → at + k ≡ next → o ≡ sets out at a → sets out at (a ++ b) ≡ sets o next b
-peel out o a b at k next e f g =
-    sets-append a b out at ∙ ap (λ (n : ℕ). sets (sets out at a) n b) (ap (λ (x : ℕ). at + x) e ∙ f) ∙ ap (λ (l : List ℕ). sets l next b) (sym g)
-
--- the same of a number of w bytes
-peel-be : (w v : ℕ) (out o b : List ℕ) (at next : ℕ) → at + w ≡ next → next ≤ length out → o ≡ stored out at (be w v) → sets out at (be w v ++ b) ≡ sets o next b
-peel-be w v out o b at next f h e = peel out o (be w v) b at w next (length-be w v) f (as-sets o out at (be w v) w e (length-be w v) (omega arith))
-
-length-kept : (o out : List ℕ) (at : ℕ) (l : List ℕ) → o ≡ stored out at l → length o ≡ length out
-length-kept o out at l e = ap length e ∙ length-stored out at l
 
 -- ---- a name
 

@@ -22,6 +22,7 @@ use Rattle.descriptor_tree.specs.Grammar.{IdBody, Id, Units, Text, Class
 use Rattle.descriptor_tree.specs.Grammar.IdBody.{char, string}
 use Rattle.descriptor_tree.specs.Grammar.Units.{none, closed}
 use Rattle.fields.proofs.Sets.{Reads, same-reads, done-reads, size-reads, tested-numbers, tag-numbers, number-reads, when-reads, counted-reads, seq-reads, run-reads}
+use Rattle.descriptor.proofs.Fields.{shut-nums}
 
 -- ---- tables by a tag
 
@@ -90,12 +91,6 @@ id-body s (suc n) = subst (λ (z : Bool). Reads (IdBody (suc n)) s (skip (pick z
     only m h b (char l) = absurd (omega arith)
     only m h b (string g l) = l
 
--- the last of the units that stand there
-shut-last : (n : ℕ) (s : List ℕ) (at : ℕ) → shut (nums 2 (suc n) s at) ≡ eqb (num 2 s (at + n * 2)) 0
-unfolding shut nums
-shut-last zero s at = let e : at ≡ at + 0 * 2 = omega arith in ap (λ (z : ℕ). eqb (num 2 s z) 0) e
-shut-last (suc n) s at = let e : at + 2 + n * 2 ≡ at + suc n * 2 = omega arith in shut-last n s (at + 2) ∙ ap (λ (z : ℕ). eqb (num 2 s z) 0) e
-
 -- the units behind a count at the place p
 abbrev unitsOf : ℕ → ℕ → Reader Unit
 unitsOf p n s at = then (body 2 n s at) (λ us end. rule (unless (shut us) 8) p (ok tt end))
@@ -116,7 +111,7 @@ units-whole s p n at b (closed m c l) h =
     let r : at + length (c ++ z) ≤ length s = at-in s at (c ++ z) h in
     let e : at + suc m * 2 ≡ at + length (c ++ z) = omega (arith, length-append c z) in
     let x : num 2 s (at + m * 2) ≡ 0 = ap (λ (k : ℕ). num 2 s (at + k)) (sym l) ∙ zero-there s (at + length c) (at-right s at c z h) in
-    let y : shut (nums 2 (suc m) s at) ≡ true = shut-last m s at ∙ eq-eqb (num 2 s (at + m * 2)) 0 x in
+    let y : shut (nums 2 (suc m) s at) ≡ true = shut-nums m s at ∙ eq-eqb (num 2 s (at + m * 2)) 0 x in
     rw (body-in 2 s at (suc m) (omega arith)) (rw y (ap (λ (k : ℕ). ok tt k) e))
 
 units-back : (s : List ℕ) (p n at q : ℕ) → at ≤ length s → unitsOf p n s at ≡ ok tt q → (b : List ℕ) × Units n b × At s at b × (at + length b ≡ q)
@@ -133,7 +128,7 @@ units-back s p (suc m) at q le e =
     let z : List ℕ = 0 ∷ 0 ∷ [] in
     let c : List ℕ = part s at (m * 2) in
     let l : length c ≡ m * 2 = length-part s at (m * 2) (omega (arith, i .0)) in
-    let last : num 2 s (at + m * 2) ≡ 0 = eqb-true (num 2 s (at + m * 2)) 0 (sym (shut-last m s at) ∙ ap shut (i .1) ∙ unless-fine (shut (t .0)) 8 (r .0)) in
+    let last : num 2 s (at + m * 2) ≡ 0 = eqb-true (num 2 s (at + m * 2)) 0 (sym (shut-nums m s at) ∙ ap shut (i .1) ∙ unless-fine (shut (t .0)) 8 (r .0)) in
     (c ++ z, closed m c l, at-next s at c z (at + m * 2) (omega arith) (at-part s at (m * 2) (omega (arith, i .0))) (zeros s (at + m * 2) (omega (arith, i .0)) last), omega (arith, length-append c z, i .2, ok-place (r .1)))
 
 units-reads : (s : List ℕ) (p n : ℕ) → Reads (Units n) s (unitsOf p n)

@@ -1,14 +1,24 @@
 -- Which of some faults is the first, as code that tests one after the other finds it. Assumes nothing.
 use Prim.Native.Nat.{ℕ, _+_, _<_}
-use mathlib.Core.Path.{_≡_, refl, sym, ap₂, _∙_}
+use mathlib.Core.Path.{_≡_, refl, sym, ap, ap₂, _∙_}
 use mathlib.Core.List.{List, [], _∷_, map}
 use mathlib.Core.Bool.{Bool, true, false}
 use borrow.Author.Tests.{ne-eqb}
 use native.Mathlib.Omega.{arith}
 use Rattle.fields.specs.Numbers.{All}
-use Rattle.fields.specs.Reader.{pick}
+use Rattle.fields.specs.Reader.{Res, ok, refuse, numberOf, done, pick}
 use Rattle.fields.specs.Faults.{firstOf, faults}
 use Rattle.fields.proofs.Tells.{first-none}
+
+-- ---- the number of a refusal
+
+number-done : {A : Type 0} (m : Res A) → numberOf (done m) ≡ numberOf m
+number-done (ok a n) = refl
+number-done (refuse x p r f) = refl
+
+-- what code answers of a name that it only passes
+pub name-number : {A : Type 0} (m : Res A) (r : Res Unit) → r ≡ done m → numberOf r ≡ numberOf m
+name-number m r e = ap numberOf e ∙ number-done m
 
 -- ---- the first of two
 

@@ -1,10 +1,11 @@
 use mathlib.Core.Path.{_∙_}
 use Prim.Native.Nat.{_*_}
 use lib.ListN.{getD}
-use Rattle.aco_write.proofs.Judging.{hit, pass, space-small, colour-faults}
+use Rattle.aco_write.proofs.Judging.{space-small, colour-faults}
 use borrow.Author.Needs.{needs}
 use Rattle.aco_write.proofs.fields_fault.Statement.{statement}
 use Rattle.aco_write.proofs.fields_fault.Tie as tie
+use Rattle.fields.proofs.Firsts.{hit, pass}
 
 mul-x : tie.Need-mul-x
 mul-x c = search needs

@@ -4,10 +4,10 @@ use lib.ListN.{getD}
 use Rattle.fields.specs.Reader.{done}
 use Rattle.fields.specs.Text.{text}
 use Rattle.fields.specs.Answer.{toldStep}
-use Rattle.aco_write.proofs.Judging.{name-number}
 use borrow.Author.Needs.{needs}
 use Rattle.aco_write.proofs.name_fault.Statement.{statement}
 use Rattle.aco_write.proofs.name_fault.Tie as tie
+use Rattle.fields.proofs.Firsts.{name-number}
 
 mul-wide : tie.Need-mul-wide
 mul-wide c = search needs
