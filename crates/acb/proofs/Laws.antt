@@ -37,6 +37,14 @@ space-components rgb = refl
 space-components cmyk = refl
 space-components lab = refl
 
+-- a space has three components or four
+pub components-some : (x : ℕ) → (3 ≤ componentsOf x) × (componentsOf x ≤ 4)
+components-some x = go (eqb x 2)
+  where
+    go : (b : Bool) → (3 ≤ pick b 4 3) × (pick b 4 3 ≤ 4)
+    go true = (omega arith, omega arith)
+    go false = (omega arith, omega arith)
+
 pub space-small : {x n : ℕ} → Space x n → x < 256 ^ 2
 space-small rgb = omega arith
 space-small cmyk = omega arith

@@ -16,7 +16,7 @@ use Rattle.fields.proofs.Places.{at-in}
 use Rattle.fields.proofs.Inverse.{ok-value, then-inv, pick-inv, each-inv, each-length}
 use Rattle.fields.proofs.Stores.{sets-append}
 use Rattle.acb.specs.Reading.{Entry, colour, componentsOf, Header, header, Contents, closing, book, acb}
-use Rattle.acb.proofs.Laws.{topBytes, topOf, header-exact}
+use Rattle.acb.proofs.Laws.{components-some, topBytes, topOf, header-exact}
 use Rattle.acb_read.specs.Table.{row, blank}
 use Rattle.acb_read.specs.Raw.{codeAt, nextRecord, recordPlace, rawRow, entriesOf, Accepted}
 use Rattle.acb_read.proofs.Records.{Recorded, recorded}
@@ -57,13 +57,6 @@ module _ (s : List ℕ) (n p : ℕ) (few : (3 ≤ n) × (n ≤ 4)) where
 
 -- ---- the file
 
-pub components-few : (x : ℕ) → (3 ≤ componentsOf x) × (componentsOf x ≤ 4)
-components-few x = go (eqb x 2)
-  where
-    go : (b : Bool) → (3 ≤ pick b 4 3) × (pick b 4 3 ≤ 4)
-    go true = (omega arith, omega arith)
-    go false = (omega arith, omega arith)
-
 -- an accepted file is not too long, and its records stand behind the header
 acb-inv : (s : List ℕ) → Bytes s → {c : Contents} {q : ℕ} → acb s ≡ ok c q
     → (length s ≤ limit) × (c .first ≤ length s) × (to : ℕ) × (each (length (c .entries)) 0 (λ i. colour (componentsOf (c .header .numbers .space))) s (c .first) ≡ ok (c .entries) to)
@@ -95,7 +88,7 @@ module _ (s : List ℕ) (bytes : Bytes s) (count p n : ℕ) (a : Accepted (acb s
   first-in = subst (λ (k : ℕ). k ≤ length s) (a .4) (acb-inv s bytes (a .2) .1)
 
   pub few : (3 ≤ n) × (n ≤ 4)
-  few = subst (λ (k : ℕ). (3 ≤ k) × (k ≤ 4)) (a .5) (components-few (a .0 .header .numbers .space))
+  few = subst (λ (k : ℕ). (3 ≤ k) × (k ≤ 4)) (a .5) (components-some (a .0 .header .numbers .space))
 
   -- record i, with the entry that was read
   pub record-is : (i : ℕ) → i < count → Recorded s n (recordPlace n s p i) (getD (a .0 .entries) i blank) (nextRecord n s (recordPlace n s p i))

@@ -15,7 +15,7 @@ use Rattle.acb.specs.Reading.{Contents, bookOf, acb}
 use Rattle.acb.specs.Answer.{Shown, shown}
 use Rattle.acb.specs.Faults.{bookFault}
 use Rattle.acb.proofs.RoundTrip.{accepted-allowed, allowed-written}
-use Rattle.acb_write.specs.Writing.{Given, size, fault, needed, written}
+use Rattle.acb_records.specs.Writing.{Given, size, fault, needed, written}
 use Rattle.acb_roundtrip.specs.Tie.{made, tabled}
 use Rattle.acb_roundtrip.proofs.Fitting.{length-made, fault-same}
 use Rattle.acb_roundtrip.proofs.Records.{given-book, given-fit}

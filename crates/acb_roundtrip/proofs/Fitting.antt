@@ -20,8 +20,9 @@ use Rattle.acb.specs.Grammar.{Tag, String, Swatch}
 use Rattle.acb.specs.Reading.{isSpace, componentsOf}
 use Rattle.acb.specs.Answer.{Shown}
 use Rattle.acb.specs.Faults.{bookFault, BookFits}
-use Rattle.acb_write.specs.Writing.{Given, unitsIn, componentsIn, colourIn, bookIn, sizes, stringSize, sizeIn, size, textFault, byteFault, headFault, colourFault, fault}
-use Rattle.acb_write.proofs.Judging.{text-in, text-cut, components-some}
+use Rattle.acb_records.specs.Writing.{Given, unitsIn, componentsIn, colourIn, bookIn, sizes, stringSize, sizeIn, size, textFault, byteFault, headFault, colourFault, fault}
+use Rattle.acb_records.proofs.Judging.{text-in, text-cut}
+use Rattle.acb.proofs.Laws.{components-some}
 use Rattle.acb_write.proofs.Puts.{Shaped, length-file}
 use Rattle.acb_roundtrip.specs.Tie.{Headed, made, TextFitting, Fitting, BookFitting}
 

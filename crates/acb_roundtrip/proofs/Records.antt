@@ -17,11 +17,10 @@ use Rattle.fields.proofs.Firsts.{all-image, all-source}
 use Rattle.acb.specs.Grammar.{Colour, Book, String, Swatch, Allowed, File, file}
 use Rattle.acb.specs.Reading.{string, Entry, colour, componentsOf, Header, strings, numbers, opening, header, closing, Contents, book, acb, colourOf, bookOf}
 use Rattle.acb.specs.Answer.{lies, shown}
-use Rattle.acb.proofs.Laws.{space-components, space-small}
+use Rattle.acb.proofs.Laws.{components-some, space-components, space-small}
 use Rattle.acb.proofs.RoundTrip.{accepted-allowed}
 use Rattle.acb_read.specs.Table.{sixOf, fourOf, row}
-use Rattle.acb_write.specs.Writing.{Given, givenAt, givens, given, unitsIn, colourIn, bookIn}
-use Rattle.acb_write.proofs.Judging.{components-some}
+use Rattle.acb_records.specs.Writing.{Given, givenAt, givens, given, unitsIn, colourIn, bookIn}
 use Rattle.acb_roundtrip.specs.Tie.{taken, tabled, TextFitting, Fitting, BookFitting}
 
 -- ---- a run made of rows gives the records

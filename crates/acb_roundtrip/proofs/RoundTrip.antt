@@ -17,7 +17,7 @@ use Rattle.acb.specs.Answer.{Shown, shown}
 use Rattle.acb.specs.Faults.{bookFault}
 use Rattle.acb.proofs.RoundTrip.{allowed-reads, written-number, written-allowed}
 use Rattle.acb_read.specs.Table.{row}
-use Rattle.acb_write.specs.Writing.{Given, given, colourIn, bookIn, sizeIn, size, colourFault, fault, needed, written}
+use Rattle.acb_records.specs.Writing.{Given, given, colourIn, bookIn, sizeIn, size, colourFault, fault, needed, written}
 use Rattle.acb_write.proofs.Puts.{givens-shaped}
 use Rattle.acb_roundtrip.specs.Tie.{Headed, Holds, made, tabled, BookFitting, Alike, AllAlike}
 use Rattle.acb_roundtrip.proofs.Fitting.{length-made, book-fits, fault-same, faultless-fit}

@@ -9,7 +9,7 @@ use Rattle.acb.specs.Grammar.{Tag, Book, fileBytes}
 use Rattle.acb.specs.Reading.{Entry, Contents, bookOf, componentsOf, acb}
 use Rattle.acb.specs.Answer.{Shown}
 use Rattle.acb_read.specs.Table.{sixOf, fourOf}
-use Rattle.acb_write.specs.Writing.{Given, componentsIn, bookIn}
+use Rattle.acb_records.specs.Writing.{Given, componentsIn, bookIn}
 
 -- four strings and numbers of 16 bits, as in a `Header`
 pub record Headed (h : Shown) : Type 0 where

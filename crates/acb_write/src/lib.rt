@@ -2,28 +2,20 @@
 ghost use mathlib.Core.Path.{_≡_};
 ghost use mathlib.Core.List.{map};
 ghost use Prim.Native.Nat.{_+_, _*_, _≤_, _<_};
-ghost use lib.Dec.{leb};
 ghost use lib.ListN.{length};
 ghost use lib.Seq.{sets};
 ghost use Rattle.fields.specs.Numbers.{be, joined};
-ghost use Rattle.fields.specs.Reader.{pick, limit};
-ghost use Rattle.fields.specs.Faults.{faults};
-ghost use Rattle.fields.specs.Writing.{bytes, refused};
 ghost use Rattle.acb.specs.Grammar.{stringBytes, colourBytes, tagBytes, fileBytes};
 ghost use Rattle.acb.specs.Answer.{toldText, toldHeader, toldTag};
-ghost use Rattle.acb_write.specs.Writing.{givenAt, givens, given, unitsIn, componentsIn, colourIn, bookIn, sizes, stringSize, sizeIn, tagSize, headSize, size, textFault, byteFault, headFault, colourFault, fault, needed, written};
-ghost use Rattle.acb_write.specs.Answer.{told};
-ghost use Rattle.acb_write.specs.Parts.{givenOf, start, numberBytes, headingBytes, StringFits, TextsFit, RecordFits, RecordsFit};
+ghost use Rattle.acb_records.specs.Writing.{givens, given, unitsIn, componentsIn, colourIn, bookIn, sizes, stringSize, sizeIn, tagSize, headSize, size, headFault, fault, written};
+ghost use Rattle.fields.specs.Answer.{toldWritten};
+ghost use Rattle.acb_records.specs.Parts.{givenOf, start, numberBytes, headingBytes, StringFits, TextsFit, RecordFits, RecordsFit};
 use acb::Header;
 use acb::Tag;
 use acb::Text;
 use acb::WIDTH;
-
-// How many bytes writing takes, or the refusal's number; its place is 0.
-pub enum Written {
-    Bytes(usize),
-    Refused(u32),
-}
+use acb_records::Record;
+use fields::Written;
 
 // The halves of the closing tags: `spfl`, and `spot` or `proc`.
 const TAG: u32 = (acb::SPOT / 0x1_0000_0000) as u32;
@@ -31,259 +23,6 @@ const TAG: u32 = (acb::SPOT / 0x1_0000_0000) as u32;
 const SPOT: u32 = (acb::SPOT % 0x1_0000_0000) as u32;
 
 const PROCESS: u32 = (acb::PROCESS % 0x1_0000_0000) as u32;
-
-// A record of a run: where its name lies, the six code bytes a to f, the components k to n.
-struct Record {
-    name: Text,
-    a: u32,
-    b: u32,
-    c: u32,
-    d: u32,
-    e: u32,
-    f: u32,
-    k: u32,
-    l: u32,
-    m: u32,
-    n: u32,
-}
-
-fn wide(x: u32) -> usize
-    ensures { λ r. ⌜ (r ≡ x) × (r < 4294967296) ⌝ }
-{
-    x as usize
-}
-
-// Record k of a run; nothing else knows how a run lays it out.
-fn record_at(run: &[u32], k: usize) -> Record
-    requires { ⌜ 12 * k + 12 ≤ length (now run) ⌝ }
-    ensures { λ r. ⌜ givenOf r ≡ givenAt (now (run .entry)) k ⌝ }
-{
-    let first = wide(run[WIDTH * k]);
-    Record {
-        name: Text {
-            place: first,
-            units: run[WIDTH * k + 1],
-        },
-        a: run[WIDTH * k + 2],
-        b: run[WIDTH * k + 3],
-        c: run[WIDTH * k + 4],
-        d: run[WIDTH * k + 5],
-        e: run[WIDTH * k + 6],
-        f: run[WIDTH * k + 7],
-        k: run[WIDTH * k + 8],
-        l: run[WIDTH * k + 9],
-        m: run[WIDTH * k + 10],
-        n: run[WIDTH * k + 11],
-    }
-}
-
-// ---- how long the file is
-
-// How many bytes a string takes.
-fn string_size(lies: Text) -> usize
-    ensures { λ r. ⌜ (r ≡ stringSize (toldText lies)) × (r < 0x3_0000_0000) ⌝ }
-{
-    4 + 2 * wide(lies.units)
-}
-
-// How many bytes the closing tag takes.
-fn tag_size(tag: Tag) -> usize
-    ensures { λ r. ⌜ (r ≡ tagSize (toldTag tag)) × (r ≤ 8) ⌝ }
-{
-    match tag {
-        Tag::None => 0,
-        Tag::Spot => 8,
-        Tag::Process => 8,
-    }
-}
-
-// How many bytes the header takes.
-fn head_size(header: Header) -> usize
-    ensures { λ r. ⌜ (r ≡ headSize (toldHeader header)) × (r < 0x10_0000_0000) ⌝ }
-{
-    let front = string_size(header.title) + string_size(header.prefix);
-    let back = string_size(header.suffix) + string_size(header.description);
-    16 + front + back
-}
-
-// How many bytes the file of n records takes. It stops at the limit, so that no sum passes 64 bits.
-fn size_of(header: Header, tag: Tag, run: &[u32], n: usize) -> Written
-    requires { ⌜ 12 * n ≤ length (now run) ⌝ }
-    ensures { λ r. ⌜ told r ≡ pick (leb (size (toldHeader header) (toldTag tag) (givens (now (run .entry)) n 0)) limit) (bytes (size (toldHeader header) (toldTag tag) (givens (now (run .entry)) n 0))) (refused 1) ⌝ }
-{
-    let tones = 6 + acb::components_of(header.space);
-    let mut total = head_size(header) + tag_size(tag);
-    if acb::LIMIT < total {
-        return Written::Refused(1);
-    }
-    let mut i: usize = 0;
-    while i < n {
-        total += string_size(record_at(run, i).name) + tones;
-        if acb::LIMIT < total {
-            return Written::Refused(1);
-        }
-        i += 1;
-    }
-    Written::Bytes(total)
-}
-
-// ---- judging
-
-// The fault of a string: whether it runs past the lent bytes.
-fn text_fault(text: &[u8], lies: Text) -> u32
-    ensures { λ r. ⌜ r ≡ textFault (now (text .entry)) (toldText lies) ⌝ }
-{
-    if lies.units == 0 {
-        return 0;
-    }
-    let k = 2 * wide(lies.units);
-    let n = text.len();
-    if n < k {
-        return 2;
-    }
-    if n - k < lies.place {
-        return 2;
-    }
-    0
-}
-
-// The first fault of the header's strings.
-fn texts_fault(text: &[u8], header: Header) -> u32
-    ensures { λ r. ⌜ r ≡ faults (textFault (now (text .entry))) (toldHeader header .texts) ⌝ }
-{
-    let a = text_fault(text, header.title);
-    if a != 0 {
-        return a;
-    }
-    let b = text_fault(text, header.prefix);
-    if b != 0 {
-        return b;
-    }
-    let c = text_fault(text, header.suffix);
-    if c != 0 {
-        return c;
-    }
-    text_fault(text, header.description)
-}
-
-// The first fault of a header before so many records.
-fn head_fault(text: &[u8], header: Header, count: usize) -> u32
-    ensures { λ r. ⌜ r ≡ headFault (now (text .entry)) (toldHeader header) count ⌝ }
-{
-    let x = texts_fault(text, header);
-    if x != 0 {
-        return x;
-    }
-    if 65535 < count {
-        return 5;
-    }
-    if header.size == 0 {
-        return 5;
-    }
-    if acb::is_space(header.space) {
-        return 0;
-    }
-    4
-}
-
-// The fault of a record's code.
-fn code_fault(given: Record) -> u32
-    ensures { λ r. ⌜ r ≡ faults byteFault (givenOf given .code) ⌝ }
-{
-    if 255 < given.a {
-        return 5;
-    }
-    if 255 < given.b {
-        return 5;
-    }
-    if 255 < given.c {
-        return 5;
-    }
-    if 255 < given.d {
-        return 5;
-    }
-    if 255 < given.e {
-        return 5;
-    }
-    if 255 < given.f {
-        return 5;
-    }
-    0
-}
-
-// The first fault of the n components of a record: three or four.
-fn components_fault(given: Record, n: usize) -> u32
-    requires { ⌜ (3 ≤ n) × (n ≤ 4) ⌝ }
-    ensures { λ r. ⌜ r ≡ faults byteFault (componentsIn n (givenOf given)) ⌝ }
-{
-    if 255 < given.k {
-        return 5;
-    }
-    if 255 < given.l {
-        return 5;
-    }
-    if 255 < given.m {
-        return 5;
-    }
-    if n == 3 {
-        return 0;
-    }
-    if 255 < given.n {
-        return 5;
-    }
-    0
-}
-
-// The first fault of a record of n components.
-fn colour_fault(text: &[u8], given: Record, n: usize) -> u32
-    requires { ⌜ (3 ≤ n) × (n ≤ 4) ⌝ }
-    ensures { λ r. ⌜ r ≡ colourFault (now (text .entry)) n (givenOf given) ⌝ }
-{
-    let x = text_fault(text, given.name);
-    if x != 0 {
-        return x;
-    }
-    let y = code_fault(given);
-    if y != 0 {
-        return y;
-    }
-    components_fault(given, n)
-}
-
-// The first fault of the count records of n components.
-fn colours_fault(run: &[u32], text: &[u8], count: usize, n: usize) -> u32
-    requires { ⌜ (12 * count ≤ length (now run)) × (3 ≤ n) × (n ≤ 4) ⌝ }
-    ensures { λ r. ⌜ r ≡ faults (colourFault (now (text .entry)) n) (givens (now (run .entry)) count 0) ⌝ }
-{
-    let mut i: usize = 0;
-    while i < count {
-        let x = colour_fault(text, record_at(run, i), n);
-        if x != 0 {
-            return x;
-        }
-        i += 1;
-    }
-    0
-}
-
-// The exact length that writing needs, or the refusal.
-pub fn write_length(header: Header, tag: Tag, records: &[u32], text: &[u8]) -> Written
-    ensures { λ r. ⌜ told r ≡ needed (now (text .entry)) (toldHeader header) (toldTag tag) (given (now (records .entry))) ⌝ }
-{
-    let n = records.len() / WIDTH;
-    let Written::Bytes(size) = size_of(header, tag, records, n) else {
-        return Written::Refused(1);
-    };
-    let x = head_fault(text, header, n);
-    if x != 0 {
-        return Written::Refused(x);
-    }
-    let y = colours_fault(records, text, n, acb::components_of(header.space));
-    if y != 0 {
-        return Written::Refused(y);
-    }
-    Written::Bytes(size)
-}
 
 // ---- storing
 
@@ -303,7 +42,7 @@ fn put_string(out: &mut [u8], at: usize, text: &[u8], lies: Text) -> usize
     ensures { λ r. ⌜ (r ≡ at + stringSize (toldText lies)) × (now (out .exit) ≡ sets (now (out .entry)) at (stringBytes (unitsIn (now (text .entry)) (toldText lies)))) ⌝ }
 {
     let first = start_of(lies);
-    let k = 2 * wide(lies.units);
+    let k = 2 * fields::wide(lies.units);
     let end = first + k;
     fields::put_u32(out, at, lies.units);
     fields::put_run(out, at + 4, &text[first..end]);
@@ -356,7 +95,7 @@ fn put_colours(out: &mut [u8], at: usize, run: &[u32], text: &[u8], count: usize
     let mut p = at;
     let mut i: usize = 0;
     while i < count {
-        p = put_colour(out, p, text, record_at(run, i), n);
+        p = put_colour(out, p, text, acb_records::record_at(run, i), n);
         i += 1;
     }
     p
@@ -428,9 +167,9 @@ fn put_file(out: &mut [u8], header: Header, tag: Tag, run: &[u32], text: &[u8], 
 // Writes the header, the records and the tag into `out`; strings and names lie in `text`. A refusal
 // changes nothing.
 pub fn write(header: Header, tag: Tag, records: &[u32], text: &[u8], out: &mut [u8]) -> Written
-    ensures { λ r. ⌜ (told r, now (out .exit)) ≡ written (now (text .entry)) (toldHeader header) (toldTag tag) (given (now (records .entry))) (now (out .entry)) ⌝ }
+    ensures { λ r. ⌜ (toldWritten r, now (out .exit)) ≡ written (now (text .entry)) (toldHeader header) (toldTag tag) (given (now (records .entry))) (now (out .entry)) ⌝ }
 {
-    match write_length(header, tag, records, text) {
+    match acb_records::write_length(header, tag, records, text) {
         Written::Refused(x) => Written::Refused(x),
         Written::Bytes(size) => {
             if out.len() < size {

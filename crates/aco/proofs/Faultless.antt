@@ -12,7 +12,7 @@ use Rattle.fields.specs.Reader.{pick}
 use Rattle.fields.specs.Text.{anyZero, Named}
 use Rattle.fields.specs.Faults.{firstOf, faults, faultsFrom}
 use Rattle.fields.proofs.Exact.{all-map, all-both, any-none, none-any}
-use Rattle.fields.proofs.Tells.{first-none, first-inv, pick-none, faults-inv, faults-none, faults-from}
+use Rattle.fields.proofs.Tells.{first-none, first-inv, pick-none, pick-some, faults-inv, faults-none, faults-from}
 use Rattle.colour.specs.Spaces.{uses, known, allowed}
 use Rattle.aco.specs.Grammar.{Swatch, Allowed, Palette}
 use Rattle.aco.specs.Faults.{spaceFault, sampleFault, fieldsFault, colourFault, nameFault, paletteFault, Fits}
@@ -33,14 +33,10 @@ colour-sound w f e =
           (all-both (λ k v. v < 256 ^ 2) (λ k v. sampleFault x k v ≡ 0) 0 (w .samples) (f .each-small) (faults-inv (sampleFault x) 0 (w .samples) (i .1)));
     }
 
-no-zero : (b : Bool) → pick {A = ℕ} b 8 0 ≡ 0 → b ≡ false
-no-zero true e = absurd (omega arith)
-no-zero false e = refl
-
 name-sound : (w : Swatch) → Fits w → nameFault w ≡ 0 → Named 4 (w .name)
 name-sound w f e = record {
   counted = f .counted;
-  units = all-both (λ k u. 0 < u) (λ k u. u < 256 ^ 2) 0 (w .name) (any-none (w .name) 0 (no-zero (anyZero (w .name)) e)) (f .units);
+  units = all-both (λ k u. 0 < u) (λ k u. u < 256 ^ 2) 0 (w .name) (any-none (w .name) 0 (pick-some (anyZero (w .name)) 8 (omega arith) e)) (f .units);
 }
 
 pub faultless-allowed : (ws : List Swatch) → All (λ k w. Fits w) 0 ws → paletteFault ws ≡ 0 → Palette ws

@@ -12,6 +12,7 @@ use Rattle.fields.specs.Numbers.{num}
 use Rattle.fields.specs.Reader.{Res, ok, refuse, Reader, then, pick, rule, field, done, mapRes, orZero, each, ended, judged, Judged, unless, fine, fault, limit}
 use Rattle.fields.specs.Text.{Name, name, place}
 use Rattle.fields.proofs.Laws.{field-in, judged-short, judged-bad, judged-ok, then-ok, done-refuse, done-const, ended-done, each-turn, turn-ok, turn-end, inner-ok}
+use Rattle.fields.proofs.Texts.{done-place}
 use Rattle.fields.proofs.Inverse.{then-inv, field-inv, judged-inv, ended-inv, done-inv, each-length}
 use Rattle.colour.specs.declared.space.Colour.{Colour}
 use Rattle.colour.specs.Spaces.{known, allowed, sound}
@@ -61,10 +62,6 @@ colour-sound s at x a b c d h ex ea eb ec ed e =
     (ap (allowed x 0) (sym ea) ∙ g .first) (ap (allowed x 1) (sym eb) ∙ g .second) (ap (allowed x 2) (sym ec) ∙ g .third) (ap (allowed x 3) (sym ed) ∙ g .fourth)
 
 -- ---- the records of list 2, where list 1 has the colours cs
-
-pub done-place : (m : Res Name) → done (place m) ≡ done m
-done-place (ok nm q) = refl
-done-place (refuse x p r f) = refl
 
 abbrev with-name : Colour → Name → Entry
 with-name c nm = record { colour = c; name = nm }

@@ -16,7 +16,7 @@ use Rattle.aco.specs.Faults.{paletteFault}
 use Rattle.aco.proofs.Inverse.{aco-inv}
 use Rattle.aco.proofs.Faultless.{allowed-faultless}
 use Rattle.aco.proofs.RoundTrip.{accepted-allowed, allowed-written}
-use Rattle.aco_write.specs.Writing.{Given, size, fault, needed, written}
+use Rattle.aco_records.specs.Writing.{Given, size, fault, needed, written}
 use Rattle.fields.specs.Writing.{bytes, refused}
 use Rattle.fields.proofs.Writing.{Wrote, writes-inv, writes-all}
 use Rattle.aco_roundtrip.specs.Tie.{made, tabled}

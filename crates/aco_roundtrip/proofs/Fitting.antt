@@ -23,8 +23,8 @@ use Rattle.aco.specs.Reading.{most}
 use Rattle.aco.specs.Faults.{fieldsFault, paletteFault, Fits}
 use Rattle.aco.specs.Faults as a
 use Rattle.aco.proofs.Whole.{length-one, length-two}
-use Rattle.aco_write.specs.Writing.{Given, givens, swatchIn, sizes, size, spaceFault, sampleFault, colourFault, nameFault, fault}
-use Rattle.aco_write.proofs.Judging.{space-is, space-small, sample-large, sample-is, name-inside}
+use Rattle.aco_records.specs.Writing.{Given, givens, swatchIn, sizes, size, spaceFault, sampleFault, colourFault, nameFault, fault}
+use Rattle.aco_records.proofs.Judging.{space-is, space-small, sample-large, sample-is, name-inside}
 use Rattle.aco_write.proofs.Puts.{length-entry}
 use Rattle.aco_roundtrip.specs.Tie.{made, Fitting}
 use Rattle.fields.proofs.Firsts.{all-image, test-holds, name-number}

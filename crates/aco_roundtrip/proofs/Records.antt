@@ -17,7 +17,7 @@ use Rattle.aco.proofs.Faultless.{allowed-fits}
 use Rattle.aco.proofs.Whole.{length-entry, length-one, length-two}
 use Rattle.aco.proofs.RoundTrip.{accepted-allowed, records-count, one-record, lists-are, Placed, records-place}
 use Rattle.aco_read.specs.Table.{row}
-use Rattle.aco_write.specs.Writing.{Given, givenAt, givens, given, swatchIn}
+use Rattle.aco_records.specs.Writing.{Given, givenAt, givens, given, swatchIn}
 use Rattle.aco_write.proofs.Puts.{four}
 use Rattle.aco_roundtrip.specs.Tie.{tabled, Fitting}
 use Rattle.fields.proofs.Firsts.{all-image, all-source}

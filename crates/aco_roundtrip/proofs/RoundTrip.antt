@@ -17,7 +17,7 @@ use Rattle.aco.specs.Reading.{Contents, aco, swatch}
 use Rattle.aco.specs.Faults.{paletteFault}
 use Rattle.aco.specs.Places.{entryPlace}
 use Rattle.aco.proofs.RoundTrip.{allowed-reads, written-number, written-allowed, two-lists, lists-agree, records-place}
-use Rattle.aco_write.specs.Writing.{Given, given, swatchIn, size, fault, needed, written}
+use Rattle.aco_records.specs.Writing.{Given, given, swatchIn, size, fault, needed, written}
 use Rattle.fields.specs.Writing.{bytes}
 use Rattle.aco_roundtrip.specs.Tie.{Holds, made, tabled, Fitting}
 use Rattle.aco_roundtrip.proofs.Fitting.{length-made, all-four, all-fit, fault-same, faultless-fit, givens-four}

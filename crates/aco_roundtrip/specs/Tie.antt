@@ -8,7 +8,7 @@ use Rattle.fields.specs.Reader.{ok}
 use Rattle.aco.specs.Grammar.{Swatch, twoLists}
 use Rattle.aco.specs.Reading.{Contents, aco, swatch}
 use Rattle.aco_read.specs.Table.{row}
-use Rattle.aco_write.specs.Writing.{Given, given, swatchIn}
+use Rattle.aco_records.specs.Writing.{Given, given, swatchIn}
 
 -- the file b is accepted to its end, with l lists, and holds the swatches ws
 abbrev pub Holds : List ℕ → ℕ → List Swatch → Type 0

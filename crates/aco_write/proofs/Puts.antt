@@ -18,9 +18,9 @@ use Rattle.fields.proofs.Exact.{length-map, length-nameBytes}
 use Rattle.colour.specs.declared.space.Colour.{Colour}
 use Rattle.aco.specs.Grammar.{Swatch, colourBytes, entryBytes, listOne, listTwo, twoLists}
 use Rattle.aco.proofs.Whole.{length-colour}
-use Rattle.aco_write.specs.Writing.{Given, givenAt, givens, swatchIn, sizes, size, nameFault}
-use Rattle.aco_write.specs.Parts.{colourIn, plain, start}
-use Rattle.aco_write.proofs.Judging.{name-inside, givens-start, givens-turn, givens-end, length-givens}
+use Rattle.aco_records.specs.Writing.{Given, givenAt, givens, swatchIn, sizes, size, nameFault}
+use Rattle.aco_records.specs.Parts.{colourIn, plain, start}
+use Rattle.aco_records.proofs.Judging.{name-inside, givens-start, givens-turn, givens-end, length-givens}
 use Rattle.fields.proofs.Storing.{as-sets, peel}
 
 -- ---- one store

@@ -11,7 +11,7 @@ use Rattle.fields.specs.Reader.{pick, stateAfter}
 use Rattle.fields.specs.Text.{anyZero, Named}
 use Rattle.fields.specs.Faults.{firstOf, faultsFrom, faultsIn}
 use Rattle.fields.proofs.Exact.{all-map, all-both, any-none, none-any}
-use Rattle.fields.proofs.Tells.{first-none, first-inv, pick-none, faults-inv, faults-none}
+use Rattle.fields.proofs.Tells.{first-none, first-inv, pick-none, pick-some, faults-inv, faults-none}
 use Rattle.fields.proofs.Chain.{in-map, in-both, all-in, in-all, in-inv, in-none}
 use Rattle.colour.specs.Models.{isModel, channelsOf}
 use Rattle.colour.specs.Channels.{allowsBits}
@@ -24,14 +24,10 @@ use Rattle.ase.proofs.Whole.{nested-steps, steps-nested}
 
 -- ---- no fault, so allowed
 
-no-zero : (b : Bool) → pick {A = ℕ} b 8 0 ≡ 0 → b ≡ false
-no-zero true e = absurd (omega arith)
-no-zero false e = refl
-
 name-sound : (us : List ℕ) → NameFits us → nameFault us ≡ 0 → Named 2 us
 name-sound us f e = record {
   counted = f .counted;
-  units = all-both (λ k u. 0 < u) (λ k u. u < 256 ^ 2) 0 us (any-none us 0 (no-zero (anyZero us) e)) (f .units);
+  units = all-both (λ k u. 0 < u) (λ k u. u < 256 ^ 2) 0 us (any-none us 0 (pick-some (anyZero us) 8 (omega arith) e)) (f .units);
 }
 
 colour-sound : (us : List ℕ) (t : ℕ) (bs : List ℕ) (k : ℕ) → ColourFits us t bs k → colourFault us t bs k ≡ 0 → Colour us t bs k

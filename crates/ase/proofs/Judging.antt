@@ -11,6 +11,7 @@ use native.Mathlib.Nat.{zero-add, add-assoc}
 use Rattle.fields.specs.Reader.{Res, ok, refuse, Reader, then, pick, rule, field, done, mapRes, each, stateAfter, chain, ended, judged, unless, limit}
 use Rattle.fields.specs.Text.{Name, name, place}
 use Rattle.fields.proofs.Laws.{field-next, judged-short, judged-bad, judged-ok, then-ok}
+use Rattle.fields.proofs.Texts.{done-place}
 use Rattle.fields.proofs.Inverse.{then-inv, ok-value, clash}
 use Rattle.colour.specs.Models.{traitsOf, modelOf, channelsOf}
 use Rattle.colour.proofs.Models.{tag-known, tag-channels, model-bad, model-good}
@@ -69,10 +70,6 @@ inside-map f b p end (refuse x q r g) h = go (eqb x 2)
     go false = refl
 
 -- ---- names, models, channels
-
-pub done-place : (m : Res Name) → done (place m) ≡ done m
-done-place (ok nm q) = refl
-done-place (refuse x p r f) = refl
 
 pub group-done : (s : List ℕ) (at : ℕ) → done (group s at) ≡ done (place (name 2 s at))
 unfolding group

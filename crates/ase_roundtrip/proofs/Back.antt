@@ -14,7 +14,7 @@ use Rattle.ase.specs.Reading.{Entry, blockOf, ase}
 use Rattle.ase.specs.Faults.{paletteFault}
 use Rattle.ase.proofs.RoundTrip.{accepted-allowed, allowed-written}
 use Rattle.fields.proofs.Writing.{Wrote, writes-inv}
-use Rattle.ase_write.specs.Writing.{Given, size, fault, needed, written}
+use Rattle.ase_records.specs.Writing.{Given, size, fault, needed, written}
 use Rattle.ase_roundtrip.specs.Tie.{made, tabled}
 use Rattle.ase_roundtrip.proofs.Fitting.{length-made, fault-same}
 use Rattle.ase_roundtrip.proofs.Records.{given-blocks, given-fit}

@@ -29,10 +29,10 @@ use Rattle.ase.specs.Faults as a
 use Rattle.ase.proofs.Tables.{known-model, model-small}
 use Rattle.ase.proofs.Laws.{length-block}
 use Rattle.ase.proofs.Whole.{length-file}
-use Rattle.ase_write.specs.Writing.{Given, givens, unitsIn, channelsIn, blockIn, sizeIn, sizes, size, nameFault, colourFault, blockFault, standingIn, fault}
+use Rattle.ase_records.specs.Writing.{Given, givens, unitsIn, channelsIn, blockIn, sizeIn, sizes, size, nameFault, colourFault, blockFault, standingIn, fault}
 use Rattle.ase_roundtrip.specs.Tie.{Words, made, NameFitting, ColourFitting, Fitting, a-start, an-end, a-colour}
 use Rattle.fields.proofs.Firsts.{test-holds, all-image}
-use Rattle.ase_write.proofs.Judging.{channels-few}
+use Rattle.ase_records.proofs.Judging.{channels-few}
 
 -- ---- values of a list
 

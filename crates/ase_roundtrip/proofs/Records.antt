@@ -24,11 +24,11 @@ use Rattle.ase.proofs.Laws.{block-inv}
 use Rattle.ase.proofs.Faultless.{allowed-fits}
 use Rattle.ase.proofs.RoundTrip.{accepted-allowed}
 use Rattle.ase_read.specs.Table.{fourOf, row}
-use Rattle.ase_write.specs.Writing.{Given, givenAt, givens, given, blockIn}
+use Rattle.ase_records.specs.Writing.{Given, givenAt, givens, given, blockIn}
 use Rattle.ase_roundtrip.specs.Tie.{taken, tabled, Fitting, a-start, an-end, a-colour}
 use Rattle.fields.proofs.Firsts.{all-image, all-source}
 use Rattle.ase_read.proofs.Answers.{row-length}
-use Rattle.ase_write.proofs.Judging.{channels-few}
+use Rattle.ase_records.proofs.Judging.{channels-few}
 
 -- ---- a run made of rows gives the records
 

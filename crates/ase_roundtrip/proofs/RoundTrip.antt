@@ -15,7 +15,7 @@ use Rattle.ase.specs.Reading.{Entry, ase}
 use Rattle.ase.specs.Faults.{paletteFault}
 use Rattle.ase.proofs.RoundTrip.{allowed-reads, written-number, written-allowed}
 use Rattle.ase_read.specs.Table.{row}
-use Rattle.ase_write.specs.Writing.{Given, given, blockIn, sizeIn, size, blockFault, fault, needed, written}
+use Rattle.ase_records.specs.Writing.{Given, given, blockIn, sizeIn, size, blockFault, fault, needed, written}
 use Rattle.ase_roundtrip.specs.Tie.{Words, Holds, made, tabled, Fitting, Alike, AllAlike}
 use Rattle.ase_roundtrip.proofs.Fitting.{length-made, all-fit, fault-same, faultless-fit, givens-words}
 use Rattle.ase_roundtrip.proofs.Records.{given-rows}

@@ -12,7 +12,7 @@ use Rattle.colour.specs.Models.{isModel, channelsOf}
 use Rattle.colour.specs.Channels.{allowsBits}
 use Rattle.ase.specs.Grammar.{Block, start, stop, colour, fileBytes}
 use Rattle.ase.specs.Reading.{deepest, standing}
-use Rattle.ase_write.specs.Writing.{Given, unitsIn, blockIn, sizeIn, sizes, nameFault, blockFault, standingIn, fault, needed, written}
+use Rattle.ase_records.specs.Writing.{Given, unitsIn, blockIn, sizeIn, sizes, nameFault, blockFault, standingIn, fault, needed, written}
 use Rattle.ase_roundtrip.specs.Tie.{Alike, starts, ends, colours, AllAlike}
 
 module _ (names : List ℕ) where

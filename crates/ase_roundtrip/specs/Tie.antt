@@ -8,7 +8,7 @@ use Rattle.fields.specs.Reader.{ok}
 use Rattle.ase.specs.Grammar.{Block, fileBytes}
 use Rattle.ase.specs.Reading.{Entry, started, stopped, coloured, blockOf, ase}
 use Rattle.ase_read.specs.Table.{fourOf}
-use Rattle.ase_write.specs.Writing.{Given, blockIn, channelsIn}
+use Rattle.ase_records.specs.Writing.{Given, blockIn, channelsIn}
 
 -- every number of a run fits 32 bits, as in a lent `&[u32]`
 abbrev pub Words : List ℕ → Type 0

@@ -20,10 +20,10 @@ use Rattle.colour.specs.declared.model.Known.{Known}
 use Rattle.colour.specs.declared.model.Known.the-variants.{Is, Unknown}
 use Rattle.colour.specs.declared.model.Model.the-variants.{Rgb, Cmyk, Lab, Gray}
 use Rattle.ase.specs.Grammar.{Block, start, stop, colour, typeOf, payload, blockBytes, fileBytes}
-use Rattle.ase_write.specs.Writing.{Given, givenAt, givens, unitsIn, channelsIn, blockIn, nameSize, sizeIn, sizes, size, nameFault}
-use Rattle.ase_write.specs.Parts.{shadeBytes, ownFault}
-use Rattle.ase_write.specs.Parts as parts
-use Rattle.ase_write.proofs.Judging.{Sort, is-start, is-stop, is-colour, head-fine, block-head, channels-few, size-start, size-stop, size-colour, name-inside, givens-start, givens-turn, givens-end, length-givens}
+use Rattle.ase_records.specs.Writing.{Given, givenAt, givens, unitsIn, channelsIn, blockIn, nameSize, sizeIn, sizes, size, nameFault}
+use Rattle.ase_records.specs.Parts.{shadeBytes, ownFault}
+use Rattle.ase_records.specs.Parts as parts
+use Rattle.ase_records.proofs.Judging.{Sort, is-start, is-stop, is-colour, head-fine, block-head, channels-few, size-start, size-stop, size-colour, name-inside, givens-start, givens-turn, givens-end, length-givens}
 use Rattle.fields.proofs.Storing.{as-sets, peel, peel-be, length-kept}
 
 -- ---- one store

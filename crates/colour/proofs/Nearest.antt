@@ -47,7 +47,7 @@ pub lead-lt : (x t : ℕ) → t < 2 ^ 23 → lead binary32 x t < 2 ^ 24
 lead-lt zero t h = omega arith
 lead-lt (suc x) t h = omega arith
 
-digit-lt : (b : ℕ) → b % 8388608 < 2 ^ 23
+pub digit-lt : (b : ℕ) → b % 8388608 < 2 ^ 23
 digit-lt b = omega arith
 
 small-exp : (e : ℕ) → e < 110 → 40 + (e - 1) ≤ 148

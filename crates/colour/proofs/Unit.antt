@@ -18,7 +18,7 @@ use lib.Ieee.Positive.{num, den, den-pos}
 use lib.Ieee.Scale.{finite}
 use Rattle.colour.specs.Channels.{inUnit}
 use Rattle.fields.proofs.Floats.{lead, value, bits-value, finite-bits}
-use Rattle.colour.proofs.Nearest.{U, E, cross, lead-lt, below-ones}
+use Rattle.colour.proofs.Nearest.{U, E, cross, lead-lt, digit-lt, below-ones}
 
 or-split : (a b : Bool) → T (a || b) → T a ⊎ T b
 or-split true b t = inl tt
@@ -110,9 +110,6 @@ unit-bits b h =
     lt-or u n = native.Mathlib.Nat.le-of-suc-le-suc (lt-of-not-le (λ k. n k))
 
 -- ---- and the other way: bits up to those of 1 are from 0 to 1
-digit-lt : (b : ℕ) → b % 8388608 < 2 ^ 23
-digit-lt b = omega arith
-
 pub value-le : (b : ℕ) → U b ≤ 0x3f80_0000 → value binary32 b ≤ 2 ^ 149
 value-le b h = go (E b) (b % 8388608) refl (eq-or-lt-of-le (most (U b) h))
   where

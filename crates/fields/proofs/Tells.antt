@@ -39,6 +39,10 @@ pub pick-none : (b : Bool) (n : ℕ) → 0 < n → pick b 0 n ≡ 0 → b ≡ tr
 pick-none true n h e = refl
 pick-none false n h e = absurd (omega arith)
 
+pub pick-some : (b : Bool) (n : ℕ) → 0 < n → pick b n 0 ≡ 0 → b ≡ false
+pick-some true n h e = absurd (omega arith)
+pick-some false n h e = refl
+
 pub faults-inv : {A : Type 0} (f : ℕ → A → ℕ) (i : ℕ) (l : List A) → faultsFrom f i l ≡ 0 → All (λ k a. f k a ≡ 0) i l
 unfolding faultsFrom
 faults-inv f i [] e = tt

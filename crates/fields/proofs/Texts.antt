@@ -15,6 +15,11 @@ use Rattle.fields.specs.Text.{isEmpty, anyZero, closed, front, Name, nam
 use Rattle.fields.proofs.Laws.{body-in, body-short}
 use Rattle.fields.proofs.Places.{length-nums}
 
+-- to take a name's place alone changes neither the next place nor a refusal
+pub done-place : (m : Res Name) → done (place m) ≡ done m
+done-place (ok nm q) = refl
+done-place (refuse x p r f) = refl
+
 -- a unit is zero in either order of its bytes
 pub swapped-zero : (x y : ℕ) → eqb (x + 256 * y) 0 ≡ eqb (x * 256 + y) 0
 swapped-zero x y = elim (ℕ-discrete (x * 256 + y) 0) [

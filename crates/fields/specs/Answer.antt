@@ -11,6 +11,9 @@ use Rattle.fields.specs.declared.number.Number64.{Number64}
 use Rattle.fields.specs.declared.number.Number64.the-variants as n64
 use Rattle.fields.specs.declared.number.Step.{Step}
 use Rattle.fields.specs.declared.number.Step.the-variants as vs
+use Rattle.fields.specs.Writing.{Outcome, bytes, refused}
+use Rattle.fields.specs.declared.store.Written.{Written}
+use Rattle.fields.specs.declared.store.Written.the-variants as vw
 use Rattle.fields.specs.declared.text.NameAt.{NameAt}
 use Rattle.fields.specs.declared.text.NameAt.the-variants as vn
 
@@ -40,3 +43,8 @@ toldStep (vs.Refused x p) = refuse x p 0 0
 abbrev pub toldName : NameAt → Res (ℕ × ℕ)
 toldName (vn.Is first units n) = ok (first, units) n
 toldName (vn.Refused x p) = refuse x p 0 0
+
+-- what a writer answers: how many bytes, or a refusal's number
+abbrev pub toldWritten : Written → Outcome
+toldWritten (vw.Bytes n) = bytes n
+toldWritten (vw.Refused x) = refused x

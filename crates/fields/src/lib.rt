@@ -20,6 +20,8 @@ pub use number::u32_at;
 pub use number::u32_or_zero;
 pub use number::u64_at;
 pub use number::u64_or_zero;
+pub use number::wide;
+pub use store::Written;
 pub use store::put_name16;
 pub use store::put_name32;
 pub use store::put_run;

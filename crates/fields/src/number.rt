@@ -37,6 +37,13 @@ pub enum Step {
     Refused(u32, usize),
 }
 
+// A 32-bit number as a place or a count.
+pub fn wide(x: u32) -> usize
+    ensures { λ r. ⌜ (r ≡ x) × (r < 4294967296) ⌝ }
+{
+    x as usize
+}
+
 fn wide16(x: u8) -> u16
     ensures { λ r. ⌜ (r ≡ x) × (r < 256) ⌝ }
 {

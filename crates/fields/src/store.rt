@@ -6,6 +6,12 @@ ghost use Rattle.fields.specs.Numbers.{be};
 ghost use Rattle.fields.specs.Text.{countedUnits};
 ghost use Rattle.fields.specs.Store.{stored};
 
+// How many bytes writing takes, or the refusal's number; its place is 0.
+pub enum Written {
+    Bytes(usize),
+    Refused(u32),
+}
+
 pub fn put_u16(out: &mut [u8], at: usize, v: u16)
     ensures { λ _. ⌜ now (out .exit) ≡ stored (now (out .entry)) at (be 2 v) ⌝ }
 {

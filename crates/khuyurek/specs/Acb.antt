@@ -14,7 +14,7 @@ use Rattle.acb_read.specs.Answer as record-of
 use Rattle.acb_show.specs.Pages.{sampleOf, dummiesIn}
 use Rattle.acb_show.specs.Answer.{Told, record-is, refused as noPage, pageOf as sampled}
 use Rattle.acb_view.specs.View.{Counted, counted, refusal as refusalView}
-use Rattle.acb_write.specs.Writing.{Given, needed, written}
+use Rattle.acb_records.specs.Writing.{Given, needed, written}
 use Rattle.khuyurek.specs.declared.books.AcbText.{AcbText}
 use Rattle.khuyurek.specs.declared.books.AcbHeader.{AcbHeader}
 use Rattle.khuyurek.specs.declared.books.AcbAnswer.{AcbAnswer}

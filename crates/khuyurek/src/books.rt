@@ -9,8 +9,8 @@ ghost use Rattle.acb_show.specs.Texts.{shownStart};
 ghost use Rattle.acb_show.specs.Answer.{toldPage};
 ghost use Rattle.acb_view.specs.View.{shownAt, pageAt, fullLength, fullNameAt};
 ghost use Rattle.acb_view.specs.Answer.{toldCount};
-ghost use Rattle.acb_write.specs.Writing.{given};
-ghost use Rattle.acb_write.specs.Answer.{told as toldWritten};
+ghost use Rattle.acb_records.specs.Writing.{given};
+ghost use Rattle.fields.specs.Answer.{toldWritten};
 ghost use Rattle.khuyurek.specs.Acb.{numberOf, headerOf, noHeader, answerOf, readOf, recordOf, fourOf, shownOf, fullOf, fullReadOf, pageOf, pageInOf, givenOf, tagOf, writtenOf, lengthOf, wroteOf};
 use acb::Answer;
 use acb::Header;
@@ -412,7 +412,7 @@ pub extern "C" fn khuyurek_acb_length(header: AcbHeader, records: &[u32], text: 
     match tag_given(header.tag) {
         Known::Unknown => AcbWritten { number: 3, size: 0 },
         Known::Is(tag) => {
-            exported_size(acb_write::write_length(header_given(header), tag, records, text))
+            exported_size(acb_records::write_length(header_given(header), tag, records, text))
         }
     }
 }

@@ -42,8 +42,8 @@ ghost use mathlib.Core.Path.{_≡_};
 ghost use Rattle.aco.specs.Reading.{aco};
 ghost use Rattle.aco.specs.Answer.{verdict, told};
 ghost use Rattle.aco_read.specs.Table.{filled, recordAt, lies, refusal};
-ghost use Rattle.aco_write.specs.Writing.{given, needed, written};
-ghost use Rattle.aco_write.specs.Answer.{told as toldWritten};
+ghost use Rattle.aco_records.specs.Writing.{given, needed, written};
+ghost use Rattle.fields.specs.Answer.{toldWritten};
 ghost use Rattle.colour.specs.Convert.{toChannel, toSample, toldChannel, toldSample};
 ghost use Rattle.colour.specs.Models.{traitsOf};
 ghost use Rattle.colour.specs.Channels.{bitsOf, modelIn};
@@ -51,8 +51,8 @@ ghost use Rattle.ase.specs.Reading.{ase};
 ghost use Rattle.ase.specs.Answer.{verdict as verdictAse, told as toldAse};
 ghost use Rattle.ase_read.specs.Table.{filled as filledAse, recordAt as recordAtAse};
 ghost use Rattle.ase_read.specs.Answer.{shown, colour as coloured};
-ghost use Rattle.ase_write.specs.Writing.{given as givenAse, needed as neededAse, written as writtenAse};
-ghost use Rattle.ase_write.specs.Answer.{told as toldWrittenAse};
+ghost use Rattle.ase_records.specs.Writing.{given as givenAse, needed as neededAse, written as writtenAse};
+ghost use Rattle.ase_records.specs.Answer.{told as toldWrittenAse};
 ghost use Rattle.khuyurek.specs.Exported.{paletteOf, paletteReadOf, plain, blockOf, wroteOfAse, wroteAseOf, answerOf, placed, recordOf, writtenOf, readOf, wroteOf, channelOf, sampleOf};
 use aco::Answer;
 use aco_read::NamePlace;
@@ -226,7 +226,7 @@ pub extern "C" fn khuyurek_aco_record_at(file: &[u8], i: usize) -> AcoRecord
 pub extern "C" fn khuyurek_aco_length(records: &[u32], text: &[u8]) -> AcoWritten
     ensures { λ r. ⌜ r ≡ writtenOf (needed (now (text .entry)) (given (now (records .entry)))) ⌝ }
 {
-    exported_length(aco_write::write_length(records, text))
+    exported_length(aco_records::write_length(records, text))
 }
 
 // Writes records, whose names lie in `text`, into `out`.
@@ -401,7 +401,7 @@ fn exported_size(w: ase_write::Written) -> AseWritten
 pub extern "C" fn khuyurek_ase_length(records: &[u32], text: &[u8]) -> AseWritten
     ensures { λ r. ⌜ r ≡ wroteOfAse (neededAse (now (text .entry)) (givenAse (now (records .entry)))) ⌝ }
 {
-    exported_size(ase_write::write_length(records, text))
+    exported_size(ase_records::write_length(records, text))
 }
 
 // Writes ASE records.

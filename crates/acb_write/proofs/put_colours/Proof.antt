@@ -1,4 +1,4 @@
-use Rattle.acb_write.proofs.Judging.{fit-start, fit-next, fit-rest, sizes-start, sizes-turn, sizes-end}
+use Rattle.acb_records.proofs.Judging.{record-whole, fit-start, fit-next, fit-rest, sizes-start, sizes-turn, sizes-end}
 use Rattle.acb_write.proofs.Puts.{puts-start, puts-turn, puts-end}
 use lib.Seq.{sets}
 use lib.ListN.{length}
@@ -8,8 +8,8 @@ use native.Mathlib.Omega.{arith}
 use Prim.Native.Nat.{_+_, _-_, _≤_}
 use Rattle.fields.specs.Numbers.{joined}
 use Rattle.acb.specs.Grammar.{colourBytes}
-use Rattle.acb_write.specs.Writing.{Given, givenAt, givens, colourIn, sizes, sizeIn}
-use Rattle.acb_write.specs.Parts.{RecordFits, RecordsFit, givenOf}
+use Rattle.acb_records.specs.Writing.{Given, givenAt, givens, colourIn, sizes, sizeIn}
+use Rattle.acb_records.specs.Parts.{RecordFits, RecordsFit, givenOf}
 use borrow.Author.Needs.{needs}
 use Rattle.acb_write.proofs.put_colours.Statement.{statement}
 use Rattle.acb_write.proofs.put_colours.Tie as tie
@@ -31,11 +31,13 @@ record-at-requires c κs = search needs
 
 put-colour-requires : tie.Need-put-colour-requires Inv-loop μ-loop
 put-colour-requires c κs = let l = c .before .before .before .loop in
-    let a = c .before .before .before .before .before .before .before .args in
+    let s = c .before .before .before .before .before .before .before in
+    let a = s .args in
+    let w = record-whole (a .run .now) (a .count) (l .i) (s .pre .0) (c .before .before .loop-test .taken) in
     let g = givenAt (a .run .now) (l .i) in
     let f = fit-next (a .text .now) (a .run .now) (a .n) (a .count) (l .i) (l .p) (length (a .out .now)) (c .before .before .loop-test .taken) (l .inv .2) in
     let r = subst (RecordFits (a .text .now) (a .n) g (l .p)) (sym (l .inv .3)) f in
-    subst (λ (k : Given). RecordFits (a .text .now) (a .n) k (l .p) (length (l .out))) (sym (c .record-at .ensures)) r
+    subst (λ (k : Given). RecordFits (a .text .now) (a .n) k (l .p) (length (l .out))) (sym (c .record-at .ensures ∙ w)) r
 
 add-i : tie.Need-add-i Inv-loop μ-loop
 add-i c = search needs
@@ -45,13 +47,15 @@ loop-less c = search needs
 
 loop-again : tie.Need-loop-again Inv-loop μ-loop
 loop-again c = let l = c .before .before .before .before .before .before .loop in
-    let a = c .before .before .before .before .before .before .before .before .before .before .args in
+    let s = c .before .before .before .before .before .before .before .before .before .before in
+    let a = s .args in
     let tk = c .before .before .before .before .before .loop-test .taken in
     let g = c .before .before .before .record-at in
+    let w = g .ensures ∙ record-whole (a .run .now) (a .count) (l .i) (s .pre .0) tk in
     let p = c .before .before .put-colour in
-    let e = p .ensures .0 ∙ ap (λ (x : Given). l .p + sizeIn (a .n) x) (g .ensures) in (
+    let e = p .ensures .0 ∙ ap (λ (x : Given). l .p + sizeIn (a .n) x) w in (
       omega arith,
-      puts-turn (a .run .now) (a .text .now) (a .n) _ (l .out) (a .count) (l .i) (l .p) (l .inv .1) (l .inv .2 .most) tk _ _ e (givenOf (g .result)) (g .ensures) (p .ensures .1),
+      puts-turn (a .run .now) (a .text .now) (a .n) _ (l .out) (a .count) (l .i) (l .p) (l .inv .1) (l .inv .2 .most) tk _ _ e (givenOf (g .result)) w (p .ensures .1),
       fit-rest (a .text .now) (a .run .now) (a .n) (a .count) (l .i) (l .p) (length (a .out .now)) tk (l .inv .2) _ e,
       p .kept .0 ∙ l .inv .3,
       omega (arith, e, sizes-turn (a .run .now) (sizeIn (a .n)) (a .count) (l .i) tk, l .inv .4),

@@ -1,14 +1,14 @@
 use Rattle.acb_write.proofs.Puts.{file-front}
-use Rattle.acb_write.proofs.Outcomes.{needed-bytes}
+use Rattle.acb_records.proofs.Outcomes.{needed-bytes}
 use Rattle.fields.proofs.Writing.{writes-no, writes-none, writes-all}
-use Rattle.acb_write.specs.Answer.{told}
+use Rattle.fields.specs.Answer.{toldWritten}
 use mathlib.Core.Path.{sym, ap, _∙_}
 use native.Mathlib.Omega.{arith}
 use Rattle.acb.specs.Answer.{toldHeader, toldTag}
 use Prim.Native.Nat.{_/_}
 use lib.ListN.{length}
 use Rattle.acb.specs.Grammar.{fileBytes}
-use Rattle.acb_write.specs.Writing.{givens, bookIn, size, fault}
+use Rattle.acb_records.specs.Writing.{givens, bookIn, size, fault}
 use borrow.Author.Needs.{needs}
 use Rattle.acb_write.proofs.write.Statement.{statement}
 use Rattle.acb_write.proofs.write.Tie as tie
@@ -29,7 +29,7 @@ returns c = let a = c .before .before .before .before .before .before .before .b
     let t = toldTag (a .tag) in
     let n = length (a .records .now) / 12 in
     let gs = givens (a .records .now) n 0 in
-    let q = sym (ap told (c .before .before .size .given .1)) ∙ c .before .before .before .before .write-length .ensures in
+    let q = sym (ap toldWritten (c .before .before .size .given .1)) ∙ c .before .before .before .before .write-length .ensures in
     writes-none (fault text h t gs) (size h t gs) (fileBytes (bookIn text h t gs)) (a .out .now) _ q (c .if1 .taken)
 
 put-file-requires : tie.Need-put-file-requires
@@ -39,7 +39,7 @@ put-file-requires c κs = let a = c .before .before .before .before .before .bef
     let t = toldTag (a .tag) in
     let n = length (a .records .now) / 12 in
     let gs = givens (a .records .now) n 0 in
-    let q = sym (ap told (c .before .before .before .size .given .1)) ∙ c .before .before .before .before .before .write-length .ensures in
+    let q = sym (ap toldWritten (c .before .before .before .size .given .1)) ∙ c .before .before .before .before .before .write-length .ensures in
     let w = needed-bytes text h t gs _ q in
     (omega arith, omega (arith, w .1, c .before .if1 .left), w .0)
 
@@ -50,7 +50,7 @@ returns-2 c = let a = c .before .before .before .before .before .before .before 
     let t = toldTag (a .tag) in
     let n = length (a .records .now) / 12 in
     let gs = givens (a .records .now) n 0 in
-    let q = sym (ap told (c .before .x .given .1)) ∙ c .before .before .before .write-length .ensures in
+    let q = sym (ap toldWritten (c .before .x .given .1)) ∙ c .before .before .before .write-length .ensures in
     writes-no (fault text h t gs) (size h t gs) (fileBytes (bookIn text h t gs)) (a .out .now) _ q
 
 same-length : tie.Need-same-length
@@ -63,7 +63,7 @@ returns-3 c = let a = c .before .before .before .before .before .before .before 
     let t = toldTag (a .tag) in
     let n = length (a .records .now) / 12 in
     let gs = givens (a .records .now) n 0 in
-    let q = sym (ap told (c .before .before .before .before .before .before .size .given .1)) ∙ c .before .before .before .before .before .before .before .before .write-length .ensures in
+    let q = sym (ap toldWritten (c .before .before .before .before .before .before .size .given .1)) ∙ c .before .before .before .before .before .before .before .before .write-length .ensures in
     let w = needed-bytes text h t gs _ q in
     let room = c .before .before .before .before .if1 .left in
     writes-all (fault text h t gs) (size h t gs) (fileBytes (bookIn text h t gs)) (a .out .now) _ q room _ (file-front (a .records .now) text h t n (a .out .now) _ (omega (arith, w .1, room)) (c .before .before .put-file .ensures))

@@ -1,6 +1,6 @@
 use Rattle.aco.proofs.Whole.{length-colour}
 use Rattle.aco_write.proofs.Puts.{puts-start, puts-turn, puts-end, colour-bytes}
-use Rattle.aco_write.specs.Parts.{plain}
+use Rattle.aco_records.specs.Parts.{plain}
 use borrow.Author.Needs.{needs}
 use native.Mathlib.Omega.{arith}
 use Prim.Native.Nat.{_+_, _*_, _-_, _≤_}
@@ -10,7 +10,7 @@ use mathlib.Core.List.{[], map}
 use lib.Seq.{sets}
 use Rattle.fields.specs.Numbers.{joined}
 use Rattle.aco.specs.Grammar.{colourBytes}
-use Rattle.aco_write.specs.Writing.{givenAt, givens, swatchIn}
+use Rattle.aco_records.specs.Writing.{givenAt, givens, swatchIn}
 use Rattle.aco_write.proofs.put_colours.Statement.{statement}
 use Rattle.aco_write.proofs.put_colours.Tie as tie
 

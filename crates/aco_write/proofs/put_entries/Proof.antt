@@ -1,5 +1,5 @@
-use Rattle.aco_write.specs.Parts.{EntryFits, EntriesFit}
-use Rattle.aco_write.proofs.Judging.{fit-start, fit-next, fit-rest}
+use Rattle.aco_records.specs.Parts.{EntryFits, EntriesFit}
+use Rattle.aco_records.proofs.Judging.{fit-start, fit-next, fit-rest}
 use Rattle.aco_write.proofs.Puts.{puts-start, puts-turn, puts-end, length-entry}
 use borrow.Author.Needs.{needs}
 use native.Mathlib.Omega.{arith}
@@ -10,7 +10,7 @@ use mathlib.Core.List.{map}
 use lib.Seq.{sets}
 use Rattle.fields.specs.Numbers.{joined}
 use Rattle.aco.specs.Grammar.{entryBytes}
-use Rattle.aco_write.specs.Writing.{givenAt, givens, swatchIn}
+use Rattle.aco_records.specs.Writing.{givenAt, givens, swatchIn}
 use Rattle.aco_write.proofs.put_entries.Statement.{statement}
 use Rattle.aco_write.proofs.put_entries.Tie as tie
 

@@ -5,9 +5,9 @@ use lib.Seq.{sets}
 use Rattle.fields.specs.Store.{stored, part}
 use Rattle.fields.specs.Text.{countedUnits}
 use Rattle.aco.specs.Grammar.{colourBytes}
-use Rattle.aco_write.specs.Writing.{givenAt}
-use Rattle.aco_write.specs.Parts.{plain, start}
-use Rattle.aco_write.proofs.Judging.{name-inside}
+use Rattle.aco_records.specs.Writing.{givenAt}
+use Rattle.aco_records.specs.Parts.{plain, start}
+use Rattle.aco_records.proofs.Judging.{name-inside}
 use Rattle.aco_write.proofs.Puts.{put-record}
 use borrow.Author.Needs.{needs}
 use Rattle.aco_write.proofs.put_entry.Statement.{statement}

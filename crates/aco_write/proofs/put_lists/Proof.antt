@@ -1,5 +1,5 @@
 use native.Mathlib.Omega.{arith}
-use Rattle.aco_write.proofs.Judging.{sizes-all, length-givens}
+use Rattle.aco_records.proofs.Judging.{sizes-all, length-givens}
 use Rattle.aco_write.proofs.Puts.{put-file}
 use borrow.Author.Needs.{needs}
 use Rattle.aco_write.proofs.put_lists.Statement.{statement}

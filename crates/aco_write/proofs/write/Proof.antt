@@ -2,14 +2,14 @@ use mathlib.Core.Path.{sym, ap, _∙_}
 use Prim.Native.Nat.{_/_}
 use native.Mathlib.Omega.{arith}
 use lib.ListN.{length}
-use Rattle.aco_write.specs.Writing.{givens, swatchIn, size, fault}
-use Rattle.aco_write.specs.Answer.{told}
-use Rattle.aco_write.proofs.Judging.{length-givens}
+use Rattle.aco_records.specs.Writing.{givens, swatchIn, size, fault}
+use Rattle.fields.specs.Answer.{toldWritten}
+use Rattle.aco_records.proofs.Judging.{length-givens}
 use Rattle.aco_write.proofs.Puts.{file-front}
 use mathlib.Core.List.{map}
 use Rattle.aco.specs.Grammar.{twoLists}
 use Rattle.fields.proofs.Writing.{writes-no, writes-none, writes-all}
-use Rattle.aco_write.proofs.Outcomes.{needed-bytes, no-fault}
+use Rattle.aco_records.proofs.Outcomes.{needed-bytes, no-fault}
 use borrow.Author.Needs.{needs}
 use Rattle.aco_write.proofs.write.Statement.{statement}
 use Rattle.aco_write.proofs.write.Tie as tie
@@ -28,14 +28,14 @@ returns c =
     let a = c .before .before .before .before .before .before .before .before .args in
     let n = length (a .records .now) / 7 in
     let gs = givens (a .records .now) n 0 in
-    writes-none (fault (a .text .now) gs) (size gs) (twoLists (map (swatchIn (a .text .now)) gs)) (a .out .now) _ (sym (ap told (c .before .before .size .given .1)) ∙ c .before .before .before .before .write-length .ensures) (c .if1 .taken)
+    writes-none (fault (a .text .now) gs) (size gs) (twoLists (map (swatchIn (a .text .now)) gs)) (a .out .now) _ (sym (ap toldWritten (c .before .before .size .given .1)) ∙ c .before .before .before .before .write-length .ensures) (c .if1 .taken)
 
 put-lists-requires : tie.Need-put-lists-requires
 put-lists-requires c κs =
     let a = c .before .before .before .before .before .before .before .before .before .args in
     let n = length (a .records .now) / 7 in
     let gs = givens (a .records .now) n 0 in
-    let w = needed-bytes (a .text .now) gs _ (sym (ap told (c .before .before .before .size .given .1)) ∙ c .before .before .before .before .before .write-length .ensures) in
+    let w = needed-bytes (a .text .now) gs _ (sym (ap toldWritten (c .before .before .before .size .given .1)) ∙ c .before .before .before .before .before .write-length .ensures) in
     let f = no-fault (a .text .now) gs (w .0) in
     let len = length-givens (a .records .now) n 0 in
     (omega arith, omega (arith, len, f .1), record { inside = omega (arith, len, w .1, c .before .if1 .left); short = omega (arith, f .0); name = f .2 })
@@ -45,7 +45,7 @@ returns-2 c =
     let a = c .before .before .before .before .before .before .before .args in
     let n = length (a .records .now) / 7 in
     let gs = givens (a .records .now) n 0 in
-    writes-no (fault (a .text .now) gs) (size gs) (twoLists (map (swatchIn (a .text .now)) gs)) (a .out .now) _ (sym (ap told (c .before .x .given .1)) ∙ c .before .before .before .write-length .ensures)
+    writes-no (fault (a .text .now) gs) (size gs) (twoLists (map (swatchIn (a .text .now)) gs)) (a .out .now) _ (sym (ap toldWritten (c .before .x .given .1)) ∙ c .before .before .before .write-length .ensures)
 
 same-length : tie.Need-same-length
 same-length c = search needs
@@ -55,7 +55,7 @@ returns-3 c =
     let a = c .before .before .before .before .before .before .before .before .before .before .before .before .args in
     let n = length (a .records .now) / 7 in
     let gs = givens (a .records .now) n 0 in
-    let q = (sym (ap told (c .before .before .before .before .before .before .size .given .1)) ∙ c .before .before .before .before .before .before .before .before .write-length .ensures) in
+    let q = (sym (ap toldWritten (c .before .before .before .before .before .before .size .given .1)) ∙ c .before .before .before .before .before .before .before .before .write-length .ensures) in
     let w = needed-bytes (a .text .now) gs _ q in
     writes-all (fault (a .text .now) gs) (size gs) (twoLists (map (swatchIn (a .text .now)) gs)) (a .out .now) _ q (c .before .before .before .before .if1 .left) _ (file-front (a .records .now) (a .text .now) n (a .out .now) _ (omega (arith, w .1, c .before .before .before .before .if1 .left)) (c .before .before .put-lists .ensures))
 

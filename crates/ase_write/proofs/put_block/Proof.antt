@@ -1,8 +1,8 @@
-use Rattle.ase_write.proofs.Judging.{size-least, size-colour, block-name, block-shade}
+use Rattle.ase_records.proofs.Judging.{size-least, size-colour, block-name, block-shade}
 use Rattle.ase_write.proofs.Puts.{sort, type-small, size-name, sort-colour, put-stop, put-start, put-colour}
 use mathlib.Core.Path.{refl}
 use native.Mathlib.Omega.{arith}
-use Rattle.ase_write.specs.Parts.{givenOf}
+use Rattle.ase_records.specs.Parts.{givenOf}
 use Prim.Native.Nat.{_-_}
 use borrow.Author.Needs.{needs}
 use Rattle.ase_write.proofs.put_block.Statement.{statement}

@@ -1,11 +1,11 @@
-use Rattle.ase_write.proofs.Judging.{fit-start, fit-next, fit-rest}
+use Rattle.ase_records.proofs.Judging.{record-whole, fit-start, fit-next, fit-rest}
 use Rattle.ase_write.proofs.Puts.{puts-start, puts-turn, puts-end}
 use lib.Seq.{sets}
 use mathlib.Core.List.{map}
 use Rattle.fields.specs.Numbers.{joined}
 use Rattle.ase.specs.Grammar.{blockBytes}
-use Rattle.ase_write.specs.Writing.{blockIn, givenAt, givens, sizeIn}
-use Rattle.ase_write.specs.Parts.{RecordFits, RecordsFit, givenOf}
+use Rattle.ase_records.specs.Writing.{blockIn, givenAt, givens, sizeIn}
+use Rattle.ase_records.specs.Parts.{RecordFits, RecordsFit, givenOf}
 use mathlib.Core.Path.{subst, _≡_, refl, sym, ap, _∙_}
 use native.Mathlib.Omega.{arith}
 use borrow.Author.Needs.{needs}
@@ -37,18 +37,21 @@ size-in-requires c κs = search needs
 put-block-requires : tie.Need-put-block-requires Inv-loop μ-loop
 put-block-requires c κs =
     let l = c .before .before .before .before .loop in
-    let a = c .before .before .before .before .before .before .before .before .args in
+    let s = c .before .before .before .before .before .before .before .before in
+    let a = s .args in
+    let w = record-whole (a .run .now) (a .n) (l .i) (s .pre .0) (c .before .before .before .loop-test .taken) in
     let g = givenAt (a .run .now) (l .i) in
     let f = fit-next (a .text .now) (a .run .now) (a .n) (l .i) (l .p) (length (a .out .now)) (c .before .before .before .loop-test .taken) (l .inv .2) in
     let r = subst (RecordFits (a .text .now) g (l .p)) (sym (l .inv .3)) f in
-    (subst (λ k. RecordFits (a .text .now) k (l .p) (length (l .out))) (sym (c .before .before .record-at .ensures)) r, c .before .size-in .ensures .0)
+    (subst (λ k. RecordFits (a .text .now) k (l .p) (length (l .out))) (sym (c .before .before .record-at .ensures ∙ w)) r, c .before .size-in .ensures .0)
 
 add-p : tie.Need-add-p Inv-loop μ-loop
 add-p c =
     let l = c .before .before .before .before .before .before .before .loop in
     let s = c .before .before .before .before .before .before .before .before .before .before .before in
     let a = s .args in
-    let e = c .before .before .before .before .size-in .ensures .0 ∙ ap (λ g. sizeIn g) (c .before .before .before .before .before .record-at .ensures) in
+    let w = record-whole (a .run .now) (a .n) (l .i) (s .pre .0) (c .before .before .before .before .before .before .loop-test .taken) in
+    let e = c .before .before .before .before .size-in .ensures .0 ∙ ap (λ g. sizeIn g) (c .before .before .before .before .before .record-at .ensures ∙ w) in
     omega (arith, fit-next (a .text .now) (a .run .now) (a .n) (l .i) (l .p) (length (a .out .now)) (c .before .before .before .before .before .before .loop-test .taken) (l .inv .2), e, s .good .0 .0)
 
 add-i : tie.Need-add-i Inv-loop μ-loop
@@ -60,12 +63,14 @@ loop-less c = search needs
 loop-again : tie.Need-loop-again Inv-loop μ-loop
 loop-again c =
     let l = c .before .before .before .before .before .before .before .loop in
-    let a = c .before .before .before .before .before .before .before .before .before .before .before .args in
+    let s = c .before .before .before .before .before .before .before .before .before .before .before in
+    let a = s .args in
     let tk = c .before .before .before .before .before .before .loop-test .taken in
     let f = fit-next (a .text .now) (a .run .now) (a .n) (l .i) (l .p) (length (a .out .now)) tk (l .inv .2) in
-    let e = c .before .before .before .before .size-in .ensures .0 ∙ ap (λ g. sizeIn g) (c .before .before .before .before .before .record-at .ensures) in (
+    let w = record-whole (a .run .now) (a .n) (l .i) (s .pre .0) tk in
+    let e = c .before .before .before .before .size-in .ensures .0 ∙ ap (λ g. sizeIn g) (c .before .before .before .before .before .record-at .ensures ∙ w) in (
       omega arith,
-      puts-turn (a .run .now) (a .text .now) _ (l .out) (a .n) (l .i) (l .p) (l .inv .1) tk _ _ e (f .sound) (givenOf (c .before .before .before .before .before .record-at .result)) (c .before .before .before .before .before .record-at .ensures) (c .before .before .put-block .ensures),
+      puts-turn (a .run .now) (a .text .now) _ (l .out) (a .n) (l .i) (l .p) (l .inv .1) tk _ _ e (f .sound) (givenOf (c .before .before .before .before .before .record-at .result)) (c .before .before .before .before .before .record-at .ensures ∙ w) (c .before .before .put-block .ensures),
       fit-rest (a .text .now) (a .run .now) (a .n) (l .i) (l .p) (length (a .out .now)) tk (l .inv .2) _ e,
       c .before .before .put-block .kept .0 ∙ l .inv .3,
     )

@@ -1,7 +1,7 @@
-use Rattle.ase_write.proofs.Judging.{sizes-all, length-givens}
+use Rattle.ase_records.proofs.Judging.{sizes-all, length-givens}
 use Rattle.ase_write.proofs.Puts.{put-file}
 use native.Mathlib.Omega.{arith}
-use Rattle.ase_write.specs.Writing.{givens}
+use Rattle.ase_records.specs.Writing.{givens}
 use Prim.Native.Nat.{_-_}
 use borrow.Author.Needs.{needs}
 use Rattle.ase_write.proofs.put_file.Statement.{statement}

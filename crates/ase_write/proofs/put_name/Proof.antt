@@ -1,8 +1,8 @@
-use Rattle.ase_write.proofs.Judging.{name-short, name-inside}
+use Rattle.ase_records.proofs.Judging.{name-short, name-inside}
 use Rattle.ase_write.proofs.Puts.{put-name}
 use Rattle.fields.specs.Store.{stored, part}
 use Rattle.fields.specs.Text.{countedUnits}
-use Rattle.ase_write.specs.Parts.{start, givenOf}
+use Rattle.ase_records.specs.Parts.{start, givenOf}
 use Prim.Native.Nat.{ℕ, _+_, _-_, _*_}
 use mathlib.Core.Path.{ap, _∙_}
 use native.Mathlib.Omega.{arith}

@@ -1,8 +1,8 @@
-use Rattle.ase_write.proofs.Judging.{shade-fine}
+use Rattle.ase_records.proofs.Judging.{shade-fine}
 use Rattle.ase_write.proofs.Puts.{put-shade}
 use mathlib.Core.Path.{refl}
 use native.Mathlib.Omega.{arith}
-use Rattle.ase_write.specs.Parts.{givenOf}
+use Rattle.ase_records.specs.Parts.{givenOf}
 use Prim.Native.Nat.{_-_}
 use borrow.Author.Needs.{needs}
 use Rattle.ase_write.proofs.put_shade.Statement.{statement}

@@ -1,8 +1,8 @@
 use Rattle.ase_write.proofs.Puts.{file-front}
-use Rattle.ase_write.proofs.Outcomes.{needed-bytes, no-fault}
+use Rattle.ase_records.proofs.Outcomes.{needed-bytes, no-fault}
 use Rattle.fields.proofs.Writing.{writes-no, writes-none, writes-all}
-use Rattle.ase_write.specs.Answer.{told}
-use Rattle.ase_write.specs.Writing.{fault, size, blockIn, givens}
+use Rattle.fields.specs.Answer.{toldWritten}
+use Rattle.ase_records.specs.Writing.{fault, size, blockIn, givens}
 use Rattle.ase.specs.Grammar.{fileBytes}
 use mathlib.Core.List.{map}
 use mathlib.Core.Path.{sym, ap, _∙_}
@@ -28,7 +28,7 @@ returns c =
     let names = a .text .now in
     let n = length (a .records .now) / 9 in
     let gs = givens (a .records .now) n 0 in
-    let q = sym (ap told (c .before .before .size .given .1)) ∙ c .before .before .before .before .write-length .ensures in
+    let q = sym (ap toldWritten (c .before .before .size .given .1)) ∙ c .before .before .before .before .write-length .ensures in
     writes-none (fault names gs) (size gs) (fileBytes (map (blockIn names) gs)) (a .out .now) _ q (c .if1 .taken)
 
 put-file-requires : tie.Need-put-file-requires
@@ -37,7 +37,7 @@ put-file-requires c κs =
     let names = a .text .now in
     let n = length (a .records .now) / 9 in
     let gs = givens (a .records .now) n 0 in
-    let q = sym (ap told (c .before .before .before .size .given .1)) ∙ c .before .before .before .before .before .write-length .ensures in
+    let q = sym (ap toldWritten (c .before .before .before .size .given .1)) ∙ c .before .before .before .before .before .write-length .ensures in
     let w = needed-bytes names gs _ q in
     let f = no-fault names gs (w .0) in
     (omega arith, record { inside = omega (arith, w .1, c .before .if1 .left); short = omega (arith, f .0); sound = f .1 })
@@ -48,7 +48,7 @@ returns-2 c =
     let names = a .text .now in
     let n = length (a .records .now) / 9 in
     let gs = givens (a .records .now) n 0 in
-    let q = sym (ap told (c .before .x .given .1)) ∙ c .before .before .before .write-length .ensures in
+    let q = sym (ap toldWritten (c .before .x .given .1)) ∙ c .before .before .before .write-length .ensures in
     writes-no (fault names gs) (size gs) (fileBytes (map (blockIn names) gs)) (a .out .now) _ q
 
 same-length : tie.Need-same-length
@@ -60,7 +60,7 @@ returns-3 c =
     let names = a .text .now in
     let n = length (a .records .now) / 9 in
     let gs = givens (a .records .now) n 0 in
-    let q = sym (ap told (c .before .before .before .before .before .before .size .given .1)) ∙ c .before .before .before .before .before .before .before .before .write-length .ensures in
+    let q = sym (ap toldWritten (c .before .before .before .before .before .before .size .given .1)) ∙ c .before .before .before .before .before .before .before .before .write-length .ensures in
     let w = needed-bytes names gs _ q in
     let room = c .before .before .before .before .if1 .left in
     writes-all (fault names gs) (size gs) (fileBytes (map (blockIn names) gs)) (a .out .now) _ q room _ (file-front (a .records .now) names n (no-fault names gs (w .0) .1) (a .out .now) _ (omega (arith, w .1, room)) (c .before .before .put-file .ensures))

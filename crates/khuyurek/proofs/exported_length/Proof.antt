@@ -1,6 +1,6 @@
 use mathlib.Core.Path.{sym, ap}
 use Rattle.khuyurek.specs.Exported.{writtenOf}
-use Rattle.aco_write.specs.Answer.{told as toldWritten}
+use Rattle.fields.specs.Answer.{toldWritten}
 use borrow.Author.Needs.{needs}
 use Rattle.khuyurek.proofs.exported_length.Statement.{statement}
 use Rattle.khuyurek.proofs.exported_length.Tie as tie

@@ -1,6 +1,6 @@
 use mathlib.Core.Path.{sym, ap}
 use Rattle.khuyurek.specs.Exported.{wroteOfAse}
-use Rattle.ase_write.specs.Answer.{told}
+use Rattle.ase_records.specs.Answer.{told}
 use borrow.Author.Needs.{needs}
 use Rattle.khuyurek.proofs.exported_size.Statement.{statement}
 use Rattle.khuyurek.proofs.exported_size.Tie as tie

@@ -1,6 +1,6 @@
 use mathlib.Core.Path.{sym, ap}
 use Rattle.khuyurek.specs.Acb.{writtenOf}
-use Rattle.acb_write.specs.Answer.{told}
+use Rattle.acb_records.specs.Answer.{told}
 use borrow.Author.Needs.{needs}
 use Rattle.khuyurek.proofs.books.exported_size.Statement.{statement}
 use Rattle.khuyurek.proofs.books.exported_size.Tie as tie

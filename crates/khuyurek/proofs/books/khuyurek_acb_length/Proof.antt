@@ -4,7 +4,7 @@ use mathlib.Core.Path.{_≡_, sym, ap, _∙_}
 use Rattle.acb.specs.Answer.{Shown, toldKnown, toldTag}
 use Rattle.acb.specs.Parts.{Found}
 use Rattle.acb.specs.declared.Known.{Known}
-use Rattle.acb_write.specs.Writing.{given, needed, written}
+use Rattle.acb_records.specs.Writing.{given, needed, written}
 use Rattle.khuyurek.specs.Acb.{writtenOf, lengthOf}
 use borrow.Author.Needs.{needs}
 use Rattle.khuyurek.proofs.books.khuyurek_acb_length.Statement.{statement}

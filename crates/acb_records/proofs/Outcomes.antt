@@ -1,0 +1,61 @@
+-- What the writer answers, on plain values. Assumes nothing.
+use Prim.Native.Nat.{ℕ, _≤_, _<_}
+use mathlib.Core.Path.{_≡_, sym, ap, _∙_}
+use mathlib.Core.List.{List}
+use lib.ListN.{length}
+use lib.Dec.{leb}
+use borrow.Author.Tests.{le-leb, lt-leb}
+use native.Mathlib.Omega.{arith}
+use Rattle.fields.specs.Reader.{limit}
+use Rattle.fields.specs.Faults.{firstOf, faults}
+use Rattle.fields.specs.Writing.{bytes, refused}
+use Rattle.fields.proofs.Tells.{first-inv}
+use Rattle.fields.proofs.Writing.{needs-no, needs-all, needs-inv}
+use Rattle.fields.proofs.Firsts.{hit, pass, test-holds}
+use Rattle.acb.specs.Grammar.{Tag}
+use Rattle.acb.specs.Reading.{componentsOf}
+use Rattle.acb.specs.Answer.{Shown}
+use Rattle.acb_records.specs.Writing.{Given, sizes, sizeIn, headSize, size, headFault, colourFault, fault, needed}
+use Rattle.acb_records.specs.Parts.{RecordsFit}
+use Rattle.acb.proofs.Laws.{components-some}
+
+module _ (text : List ℕ) (h : Shown) (t : Tag) (gs : List Given) where
+  pub too-long : limit < size h t gs → refused 1 ≡ needed text h t gs
+  unfolding fault
+  too-long k = needs-no (fault text h t gs) (size h t gs) 1 (simp (lt-leb _ _ k)) (λ z. omega arith)
+
+  module _ (fits : size h t gs ≤ limit) where
+    rest : fault text h t gs ≡ firstOf (headFault text h (length gs)) (faults (colourFault text (componentsOf (h .space))) gs)
+    unfolding fault
+    rest = simp (le-leb _ _ fits)
+
+    module _ (x : ℕ) (e : x ≡ headFault text h (length gs)) where
+      pub bad-head : (x ≡ 0 → ⊥) → refused x ≡ needed text h t gs
+      bad-head k = needs-no (fault text h t gs) (size h t gs) x (hit x _ _ e k ∙ sym rest) k
+
+      module _ (z : x ≡ 0) (y : ℕ) (w : y ≡ faults (colourFault text (componentsOf (h .space))) gs) where
+        behind : y ≡ fault text h t gs
+        behind = pass y (headFault text h (length gs)) _ x e z w ∙ sym rest
+
+        pub bad-colour : (y ≡ 0 → ⊥) → refused y ≡ needed text h t gs
+        bad-colour k = needs-no (fault text h t gs) (size h t gs) y behind k
+
+        pub all-fine : (k : ℕ) → y ≡ 0 → size h t gs ≡ k → bytes k ≡ needed text h t gs
+        all-fine k v s = needs-all (fault text h t gs) (size h t gs) k (sym behind ∙ v) s
+
+  -- what the answer says of the book
+  pub needed-bytes : (k : ℕ) → bytes k ≡ needed text h t gs → (fault text h t gs ≡ 0) × (size h t gs ≡ k)
+  needed-bytes k e = needs-inv (fault text h t gs) (size h t gs) k e
+
+  pub no-fault : fault text h t gs ≡ 0 → (headFault text h (length gs) ≡ 0) × (faults (colourFault text (componentsOf (h .space))) gs ≡ 0)
+  unfolding fault
+  no-fault e =
+      let a = test-holds (leb (size h t gs) limit) _ 1 (omega arith) e in
+      first-inv (headFault text h (length gs)) (faults (colourFault text (componentsOf (h .space))) gs) (a .1)
+
+  -- what storing the records asks, behind the header
+  pub records-fit : fault text h t gs ≡ 0 → (m p room : ℕ) → m ≡ componentsOf (h .space) → p ≡ headSize h → size h t gs ≤ room → RecordsFit text m gs p room
+  records-fit e m p room w x k =
+      let c = components-some (h .space) in
+      let z = ap (λ (j : ℕ). sizes (sizeIn j) gs) w in
+      record { least = omega (arith, w, c .0); most = omega (arith, w, c .1); inside = omega arith; sound = ap (λ (j : ℕ). faults (colourFault text j) gs) w ∙ no-fault e .1 }

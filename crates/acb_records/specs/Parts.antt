@@ -1,0 +1,64 @@
+-- What the parts of judging and storing take.
+use Prim.Native.Nat.{ℕ, _+_, _/_, _≤_}
+use mathlib.Core.Path.{_≡_}
+use mathlib.Core.List.{List, [], _∷_, _++_, map}
+use lib.Dec.{ltb, eqb}
+use lib.ListN.{length}
+use Rattle.fields.specs.Numbers.{be, joined}
+use Rattle.fields.specs.Reader.{pick}
+use Rattle.fields.specs.Faults.{faults}
+use Rattle.acb.specs.Grammar.{stringBytes}
+use Rattle.acb.specs.Answer.{Shown, toldText}
+use Rattle.acb_records.specs.declared.Record.{Record}
+use Rattle.acb_records.specs.Writing.{Given, givenAt, unitsIn, sizes, stringSize, sizeIn, textFault, colourFault}
+
+-- a record that was taken out of a run
+abbrev pub givenOf : Record → Given
+givenOf r = record {
+  name = toldText (r .name);
+  code = r .a ∷ r .b ∷ r .c ∷ r .d ∷ r .e ∷ r .f ∷ [];
+  components = r .k ∷ r .l ∷ r .m ∷ r .n ∷ [];
+}
+
+-- record k of a run, all zeros where the run does not have it whole
+abbrev pub noRecord : Given
+noRecord = record { name = (0, 0); code = 0 ∷ 0 ∷ 0 ∷ 0 ∷ 0 ∷ 0 ∷ []; components = 0 ∷ 0 ∷ 0 ∷ 0 ∷ [] }
+
+abbrev pub recordIn : List ℕ → ℕ → Given
+recordIn run k = pick (ltb k (length run / 12)) (givenAt run k) noRecord
+
+-- where a string begins; 0 for one of no units, whose place may be any
+abbrev pub start : ℕ × ℕ → ℕ
+start l = pick (eqb (l .1) 0) 0 (l .0)
+
+-- ---- parts of the bytes
+
+-- the numbers of a header behind its strings
+abbrev pub numberBytes : Shown → ℕ → List ℕ
+numberBytes h count = be 2 count ++ (be 2 (h .size) ++ (be 2 (h .offset) ++ be 2 (h .space)))
+
+-- a header before so many records
+abbrev pub headingBytes : List ℕ → Shown → ℕ → List ℕ
+headingBytes text h count = be 4 0x3842_4342 ++ (be 2 1 ++ (be 2 (h .identifier) ++ (joined stringBytes (map (unitsIn text) (h .texts)) ++ numberBytes h count)))
+
+-- ---- what storing asks: room from `at`, no fault, and three or four components
+
+pub record StringFits (text : List ℕ) (l : ℕ × ℕ) (at room : ℕ) : Type 0 where
+  pub inside : at + stringSize l ≤ room
+  pub sound : textFault text l ≡ 0
+
+pub record TextsFit (text : List ℕ) (ls : List (ℕ × ℕ)) (at room : ℕ) : Type 0 where
+  pub inside : at + sizes stringSize ls ≤ room
+  pub sound : faults (textFault text) ls ≡ 0
+
+pub record RecordFits (text : List ℕ) (n : ℕ) (g : Given) (at room : ℕ) : Type 0 where
+  pub least : 3 ≤ n
+  pub most : n ≤ 4
+  pub inside : at + sizeIn n g ≤ room
+  pub sound : colourFault text n g ≡ 0
+
+pub record RecordsFit (text : List ℕ) (n : ℕ) (gs : List Given) (at room : ℕ) : Type 0 where
+  pub least : 3 ≤ n
+  pub most : n ≤ 4
+  pub inside : at + sizes (sizeIn n) gs ≤ room
+  pub sound : faults (colourFault text n) gs ≡ 0

@@ -1,0 +1,160 @@
+-- Which fault is found first, and how long the file is, on plain values. Assumes nothing.
+use Prim.Native.Nat.{ℕ, zero, suc, _+_, _*_, _-_, _≤_, _<_}
+use mathlib.Core.Path.{_≡_, refl, sym, ap, _∙_, subst}
+use mathlib.Core.List.{List, [], _∷_}
+use mathlib.Core.Bool.{Bool, true}
+use lib.ListN.{length, getD}
+use borrow.Author.Tests.{eq-eqb, ne-eqb, le-leb, lt-leb}
+use native.Mathlib.Omega.{arith}
+use native.Mathlib.Nat.{sub-zero, lt-of-not-le}
+use native.Mathlib.Decide.{ℕ-discrete, decLe}
+use Rattle.fields.specs.Reader.{pick}
+use Rattle.fields.specs.Text.{text}
+use Rattle.fields.specs.Faults.{firstOf, faults, faultsFrom}
+use Rattle.fields.proofs.Tells.{first-none, first-zero, first-inv}
+use Rattle.fields.proofs.Texts.{text-short}
+use Rattle.colour.specs.Spaces.{uses, known, allowed, sound}
+use Rattle.colour.proofs.Laws.{sound-inv}
+use Rattle.aco_records.specs.Writing.{Given, givenAt, givens, sizes, spaceFault, sampleFault, nameFault}
+use Rattle.aco_records.specs.Parts.{start, EntryFits, EntriesFit}
+use Rattle.fields.proofs.Firsts.{hit, name-number}
+
+-- ---- the first of two faults
+
+-- ---- a colour
+
+pub space-is : (x : ℕ) (b : Bool) → b ≡ known x → spaceFault x ≡ pick b 0 4
+unfolding spaceFault
+space-is x b e = ap (λ (t : Bool). pick t 0 4) (sym e)
+
+-- no large number is a space
+pub space-large : (x : ℕ) → 65535 < x → spaceFault x ≡ 4
+unfolding spaceFault known uses
+space-large x h = simp (ne-eqb x 0 (omega arith), ne-eqb x 1 (omega arith), ne-eqb x 2 (omega arith), ne-eqb x 7 (omega arith), ne-eqb x 8 (omega arith))
+
+pub space-small : (x z : ℕ) → z ≡ spaceFault x → z ≡ 0 → x ≤ 65535
+space-small x z e h = elim (decLe x 65535) [
+  | yes k ↦ k
+  | no k ↦ absurd (omega (arith, space-large x (lt-of-not-le k)))
+]
+
+pub sample-large : (x k v : ℕ) → 65535 < v → sampleFault x k v ≡ 5
+unfolding sampleFault
+sample-large x k v h = simp (lt-leb _ _ h)
+
+pub sample-is : (x k v : ℕ) (b : Bool) → v ≤ 65535 → b ≡ allowed x k v → sampleFault x k v ≡ pick b 0 5
+unfolding sampleFault
+sample-is x k v b h e = simp (le-leb _ _ h) (ap (λ (t : Bool). pick t 0 5) (sym e))
+
+-- a sound colour whose numbers fit their fields
+sample-none : (x k v : ℕ) → v ≤ 65535 → allowed x k v ≡ true → sampleFault x k v ≡ 0
+sample-none x k v h e = sample-is x k v true h (sym e)
+
+pub colour-none : (x a b c d : ℕ) → a ≤ 65535 → b ≤ 65535 → c ≤ 65535 → d ≤ 65535 → sound x (a ∷ b ∷ c ∷ d ∷ []) ≡ true
+    → firstOf (spaceFault x) (faultsFrom (sampleFault x) 0 (a ∷ b ∷ c ∷ d ∷ [])) ≡ 0
+unfolding faultsFrom
+colour-none x a b c d ha hb hc hd e =
+    let g = sound-inv x a b c d e in
+    rw (space-is x true (sym (g .is-known)), sample-none x 0 a ha (g .first), sample-none x 1 b hb (g .second), sample-none x 2 c hc (g .third), sample-none x 3 d hd (g .fourth))
+
+-- a colour's faults in order
+pub colour-faults : (x a b c d : ℕ)
+    → firstOf (spaceFault x) (firstOf (sampleFault x 0 a) (firstOf (sampleFault x 1 b) (firstOf (sampleFault x 2 c) (sampleFault x 3 d))))
+    ≡ firstOf (spaceFault x) (faultsFrom (sampleFault x) 0 (a ∷ b ∷ c ∷ d ∷ []))
+unfolding faultsFrom
+colour-faults x a b c d = ap (λ (k : ℕ). firstOf (spaceFault x) (firstOf (sampleFault x 0 a) (firstOf (sampleFault x 1 b) (firstOf (sampleFault x 2 c) k)))) (sym (first-zero (sampleFault x 3 d)))
+
+-- ---- a name
+
+-- a name without a fault lies in the lent bytes, from where its copy starts
+pub name-inside : (names : List ℕ) (g : Given) → nameFault names g ≡ 0 → start g + 2 * g .units ≤ length names
+name-inside names g e = elim (ℕ-discrete (g .units) 0) [
+  | yes z ↦ rw (eq-eqb (g .units) 0 z) (omega arith)
+  | no z ↦ rw (ne-eqb (g .units) 0 z) (let h = fits in omega arith)
+]
+  where
+    fits : g .units * 2 ≤ length names - g .first
+    fits = elim (decLe (g .units * 2) (length names - g .first)) [
+      | yes h ↦ h
+      | no h ↦ absurd (omega (arith, name-number (text (g .units) names (g .first)) _ (sym (text-short (g .units) names (g .first) (lt-of-not-le h)))))
+    ]
+
+-- ---- a loop over the records of a run
+
+module _ (run : List ℕ) where
+  pub givens-turn : (n i : ℕ) → i < n → givens run (n - i) i ≡ givenAt run i ∷ givens run (n - (i + 1)) (i + 1)
+  unfolding givens
+  givens-turn n i h = let e : n - i ≡ suc (n - (i + 1)) = omega arith in ap (λ (k : ℕ). givens run k i) e
+
+  pub givens-end : (n i : ℕ) → n ≤ i → givens run (n - i) i ≡ []
+  unfolding givens
+  givens-end n i h = let e : n - i ≡ 0 = omega arith in ap (λ (k : ℕ). givens run k i) e
+
+  pub givens-start : (n : ℕ) → givens run n 0 ≡ givens run (n - 0) 0
+  givens-start n = ap (λ (k : ℕ). givens run k 0) (sym (sub-zero n))
+
+  pub length-givens : (n k : ℕ) → length (givens run n k) ≡ n
+  unfolding givens
+  length-givens zero k = refl
+  length-givens (suc n) k = ap suc (length-givens n (k + 1))
+
+  pub sizes-turn : (n i : ℕ) → i < n → sizes (givens run (n - i) i) ≡ 26 + 2 * getD run (7 * i + 6) 0 + sizes (givens run (n - (i + 1)) (i + 1))
+  unfolding sizes
+  sizes-turn n i h = ap sizes (givens-turn n i h)
+
+  pub sizes-end : (n i : ℕ) → n ≤ i → sizes (givens run (n - i) i) ≡ 0
+  unfolding sizes
+  sizes-end n i h = ap sizes (givens-end n i h)
+
+  pub sizes-all : (n k : ℕ) → 26 * n ≤ sizes (givens run n k)
+  unfolding sizes givens
+  sizes-all zero k = omega arith
+  sizes-all (suc n) k = let h = sizes-all n (k + 1) in omega arith
+
+-- what is left has the first fault of all
+module _ (f : Given → ℕ) (run : List ℕ) where
+  faults-turn : (n i : ℕ) → i < n → faults f (givens run (n - i) i) ≡ firstOf (f (givenAt run i)) (faults f (givens run (n - (i + 1)) (i + 1)))
+  unfolding faults
+  faults-turn n i h = ap (faults f) (givens-turn run n i h)
+
+  pub faults-start : (n : ℕ) → faults f (givens run n 0) ≡ faults f (givens run (n - 0) 0)
+  faults-start n = ap (faults f) (givens-start run n)
+
+  -- no fault in what is left, so none in the next record
+  pub faults-none : (n i : ℕ) → i < n → faults f (givens run (n - i) i) ≡ 0 → (f (givenAt run i) ≡ 0) × (faults f (givens run (n - (i + 1)) (i + 1)) ≡ 0)
+  faults-none n i h e = first-inv _ _ (sym (faults-turn n i h) ∙ e)
+
+  module _ (all n i : ℕ) (inv : all ≡ faults f (givens run (n - i) i)) where
+    pub faults-found : i < n → (r : ℕ) → r ≡ f (givenAt run i) → (r ≡ 0 → ⊥) → r ≡ all
+    faults-found h r e z = hit r _ _ e z ∙ sym (inv ∙ faults-turn n i h)
+
+    pub faults-more : i < n → (r : ℕ) → r ≡ f (givenAt run i) → r ≡ 0 → all ≡ faults f (givens run (n - (i + 1)) (i + 1))
+    faults-more h r e z = inv ∙ faults-turn n i h ∙ first-none _ _ (sym e ∙ z)
+
+    pub faults-end : n ≤ i → 0 ≡ all
+    unfolding faults
+    faults-end h = sym (inv ∙ ap (faults f) (givens-end run n i h))
+
+-- ---- what storing list 2 asks
+
+module _ (names run : List ℕ) where
+  pub fit-start : (n at room : ℕ) → EntriesFit names (givens run n 0) at room → EntriesFit names (givens run (n - 0) 0) at room
+  fit-start n at room e = subst (λ (gs : List Given). EntriesFit names gs at room) (givens-start run n) e
+
+  module _ (n i at room : ℕ) (h : i < n) (e : EntriesFit names (givens run (n - i) i) at room) where
+    none : (nameFault names (givenAt run i) ≡ 0) × (faults (nameFault names) (givens run (n - (i + 1)) (i + 1)) ≡ 0)
+    none = faults-none (nameFault names) run n i h (e .name)
+
+    pub fit-next : EntryFits names (givenAt run i) at room
+    fit-next =
+        let t = sizes-turn run n i h in
+        let l = length-givens run (n - i) i in
+        let m = sizes-all run (n - (i + 1)) (i + 1) in
+        record { inside = omega (arith, e .inside); short = omega (arith, e .short); name = none .0 }
+
+    pub fit-rest : (k : ℕ) → 16 + 2 * givenAt run i .units ≡ k → EntriesFit names (givens run (n - (i + 1)) (i + 1)) (at + k) room
+    fit-rest k w =
+        let t = sizes-turn run n i h in
+        let l = length-givens run (n - i) i in
+        let m = length-givens run (n - (i + 1)) (i + 1) in
+        record { inside = omega (arith, e .inside); short = omega (arith, e .short); name = none .1 }

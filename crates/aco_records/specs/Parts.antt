@@ -1,0 +1,37 @@
+-- What the stores of a record take of it.
+use Prim.Native.Nat.{ℕ, _+_, _*_, _%_, _≤_}
+use mathlib.Core.Path.{_≡_}
+use mathlib.Core.List.{List, [], map}
+use lib.Dec.{eqb}
+use lib.ListN.{length}
+use Rattle.fields.specs.Reader.{pick, limit}
+use Rattle.fields.specs.Faults.{faults}
+use Rattle.colour.specs.declared.space.Colour.{Colour}
+use Rattle.aco.specs.Grammar.{Swatch}
+use Rattle.aco_records.specs.Writing.{Given, sizes, nameFault}
+
+-- its colour, each number cut to its field
+abbrev pub colourIn : Given → Colour
+colourIn g = record { space = g .space % 65536; samples = map (λ v. v % 65536) (g .samples) }
+
+-- a colour as a swatch with no name
+abbrev pub plain : Colour → Swatch
+plain c = record { space = c .space; samples = c .samples; name = [] }
+
+-- where its name begins; 0 for a name of no units, whose place may be any
+abbrev pub start : Given → ℕ
+start g = pick (eqb (g .units) 0) 0 (g .first)
+
+-- ---- what storing list 2 asks
+
+-- a record from `at`: room for it, a count of 32 bits, and a name without a fault
+pub record EntryFits (names : List ℕ) (g : Given) (at room : ℕ) : Type 0 where
+  pub inside : at + (16 + 2 * g .units) ≤ room
+  pub short : 2 * g .units ≤ limit
+  pub name : nameFault names g ≡ 0
+
+-- the same of some records, whose ten bytes of list 1 are not stored here
+pub record EntriesFit (names : List ℕ) (gs : List Given) (at room : ℕ) : Type 0 where
+  pub inside : at + sizes gs ≤ room + 10 * length gs
+  pub short : sizes gs ≤ limit
+  pub name : faults (nameFault names) gs ≡ 0
