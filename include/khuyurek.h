@@ -18,6 +18,13 @@ extern "C" {
 /* The longest file that is taken or written, in bytes: a longer one is 1. */
 #define KHUYUREK_LIMIT 16777216u
 
+/* What a writer answers. number 0: accepted, with the length in bytes. Else the
+ * refusal; its place is 0. */
+typedef struct {
+    uint32_t number;
+    size_t length;
+} khuyurek_length;
+
 /* ---- ACO */
 
 /* The numbers of a record in a table or run: space, four samples, place of the
@@ -49,12 +56,6 @@ typedef struct {
     uint16_t samples[4];
 } khuyurek_aco_record;
 
-/* number 0: accepted, with the length in bytes. Else the refusal; its place is 0. */
-typedef struct {
-    uint32_t number;
-    size_t length;
-} khuyurek_aco_written;
-
 /* number 0: given, with the bits of the channel, an IEEE 754 float of 32 bits.
  * Else the refusal, whose place is 0; bits is 0. */
 typedef struct {
@@ -81,12 +82,12 @@ khuyurek_aco_record khuyurek_aco_record_at(const uint8_t *file, size_t file_len,
 
 /* The exact length that writing needs. A remainder of fewer than
  * KHUYUREK_ACO_WIDTH numbers is left alone. */
-khuyurek_aco_written khuyurek_aco_length(const uint32_t *records, size_t records_len,
-                                         const uint8_t *text, size_t text_len);
+khuyurek_length khuyurek_aco_length(const uint32_t *records, size_t records_len,
+                                    const uint8_t *text, size_t text_len);
 
-khuyurek_aco_written khuyurek_aco_write(const uint32_t *records, size_t records_len,
-                                        const uint8_t *text, size_t text_len,
-                                        uint8_t *out, size_t out_len);
+khuyurek_length khuyurek_aco_write(const uint32_t *records, size_t records_len,
+                                   const uint8_t *text, size_t text_len,
+                                   uint8_t *out, size_t out_len);
 
 /* ---- ASE */
 
@@ -123,12 +124,6 @@ typedef struct {
     uint32_t type;
 } khuyurek_ase_record;
 
-/* number 0: accepted, with the length in bytes. Else the refusal; its place is 0. */
-typedef struct {
-    uint32_t number;
-    size_t length;
-} khuyurek_ase_written;
-
 khuyurek_ase_answer khuyurek_ase_judge(const uint8_t *file, size_t file_len);
 
 /* Needs KHUYUREK_ASE_WIDTH * blocks numbers of the table, else 11; the rest of it
@@ -142,12 +137,12 @@ khuyurek_ase_record khuyurek_ase_record_at(const uint8_t *file, size_t file_len,
 
 /* The exact length that writing needs. A remainder of fewer than
  * KHUYUREK_ASE_WIDTH numbers is left alone. */
-khuyurek_ase_written khuyurek_ase_length(const uint32_t *records, size_t records_len,
-                                         const uint8_t *text, size_t text_len);
+khuyurek_length khuyurek_ase_length(const uint32_t *records, size_t records_len,
+                                    const uint8_t *text, size_t text_len);
 
-khuyurek_ase_written khuyurek_ase_write(const uint32_t *records, size_t records_len,
-                                        const uint8_t *text, size_t text_len,
-                                        uint8_t *out, size_t out_len);
+khuyurek_length khuyurek_ase_write(const uint32_t *records, size_t records_len,
+                                   const uint8_t *text, size_t text_len,
+                                   uint8_t *out, size_t out_len);
 
 /* ---- ACB */
 
@@ -218,12 +213,6 @@ typedef struct {
     size_t place;
 } khuyurek_acb_page;
 
-/* number 0: accepted, with the length in bytes. Else the refusal; its place is 0. */
-typedef struct {
-    uint32_t number;
-    size_t length;
-} khuyurek_acb_written;
-
 khuyurek_acb_answer khuyurek_acb_judge(const uint8_t *file, size_t file_len);
 
 /* Needs KHUYUREK_ACB_WIDTH * count numbers of the table, else 11; the rest of it keeps
@@ -266,14 +255,14 @@ khuyurek_acb_page khuyurek_acb_page_in(const uint32_t *table, size_t table_len, 
 
 /* The exact length that writing needs: 3 for an unknown tag, before all else. A remainder
  * of fewer than KHUYUREK_ACB_WIDTH numbers is left alone. */
-khuyurek_acb_written khuyurek_acb_length(khuyurek_acb_header header,
-                                         const uint32_t *records, size_t records_len,
-                                         const uint8_t *text, size_t text_len);
+khuyurek_length khuyurek_acb_length(khuyurek_acb_header header,
+                                    const uint32_t *records, size_t records_len,
+                                    const uint8_t *text, size_t text_len);
 
-khuyurek_acb_written khuyurek_acb_write(khuyurek_acb_header header,
-                                        const uint32_t *records, size_t records_len,
-                                        const uint8_t *text, size_t text_len,
-                                        uint8_t *out, size_t out_len);
+khuyurek_length khuyurek_acb_write(khuyurek_acb_header header,
+                                   const uint32_t *records, size_t records_len,
+                                   const uint8_t *text, size_t text_len,
+                                   uint8_t *out, size_t out_len);
 
 /* ---- descriptors */
 

@@ -71,7 +71,7 @@ static int aco(void) {
     CHECK(khuyurek_aco_record_at(P3, sizeof P3, 1).number == 12);
 
     CHECK(khuyurek_aco_length(table, KHUYUREK_ACO_WIDTH, P3, sizeof P3).length == sizeof P3);
-    khuyurek_aco_written written =
+    khuyurek_length written =
         khuyurek_aco_write(table, KHUYUREK_ACO_WIDTH, P3, sizeof P3, out, sizeof out);
     CHECK(written.number == 0 && written.length == sizeof P3);
     CHECK(memcmp(out, P3, sizeof P3) == 0 && out[36] == 7);
@@ -103,7 +103,7 @@ static int ase(void) {
     CHECK(khuyurek_ase_record_at(P6, sizeof P6, 1).number == 12);
 
     CHECK(khuyurek_ase_length(table, KHUYUREK_ASE_WIDTH, P6, sizeof P6).length == sizeof P6);
-    khuyurek_ase_written written =
+    khuyurek_length written =
         khuyurek_ase_write(table, KHUYUREK_ASE_WIDTH, P6, sizeof P6, out, sizeof out);
     CHECK(written.number == 0 && written.length == sizeof P6);
     CHECK(memcmp(out, P6, sizeof P6) == 0 && out[32] == 7);
@@ -159,7 +159,7 @@ static int acb(void) {
 
     CHECK(khuyurek_acb_length(read.header, table, KHUYUREK_ACB_WIDTH, BOOK, sizeof BOOK).length
           == sizeof BOOK);
-    khuyurek_acb_written written = khuyurek_acb_write(
+    khuyurek_length written = khuyurek_acb_write(
         read.header, table, KHUYUREK_ACB_WIDTH, BOOK, sizeof BOOK, out, sizeof out);
     CHECK(written.number == 0 && written.length == sizeof BOOK);
     CHECK(memcmp(out, BOOK, sizeof BOOK) == 0 && out[sizeof BOOK] == 7);

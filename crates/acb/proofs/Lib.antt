@@ -1,5 +1,4 @@
 -- Laws of the definitions of specs/. The theorems that a user cares about stand in RoundTrip.
-pub mod Judging
 pub mod Laws
 pub mod Whole
 pub mod Faultless

@@ -1,5 +1,3 @@
 pub mod Grammar
 pub mod Reading
 pub mod Faults
-pub mod Parts
-pub mod Answer

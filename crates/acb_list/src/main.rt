@@ -3,11 +3,11 @@
 ghost use mathlib.Core.Path.{_≡_};
 ghost use Prim.Native.Nat.{_≤_, _<_};
 ghost use lib.ListN.{length};
-use acb::Answer;
-use acb::Header;
-use acb::Tag;
-use acb::Text;
 use acb::WIDTH;
+use acb_judge::Answer;
+use acb_judge::Header;
+use acb_judge::Tag;
+use acb_judge::Text;
 use acb_show::Page;
 use listing::finish;
 use listing::put;
@@ -191,7 +191,7 @@ fn put_listing(out: &mut [u8], file: &[u8]) -> usize {
             count,
             first: _,
         } => {
-            let components = acb::components_of(header.space);
+            let components = acb_judge::components_of(header.space);
             let size = header.size;
             let offset = header.offset;
             let mut at = put_heading(out, header, tag, count);

@@ -14,7 +14,7 @@ use Rattle.fields.specs.Store.{part}
 use Rattle.fields.proofs.Places.{length-joined}
 use Rattle.acb.specs.Grammar.{Tag}
 use Rattle.acb.specs.Reading.{Entry, componentsOf, Contents, acb}
-use Rattle.acb.specs.Answer.{Shown as Heading, Verdict, accepted, refused, verdict}
+use Rattle.acb_judge.specs.Answer.{Shown as Heading, Verdict, accepted, refused, verdict}
 use Rattle.acb_read.specs.Table.{row, filled, Found, found, missing, blank, recordAt, nameBytesIn}
 use Rattle.acb_read.specs.Raw.{nextRecord, recordPlace, rawRow, entriesOf, Accepted}
 use Rattle.acb_read.specs.Answer.{Where, lies, refusal, Shown, shown}

@@ -8,12 +8,12 @@ ghost use Rattle.fields.specs.Numbers.{joined};
 ghost use Rattle.fields.specs.Reader.{limit};
 ghost use Rattle.fields.specs.Store.{part};
 ghost use Rattle.acb.specs.Reading.{acb};
-ghost use Rattle.acb.specs.Answer.{told};
+ghost use Rattle.acb_judge.specs.Answer.{told};
 ghost use Rattle.acb_read.specs.Table.{row, filled, recordAt, missing, nameBytesIn};
 ghost use Rattle.acb_read.specs.Raw.{nextRecord, recordPlace, fourthAt, rawRow, entriesOf, Accepted};
 ghost use Rattle.acb_read.specs.Answer.{shown, toldSwatch};
-use acb::Answer;
 use acb::WIDTH;
+use acb_judge::Answer;
 
 // Where a record's name lies, or a refusal.
 pub enum NamePlace {
@@ -202,7 +202,7 @@ fn none(number: u32, place: usize) -> Swatch
 pub fn read(file: &[u8], table: &mut [u32]) -> Answer
     ensures { λ r. ⌜ (told r, now (table .exit)) ≡ filled (acb (now (file .entry))) (now (table .entry)) ⌝ }
 {
-    match acb::judge(file) {
+    match acb_judge::judge(file) {
         Answer::Refused { number, place } => Answer::Refused { number, place },
         Answer::Accepted {
             header,
@@ -216,7 +216,13 @@ pub fn read(file: &[u8], table: &mut [u32]) -> Answer
                     place: 0,
                 };
             }
-            fill(file, count, first, acb::components_of(header.space), table);
+            fill(
+                file,
+                count,
+                first,
+                acb_judge::components_of(header.space),
+                table,
+            );
             Answer::Accepted {
                 header,
                 tag,
@@ -231,7 +237,7 @@ pub fn read(file: &[u8], table: &mut [u32]) -> Answer
 pub fn record_at(file: &[u8], i: usize) -> Swatch
     ensures { λ r. ⌜ toldSwatch r ≡ shown (recordAt i (acb (now (file .entry)))) ⌝ }
 {
-    match acb::judge(file) {
+    match acb_judge::judge(file) {
         Answer::Refused { number, place } => none(number, place),
         Answer::Accepted {
             header,
@@ -242,7 +248,13 @@ pub fn record_at(file: &[u8], i: usize) -> Swatch
             if count <= i {
                 return none(12, 0);
             }
-            found(file, count, first, acb::components_of(header.space), i)
+            found(
+                file,
+                count,
+                first,
+                acb_judge::components_of(header.space),
+                i,
+            )
         }
     }
 }

@@ -15,7 +15,7 @@ use Rattle.fields.proofs.Laws.{body-in, body-short}
 use Rattle.fields.proofs.Tells.{first-inv, pick-none}
 use Rattle.fields.proofs.Firsts.{hit, pass}
 use Rattle.acb.specs.Reading.{isSpace, componentsOf}
-use Rattle.acb.specs.Answer.{Shown}
+use Rattle.acb_judge.specs.Answer.{Shown}
 use Rattle.acb_records.specs.Writing.{Given, givenAt, givens, componentsIn, sizes, stringSize, sizeIn, textFault, byteFault, headFault, colourFault}
 use Rattle.acb_records.specs.Parts.{noRecord, recordIn, start, RecordFits, RecordsFit}
 

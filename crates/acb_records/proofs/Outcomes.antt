@@ -14,7 +14,7 @@ use Rattle.fields.proofs.Writing.{needs-no, needs-all, needs-inv}
 use Rattle.fields.proofs.Firsts.{hit, pass, test-holds}
 use Rattle.acb.specs.Grammar.{Tag}
 use Rattle.acb.specs.Reading.{componentsOf}
-use Rattle.acb.specs.Answer.{Shown}
+use Rattle.acb_judge.specs.Answer.{Shown}
 use Rattle.acb_records.specs.Writing.{Given, sizes, sizeIn, headSize, size, headFault, colourFault, fault, needed}
 use Rattle.acb_records.specs.Parts.{RecordsFit}
 use Rattle.acb.proofs.Laws.{components-some}

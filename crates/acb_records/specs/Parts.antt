@@ -8,7 +8,7 @@ use Rattle.fields.specs.Numbers.{be, joined}
 use Rattle.fields.specs.Reader.{pick}
 use Rattle.fields.specs.Faults.{faults}
 use Rattle.acb.specs.Grammar.{stringBytes}
-use Rattle.acb.specs.Answer.{Shown, toldText}
+use Rattle.acb_judge.specs.Answer.{Shown, toldText}
 use Rattle.acb_records.specs.declared.Record.{Record}
 use Rattle.acb_records.specs.Writing.{Given, givenAt, unitsIn, sizes, stringSize, sizeIn, textFault, colourFault}
 

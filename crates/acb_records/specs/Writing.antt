@@ -9,7 +9,7 @@ use Rattle.fields.specs.Faults.{firstOf, faults}
 use Rattle.fields.specs.Writing.{Outcome, needs, writes}
 use Rattle.acb.specs.Grammar.{Colour, Tag, none, spot, process, Book, fileBytes}
 use Rattle.acb.specs.Reading.{isSpace, componentsOf}
-use Rattle.acb.specs.Answer.{Shown}
+use Rattle.acb_judge.specs.Answer.{Shown}
 
 -- ---- the records of a run
 

@@ -7,14 +7,14 @@ ghost use lib.ListN.{length};
 ghost use Rattle.fields.specs.Reader.{pick, limit};
 ghost use Rattle.fields.specs.Faults.{faults};
 ghost use Rattle.fields.specs.Writing.{bytes, refused};
-ghost use Rattle.acb.specs.Answer.{toldText, toldHeader, toldTag};
+ghost use Rattle.acb_judge.specs.Answer.{toldText, toldHeader, toldTag};
 ghost use Rattle.acb_records.specs.Writing.{givenAt, givens, given, componentsIn, stringSize, tagSize, headSize, size, textFault, byteFault, headFault, colourFault, fault, needed};
 ghost use Rattle.fields.specs.Answer.{toldWritten};
 ghost use Rattle.acb_records.specs.Parts.{givenOf, noRecord, recordIn};
-use acb::Header;
-use acb::Tag;
-use acb::Text;
 use acb::WIDTH;
+use acb_judge::Header;
+use acb_judge::Tag;
+use acb_judge::Text;
 use fields::Written;
 
 // A record of a run: where its name lies, the six code bytes a to f, the components k to n.
@@ -118,7 +118,7 @@ fn size_of(header: Header, tag: Tag, run: &[u32], n: usize) -> Written
     requires { ⌜ 12 * n ≤ length (now run) ⌝ }
     ensures { λ r. ⌜ toldWritten r ≡ pick (leb (size (toldHeader header) (toldTag tag) (givens (now (run .entry)) n 0)) limit) (bytes (size (toldHeader header) (toldTag tag) (givens (now (run .entry)) n 0))) (refused 1) ⌝ }
 {
-    let tones = 6 + acb::components_of(header.space);
+    let tones = 6 + acb_judge::components_of(header.space);
     let mut total = head_size(header) + tag_size(tag);
     if acb::LIMIT < total {
         return Written::Refused(1);
@@ -187,7 +187,7 @@ fn head_fault(text: &[u8], header: Header, count: usize) -> u32
     if header.size == 0 {
         return 5;
     }
-    if acb::is_space(header.space) {
+    if acb_judge::is_space(header.space) {
         return 0;
     }
     4
@@ -285,7 +285,7 @@ pub fn write_length(header: Header, tag: Tag, records: &[u32], text: &[u8]) -> W
     if x != 0 {
         return Written::Refused(x);
     }
-    let y = colours_fault(records, text, n, acb::components_of(header.space));
+    let y = colours_fault(records, text, n, acb_judge::components_of(header.space));
     if y != 0 {
         return Written::Refused(y);
     }

@@ -12,7 +12,7 @@ use Rattle.fields.specs.Writing.{bytes, refused, needs, writes}
 use Rattle.fields.proofs.Writing.{Wrote, writes-inv}
 use Rattle.acb.specs.Grammar.{Tag, Book, fileBytes, File, file}
 use Rattle.acb.specs.Reading.{Contents, bookOf, acb}
-use Rattle.acb.specs.Answer.{Shown, shown}
+use Rattle.acb_judge.specs.Answer.{Shown, shown}
 use Rattle.acb.specs.Faults.{bookFault}
 use Rattle.acb.proofs.RoundTrip.{accepted-allowed, allowed-written}
 use Rattle.acb_records.specs.Writing.{Given, size, fault, needed, written}

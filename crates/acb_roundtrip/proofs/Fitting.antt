@@ -18,7 +18,7 @@ use Rattle.fields.proofs.Tells.{first-none, first-zero, first-inv, pick-none, f
 use Rattle.fields.proofs.Firsts.{test-holds, all-image}
 use Rattle.acb.specs.Grammar.{Tag, String, Swatch}
 use Rattle.acb.specs.Reading.{isSpace, componentsOf}
-use Rattle.acb.specs.Answer.{Shown}
+use Rattle.acb_judge.specs.Answer.{Shown}
 use Rattle.acb.specs.Faults.{bookFault, BookFits}
 use Rattle.acb_records.specs.Writing.{Given, unitsIn, componentsIn, colourIn, bookIn, sizes, stringSize, sizeIn, size, textFault, byteFault, headFault, colourFault, fault}
 use Rattle.acb_records.proofs.Judging.{text-in, text-cut}

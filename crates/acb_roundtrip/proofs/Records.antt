@@ -16,7 +16,7 @@ use Rattle.fields.proofs.Exact.{all-map, all-both, length-map}
 use Rattle.fields.proofs.Firsts.{all-image, all-source}
 use Rattle.acb.specs.Grammar.{Colour, Book, String, Swatch, Allowed, File, file}
 use Rattle.acb.specs.Reading.{string, Entry, colour, componentsOf, Header, strings, numbers, opening, header, closing, Contents, book, acb, colourOf, bookOf}
-use Rattle.acb.specs.Answer.{lies, shown}
+use Rattle.acb_judge.specs.Answer.{lies, shown}
 use Rattle.acb.proofs.Laws.{components-some, space-components, space-small}
 use Rattle.acb.proofs.RoundTrip.{accepted-allowed}
 use Rattle.acb_read.specs.Table.{sixOf, fourOf, row}

@@ -13,7 +13,7 @@ use Rattle.fields.specs.Writing.{bytes}
 use Rattle.fields.proofs.Firsts.{test-holds}
 use Rattle.acb.specs.Grammar.{Tag, Book, fileBytes}
 use Rattle.acb.specs.Reading.{Entry, Contents, componentsOf, acb}
-use Rattle.acb.specs.Answer.{Shown, shown}
+use Rattle.acb_judge.specs.Answer.{Shown, shown}
 use Rattle.acb.specs.Faults.{bookFault}
 use Rattle.acb.proofs.RoundTrip.{allowed-reads, written-number, written-allowed}
 use Rattle.acb_read.specs.Table.{row}

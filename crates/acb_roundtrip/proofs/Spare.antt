@@ -9,7 +9,7 @@ use Rattle.fields.specs.Faults.{firstOf, faults}
 use Rattle.fields.specs.Writing.{needs, writes}
 use Rattle.acb.specs.Grammar.{Colour, Tag, fileBytes}
 use Rattle.acb.specs.Reading.{componentsOf}
-use Rattle.acb.specs.Answer.{Shown}
+use Rattle.acb_judge.specs.Answer.{Shown}
 use Rattle.acb_records.specs.Writing.{Given, unitsIn, colourIn, sizes, sizeIn, tagSize, headSize, textFault, byteFault, headFault, colourFault, fault, needed, written}
 use Rattle.acb_roundtrip.specs.Tie.{Alike, AllAlike}
 

@@ -7,7 +7,7 @@ use Rattle.fields.specs.Numbers.{All}
 use Rattle.fields.specs.Reader.{ok}
 use Rattle.acb.specs.Grammar.{Tag, Book, fileBytes}
 use Rattle.acb.specs.Reading.{Entry, Contents, bookOf, componentsOf, acb}
-use Rattle.acb.specs.Answer.{Shown}
+use Rattle.acb_judge.specs.Answer.{Shown}
 use Rattle.acb_read.specs.Table.{sixOf, fourOf}
 use Rattle.acb_records.specs.Writing.{Given, componentsIn, bookIn}
 

@@ -11,7 +11,7 @@ use Rattle.fields.specs.Reader.{Res, ok, refuse, pick}
 use Rattle.fields.proofs.Places.{length-joined}
 use Rattle.acb.specs.Grammar.{Tag}
 use Rattle.acb.specs.Reading.{Entry, Contents}
-use Rattle.acb.specs.Answer.{Shown, shown, Verdict, accepted, refused, verdict}
+use Rattle.acb_judge.specs.Answer.{Shown, shown, Verdict, accepted, refused, verdict}
 use Rattle.acb_read.specs.Table.{row, blank, filled}
 use Rattle.acb_show.specs.Pages.{sampleOf, dummies, unitsIn, dummiesIn}
 use Rattle.acb_show.specs.Answer.{pageOf}

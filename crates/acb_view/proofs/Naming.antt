@@ -17,7 +17,7 @@ use Rattle.fields.proofs.Places.{length-nums}
 use Rattle.fields.proofs.Stores.{stored-in, stored-append, length-stored}
 use Rattle.acb.specs.Grammar.{Tag}
 use Rattle.acb.specs.Reading.{string, Entry, componentsOf, Header, opening, strings, numbers, header, closing, colour, Contents, book, acb}
-use Rattle.acb.specs.Answer.{Shown, lies, shown, accepted, refused, verdict}
+use Rattle.acb_judge.specs.Answer.{Shown, lies, shown, accepted, refused, verdict}
 use Rattle.acb_read.specs.Table.{blank, fourOf, found, recordAt, nameBytesIn}
 use Rattle.acb_read.specs.Answer as read
 use Rattle.acb_show.specs.Texts.{shownStart, shownText}

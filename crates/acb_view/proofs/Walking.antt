@@ -11,7 +11,7 @@ use Rattle.fields.specs.Reader.{Res, ok, refuse, field, orZero, limit}
 use Rattle.fields.specs.Text.{isEmpty}
 use Rattle.acb.specs.Grammar.{Tag}
 use Rattle.acb.specs.Reading.{Entry, componentsOf, Contents, acb}
-use Rattle.acb.specs.Answer.{Shown, shown as heading, accepted, refused, verdict}
+use Rattle.acb_judge.specs.Answer.{Shown, shown as heading, accepted, refused, verdict}
 use Rattle.acb_read.specs.Table.{blank, recordAt}
 use Rattle.acb_read.specs.Raw.{recordPlace, Accepted}
 use Rattle.acb_read.specs.Answer.{lies, refusal, shown}

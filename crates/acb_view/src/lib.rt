@@ -12,8 +12,8 @@ ghost use Rattle.acb_show.specs.Answer.{toldPage, pageOf};
 ghost use Rattle.acb_view.specs.View.{counted, refusal, valuesOf, noValues, shownAt, pageAt, fullLength, fullNameAt};
 ghost use Rattle.acb_view.specs.Places.{unitsOf, Standing, Having};
 ghost use Rattle.acb_view.specs.Answer.{toldCount, toldComponents};
-use acb::Answer;
-use acb::Text;
+use acb_judge::Answer;
+use acb_judge::Text;
 use acb_read::NamePlace;
 use acb_show::Page;
 use acb_show::Records;
@@ -40,7 +40,7 @@ fn values(space: u16, bytes: [u8; 4]) -> Components
     let a = acb_show::shown_component(space, 0, bytes[0]);
     let b = acb_show::shown_component(space, 1, bytes[1]);
     let c = acb_show::shown_component(space, 2, bytes[2]);
-    let n = acb::components_of(space);
+    let n = acb_judge::components_of(space);
     if n == 4 {
         let d = acb_show::shown_component(space, 3, bytes[3]);
         return Components {
@@ -68,7 +68,7 @@ fn no_values(number: u32, place: usize) -> Components
 pub fn shown_at(file: &[u8], i: usize) -> Components
     ensures { λ r. ⌜ toldComponents r ≡ shownAt i (acb (now (file .entry))) ⌝ }
 {
-    match acb::judge(file) {
+    match acb_judge::judge(file) {
         Answer::Refused { number, place } => no_values(number, place),
         Answer::Accepted {
             header,
@@ -132,7 +132,7 @@ fn sample_from(file: &[u8], n: usize, i: usize, end: usize, offset: usize) -> Pa
 pub fn page_at(file: &[u8], page: usize) -> Page
     ensures { λ r. ⌜ toldPage r ≡ pageAt page (acb (now (file .entry))) ⌝ }
 {
-    match acb::judge(file) {
+    match acb_judge::judge(file) {
         Answer::Refused { number, place } => Page::Refused { number, place },
         Answer::Accepted {
             header,
@@ -146,7 +146,7 @@ pub fn page_at(file: &[u8], page: usize) -> Page
             },
             Records::Are(i, end) => sample_from(
                 file,
-                acb::components_of(header.space),
+                acb_judge::components_of(header.space),
                 i,
                 end,
                 header.offset as usize,
@@ -182,7 +182,7 @@ fn put_three(out: &mut [u8], a: &[u8], b: &[u8], c: &[u8])
 pub fn full_length(file: &[u8], i: usize) -> Count
     ensures { λ r. ⌜ toldCount r ≡ fullLength (now (file .entry)) i (acb (now (file .entry))) ⌝ }
 {
-    match acb::judge(file) {
+    match acb_judge::judge(file) {
         Answer::Refused { number, place } => Count::Refused { number, place },
         Answer::Accepted {
             header,
@@ -208,7 +208,7 @@ pub fn full_length(file: &[u8], i: usize) -> Count
 pub fn full_name(file: &[u8], i: usize, out: &mut [u8]) -> Count
     ensures { λ r. ⌜ (toldCount r, now (out .exit)) ≡ fullNameAt (now (file .entry)) i (acb (now (file .entry))) (now (out .entry)) ⌝ }
 {
-    match acb::judge(file) {
+    match acb_judge::judge(file) {
         Answer::Refused { number, place } => Count::Refused { number, place },
         Answer::Accepted {
             header,

@@ -15,7 +15,7 @@ use Rattle.fields.proofs.Exact.{length-map}
 use Rattle.fields.proofs.Storing.{as-sets, peel, peel-be, length-kept}
 use Rattle.acb.specs.Grammar.{Tag, none, spot, process, stringBytes, colourBytes, tagBytes, headBytes, fileBytes}
 use Rattle.acb.specs.Reading.{componentsOf}
-use Rattle.acb.specs.Answer.{Shown}
+use Rattle.acb_judge.specs.Answer.{Shown}
 use Rattle.acb_records.specs.Writing.{Given, givenAt, givens, unitsIn, componentsIn, colourIn, bookIn, sizes, stringSize, sizeIn, tagSize, headSize, size, textFault}
 use Rattle.acb_records.specs.Parts.{start, numberBytes, headingBytes}
 use Rattle.acb_records.proofs.Judging.{text-inside, givens-start, givens-turn, givens-end, length-givens}

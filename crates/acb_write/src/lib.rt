@@ -6,14 +6,14 @@ ghost use lib.ListN.{length};
 ghost use lib.Seq.{sets};
 ghost use Rattle.fields.specs.Numbers.{be, joined};
 ghost use Rattle.acb.specs.Grammar.{stringBytes, colourBytes, tagBytes, fileBytes};
-ghost use Rattle.acb.specs.Answer.{toldText, toldHeader, toldTag};
+ghost use Rattle.acb_judge.specs.Answer.{toldText, toldHeader, toldTag};
 ghost use Rattle.acb_records.specs.Writing.{givens, given, unitsIn, componentsIn, colourIn, bookIn, sizes, stringSize, sizeIn, tagSize, headSize, size, headFault, fault, written};
 ghost use Rattle.fields.specs.Answer.{toldWritten};
 ghost use Rattle.acb_records.specs.Parts.{givenOf, start, numberBytes, headingBytes, StringFits, TextsFit, RecordFits, RecordsFit};
-use acb::Header;
-use acb::Tag;
-use acb::Text;
 use acb::WIDTH;
+use acb_judge::Header;
+use acb_judge::Tag;
+use acb_judge::Text;
 use acb_records::Record;
 use fields::Written;
 
@@ -160,7 +160,14 @@ fn put_file(out: &mut [u8], header: Header, tag: Tag, run: &[u32], text: &[u8], 
     ensures { λ _. ⌜ now (out .exit) ≡ sets (now (out .entry)) 0 (fileBytes (bookIn (now (text .entry)) (toldHeader header) (toldTag tag) (givens (now (run .entry)) n 0))) ⌝ }
 {
     let first = put_head(out, text, header, n);
-    let end = put_colours(out, first, run, text, n, acb::components_of(header.space));
+    let end = put_colours(
+        out,
+        first,
+        run,
+        text,
+        n,
+        acb_judge::components_of(header.space),
+    );
     put_tag(out, end, tag);
 }
 

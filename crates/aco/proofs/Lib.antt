@@ -6,4 +6,3 @@ pub mod Whole
 pub mod Written
 pub mod Faultless
 pub mod RoundTrip
-pub mod Judging

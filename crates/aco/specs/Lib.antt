@@ -3,4 +3,3 @@ pub mod Reading
 pub mod Faults
 pub mod Raw
 pub mod Places
-pub mod Answer

@@ -1,5 +1,5 @@
 // Lists the ACO file on standard input: its header, a line a colour, `end`; or the refusal.
-use aco::Answer;
+use aco_judge::Answer;
 use aco_walk::Given;
 use colour::Colour;
 use listing::finish;
@@ -73,7 +73,7 @@ fn put_header(out: &mut [u8], colours: usize, lists: usize) -> usize {
 }
 
 fn put_listing(out: &mut [u8], file: &[u8]) -> usize {
-    match aco::judge(file) {
+    match aco_judge::judge(file) {
         Answer::Refused { number, place } => put_refusal(out, number, place),
         Answer::Differ {
             place,

@@ -15,7 +15,7 @@ use Rattle.colour.specs.declared.space.Colour.{Colour}
 use Rattle.aco.specs.Reading.{Entry, Contents, black, unnamed, aco}
 use Rattle.aco.specs.Raw.{rawColour}
 use Rattle.aco.specs.Places.{entryPlace}
-use Rattle.aco.specs.Answer.{Verdict, accepted, refused, verdict}
+use Rattle.aco_judge.specs.Answer.{Verdict, accepted, refused, verdict}
 use Rattle.aco.proofs.RoundTrip.{lists-are}
 use Rattle.aco_read.specs.Table.{row, numbers, width, filled, Where, lies, refusal, swatchOf, noRecord, recordAt, nameBytesAt, recordsOf, Accepted}
 use Rattle.aco_read.proofs.Filling.{records-are, length-records, plain-in, plain-row, plain-swatch, named-in, named-colour, named-row, named-swatch}

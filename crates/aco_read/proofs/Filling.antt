@@ -19,7 +19,7 @@ use Rattle.colour.specs.declared.space.Colour.{Colour}
 use Rattle.aco.specs.Reading.{Entry, Contents, black, unnamed, lists, aco}
 use Rattle.aco.specs.Raw.{rawColour}
 use Rattle.aco.specs.Places.{entryPlace}
-use Rattle.aco.specs.Answer.{Verdict, accepted, refused, verdict}
+use Rattle.aco_judge.specs.Answer.{Verdict, accepted, refused, verdict}
 use Rattle.aco.proofs.Inverse.{aco-inv}
 use Rattle.aco.proofs.RoundTrip.{records-count, one-list, one-record, Placed, records-place}
 use Rattle.aco_read.specs.Table.{row, numbers, width, filled, Where, lies, refusal, swatchOf, recordAt, recordsOf, Accepted}

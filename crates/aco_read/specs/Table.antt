@@ -9,7 +9,7 @@ use Rattle.fields.specs.Reader.{Res, ok, refuse, pick}
 use Rattle.fields.specs.Store.{part}
 use Rattle.colour.specs.declared.space.Colour.{Colour}
 use Rattle.aco.specs.Reading.{Entry, Contents, black, unnamed}
-use Rattle.aco.specs.Answer.{Verdict, accepted, refused}
+use Rattle.aco_judge.specs.Answer.{Verdict, accepted, refused}
 
 -- ---- the table
 

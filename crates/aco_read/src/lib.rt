@@ -7,11 +7,11 @@ ghost use Rattle.fields.specs.Numbers.{num, joined};
 ghost use Rattle.aco.specs.Reading.{aco};
 ghost use Rattle.aco.specs.Raw.{rawColour};
 ghost use Rattle.aco.specs.Places.{entryPlace};
-ghost use Rattle.aco.specs.Answer.{told};
+ghost use Rattle.aco_judge.specs.Answer.{told};
 ghost use Rattle.aco_read.specs.Table.{row, numbers, filled, noRecord, recordAt, nameBytesAt, recordsOf, Accepted};
 ghost use Rattle.aco_read.specs.Answer.{toldPlace, toldSwatch};
-use aco::Answer;
 use aco::WIDTH;
+use aco_judge::Answer;
 use colour::Colour;
 
 // Where a record's name lies in the file, or the refusal.
@@ -116,7 +116,7 @@ fn fill_named(file: &[u8], n: usize, table: &mut [u32])
 pub fn read(file: &[u8], table: &mut [u32]) -> Answer
     ensures { λ r. ⌜ (told r, now (table .exit)) ≡ filled (aco (now (file .entry))) (now (table .entry)) ⌝ }
 {
-    match aco::judge(file) {
+    match aco_judge::judge(file) {
         Answer::Refused { number, place } => Answer::Refused { number, place },
         Answer::Differ {
             place,
@@ -193,7 +193,7 @@ fn found(file: &[u8], colours: usize, lists: usize, i: usize) -> Swatch
 pub fn record_at(file: &[u8], i: usize) -> Swatch
     ensures { λ r. ⌜ toldSwatch r ≡ recordAt i (aco (now (file .entry))) ⌝ }
 {
-    match aco::judge(file) {
+    match aco_judge::judge(file) {
         Answer::Refused { number, place } => none(NamePlace::Refused { number, place }),
         Answer::Differ {
             place,

@@ -20,7 +20,7 @@ use Rattle.colour.specs.Spaces.{uses, full, known, allowed, allAllowed, sound}
 use Rattle.aco.specs.Reading.{colour, fieldOf, twin, Entry, entry, black, unnamed}
 use Rattle.aco.specs.Raw.{rawColour, rawColours}
 use Rattle.aco.proofs.Raw.{Good, colour-inv, colours-good, getD-raw, field-raw}
-use Rattle.aco.proofs.Judging.{colour-sound}
+use Rattle.aco_judge.proofs.Judging.{colour-sound}
 use Rattle.aco.proofs.Inverse.{First, entry-inv}
 use Rattle.aco_walk.specs.Walking.{countOf, isPlain, firstPlace, titled, labelled, swatchFrom}
 

@@ -7,7 +7,7 @@ ghost use Rattle.aco.specs.Reading.{colour, black, aco};
 ghost use Rattle.walk.specs.Walk.{answered, over, refused};
 ghost use Rattle.aco_walk.specs.Walking.{isPlain, firstPlace, labelled, walk, lentOf, startOf};
 ghost use Rattle.aco_walk.specs.Answer.{toldGiven, toldStep, handed, toldStart, toldTested, tested};
-use aco::Answer;
+use aco_judge::Answer;
 use colour::Colour;
 use fields::NameAt;
 
@@ -185,7 +185,7 @@ pub fn first_at(file: &[u8]) -> usize
 pub fn start_at(file: &[u8]) -> Opening
     ensures { λ r. ⌜ toldStart r ≡ startOf (aco (now (file .entry))) (now (file .entry)) ⌝ }
 {
-    match aco::judge(file) {
+    match aco_judge::judge(file) {
         Answer::Refused { number, place } => Opening::Refused { number, place },
         Answer::Differ {
             place,
@@ -207,7 +207,7 @@ pub fn start_at(file: &[u8]) -> Opening
 fn lent(file: &[u8]) -> &[u8]
     ensures { λ r. ⌜ now r ≡ lentOf (aco (now (file .entry))) (now (file .entry)) ⌝ }
 {
-    match aco::judge(file) {
+    match aco_judge::judge(file) {
         Answer::Refused {
             number: _,
             place: _,

@@ -1,6 +1,6 @@
 // Lists the ASE file on standard input: its header, a line a block, `end`; or the refusal.
 ghost use Prim.Native.Nat.{_≤_};
-use ase::Answer;
+use ase_judge::Answer;
 use ase_walk::Block;
 use colour::Channels;
 use colour::Model;
@@ -102,7 +102,7 @@ fn put_blocks(out: &mut [u8], n: usize, file: &[u8], blocks: usize) -> usize {
 }
 
 fn put_listing(out: &mut [u8], file: &[u8]) -> usize {
-    match ase::judge(file) {
+    match ase_judge::judge(file) {
         Answer::Refused { number, place } => put_refusal(out, number, place),
         Answer::Accepted { blocks, colours: _ } => {
             let mut at = put_text(out, 0, b"ASE ");

@@ -24,7 +24,7 @@ use Rattle.colour.specs.declared.channel.Made.the-variants as vm
 use Rattle.colour.proofs.Models.{tag-known}
 use Rattle.colour.proofs.Kept.{same-four, bits-kept}
 use Rattle.ase.specs.Reading.{Entry, started, stopped, coloured, ase}
-use Rattle.ase.specs.Answer.{Verdict, accepted, refused, verdict, colours}
+use Rattle.ase_judge.specs.Answer.{Verdict, accepted, refused, verdict, colours}
 use Rattle.ase_read.specs.Table.{fourOf, row, filled, Found, found, missing, recordAt, nameBytesIn}
 use Rattle.ase_read.specs.Raw.{nextBlock, blockPlace, entriesOf, Accepted}
 use Rattle.ase_read.specs.Answer.{Shown, group, close, colour, refusal, entryShown, shown, IsColour}

@@ -7,7 +7,7 @@ use Rattle.fields.specs.Numbers.{joined}
 use Rattle.fields.specs.Reader.{Res, ok, refuse, pick}
 use Rattle.fields.specs.Store.{part}
 use Rattle.ase.specs.Reading.{Entry, started, stopped, coloured}
-use Rattle.ase.specs.Answer.{Verdict, accepted, refused, colours}
+use Rattle.ase_judge.specs.Answer.{Verdict, accepted, refused, colours}
 
 -- ---- the table
 

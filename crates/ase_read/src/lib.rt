@@ -8,14 +8,14 @@ ghost use lib.Seq.{sets};
 ghost use Rattle.fields.specs.Numbers.{joined};
 ghost use Rattle.fields.specs.Reader.{pick, limit};
 ghost use Rattle.ase.specs.Reading.{ase};
-ghost use Rattle.ase.specs.Answer.{told};
+ghost use Rattle.ase_judge.specs.Answer.{told};
 ghost use Rattle.ase_read.specs.Table.{row, filled, recordAt, nameBytesIn};
 ghost use Rattle.ase_read.specs.Raw.{nextBlock, blockPlace, rawRow, entriesOf, Accepted};
 ghost use Rattle.ase_read.specs.Answer.{colour, shown, toldRecord, IsColour};
-use ase::Answer;
 use ase::START;
 use ase::STOP;
 use ase::WIDTH;
+use ase_judge::Answer;
 use colour::Channels;
 use colour::Known;
 use colour::Made;
@@ -197,7 +197,7 @@ fn found(file: &[u8], n: usize, i: usize) -> Record
 pub fn read(file: &[u8], table: &mut [u32]) -> Answer
     ensures { λ r. ⌜ (told r, now (table .exit)) ≡ filled (ase (now (file .entry))) (now (table .entry)) ⌝ }
 {
-    match ase::judge(file) {
+    match ase_judge::judge(file) {
         Answer::Refused { number, place } => Answer::Refused { number, place },
         Answer::Accepted { blocks, colours } => {
             if table.len() < WIDTH * blocks {
@@ -216,7 +216,7 @@ pub fn read(file: &[u8], table: &mut [u32]) -> Answer
 pub fn record_at(file: &[u8], i: usize) -> Record
     ensures { λ r. ⌜ toldRecord r ≡ shown (recordAt i (ase (now (file .entry)))) ⌝ }
 {
-    match ase::judge(file) {
+    match ase_judge::judge(file) {
         Answer::Refused { number, place } => Record::Refused { number, place },
         Answer::Accepted { blocks, colours: _ } => {
             if blocks <= i {

@@ -10,8 +10,8 @@ use borrow.Author.Tests.{le-leb, lt-leb}
 use native.Mathlib.Omega.{arith}
 use Rattle.fields.specs.Reader.{Res, ok, refuse, pick, mapRes}
 use Rattle.ase.specs.Reading.{Entry, started, stopped, coloured, ase}
-use Rattle.ase.specs.Answer.{Verdict, accepted, refused, verdict, passed}
-use Rattle.ase.proofs.Judging.{map-inv, map-refuse}
+use Rattle.ase_judge.specs.Answer.{Verdict, accepted, refused, verdict, passed}
+use Rattle.ase_judge.proofs.Judging.{map-inv, map-refuse}
 use Rattle.ase_read.specs.Table.{row}
 use Rattle.ase_read.specs.Raw.{rowIn, rawRow}
 use Rattle.ase_read.specs.Answer.{Shown, entryShown}

@@ -13,7 +13,7 @@ use Rattle.fields.specs.Store.{part}
 use Rattle.fields.specs.Text.{Name}
 use Rattle.fields.proofs.Exact.{map-id}
 use Rattle.ase.specs.Reading.{Entry, started, stopped, coloured, block, standingAfter, ase}
-use Rattle.ase.specs.Answer.{colours}
+use Rattle.ase_judge.specs.Answer.{colours}
 use Rattle.ase_read.specs.Raw.{entriesOf}
 use Rattle.ase_read.specs.Answer.{Shown}
 use Rattle.ase_read.proofs.Blocks.{Blocked, blocked}

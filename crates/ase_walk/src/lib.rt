@@ -12,10 +12,10 @@ ghost use Rattle.ase_read.specs.Answer.{colour, IsColour};
 ghost use Rattle.walk.specs.Walk.{gives, answered};
 ghost use Rattle.ase_walk.specs.Walking.{blockFrom, Stands, blockWalk, walk, firstPlace, lentOf, startOf};
 ghost use Rattle.ase_walk.specs.Answer.{toldBlock, toldBlockStep, passes, toldGiven, toldStep, handed, toldStart};
-use ase::Answer;
-use ase::Passed;
 use ase::START;
 use ase::STOP;
+use ase_judge::Answer;
+use ase_judge::Passed;
 use colour::Channels;
 use colour::Known;
 use colour::Made;
@@ -161,7 +161,7 @@ pub fn block_at(file: &[u8], at: usize) -> BlockStep
             next: at,
         };
     }
-    match ase::block_at(file, at, 1) {
+    match ase_judge::block_at(file, at, 1) {
         Passed::Refused {
             number: _,
             place: _,
@@ -290,7 +290,7 @@ pub fn first_at(file: &[u8]) -> usize
 pub fn start_at(file: &[u8]) -> Opening
     ensures { λ r. ⌜ toldStart r ≡ startOf (ase (now (file .entry))) (now (file .entry)) ⌝ }
 {
-    match ase::judge(file) {
+    match ase_judge::judge(file) {
         Answer::Refused { number, place } => Opening::Refused { number, place },
         Answer::Accepted {
             blocks: _,
@@ -303,7 +303,7 @@ pub fn start_at(file: &[u8]) -> Opening
 fn lent(file: &[u8]) -> &[u8]
     ensures { λ r. ⌜ now r ≡ lentOf (ase (now (file .entry))) (now (file .entry)) ⌝ }
 {
-    match ase::judge(file) {
+    match ase_judge::judge(file) {
         Answer::Refused {
             number: _,
             place: _,

@@ -5,10 +5,10 @@ use lib.Dec.{eqb}
 use lib.IntN.{ℤ, pos}
 use lib.ListN.{getD}
 use Rattle.fields.specs.Reader.{pick}
-use Rattle.fields.specs.Writing.{Outcome, bytes, refused as unwritten}
+use Rattle.fields.specs.Writing.{refused as unwritten}
 use Rattle.acb.specs.Grammar.{Tag, none, spot, process}
-use Rattle.acb.specs.Answer.{Shown, Verdict, accepted, refused}
-use Rattle.acb.specs.Parts.{Found, tagged, unknown}
+use Rattle.acb_judge.specs.Answer.{Shown, Verdict, accepted, refused}
+use Rattle.acb_judge.specs.Parts.{Found, tagged, unknown}
 use Rattle.acb_read.specs.Answer.{Where, lies, refusal}
 use Rattle.acb_read.specs.Answer as record-of
 use Rattle.acb_show.specs.Pages.{sampleOf, dummiesIn}
@@ -22,7 +22,8 @@ use Rattle.khuyurek.specs.declared.books.AcbRecord.{AcbRecord}
 use Rattle.khuyurek.specs.declared.books.AcbShown.{AcbShown}
 use Rattle.khuyurek.specs.declared.books.AcbFull.{AcbFull}
 use Rattle.khuyurek.specs.declared.books.AcbPage.{AcbPage}
-use Rattle.khuyurek.specs.declared.books.AcbWritten.{AcbWritten}
+use Rattle.khuyurek.specs.declared.Length.{Length}
+use Rattle.khuyurek.specs.Exported.{writtenOf, wroteOf as sizedOf}
 
 -- ---- the header
 
@@ -127,19 +128,12 @@ givenOf h = record {
 abbrev pub tagOf : ℕ → Found
 tagOf n = pick (eqb n 0) (tagged none) (pick (eqb n 1) (tagged spot) (pick (eqb n 2) (tagged process) unknown))
 
-abbrev pub writtenOf : Outcome → AcbWritten
-writtenOf (bytes n) = record { number = 0; size = n }
-writtenOf (unwritten x) = record { number = x; size = 0 }
-
 -- a number that is no tag is 3, before all else
-abbrev pub lengthOf : List ℕ → AcbHeader → Found → List Given → AcbWritten
+abbrev pub lengthOf : List ℕ → AcbHeader → Found → List Given → Length
 lengthOf text h (tagged t) gs = writtenOf (needed text (givenOf h) t gs)
 lengthOf text h unknown gs = writtenOf (unwritten 3)
 
-abbrev pub sizedOf : Outcome × List ℕ → AcbWritten × List ℕ
-sizedOf o = (writtenOf (o .0), o .1)
-
 -- the same, and what the lent bytes then hold
-abbrev pub wroteOf : List ℕ → AcbHeader → Found → List Given → List ℕ → AcbWritten × List ℕ
+abbrev pub wroteOf : List ℕ → AcbHeader → Found → List Given → List ℕ → Length × List ℕ
 wroteOf text h (tagged t) gs out = sizedOf (written text (givenOf h) t gs out)
 wroteOf text h unknown gs out = sizedOf (unwritten 3, out)

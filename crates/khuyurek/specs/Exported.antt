@@ -2,20 +2,18 @@
 use Prim.Native.Nat.{ℕ}
 use mathlib.Core.List.{List, [], _∷_}
 use Rattle.colour.specs.declared.space.Colour.{Colour}
-use Rattle.aco.specs.Answer.{Verdict, accepted, refused}
+use Rattle.aco_judge.specs.Answer.{Verdict, accepted, refused}
 use Rattle.aco_read.specs.Table.{Where, lies, refusal}
 use Rattle.fields.specs.Writing.{Outcome, bytes, refused as unwritten}
 use lib.Ieee.{Float, binary32, toBits}
 use Rattle.colour.specs.Convert.{Converted, gives, refused as noChannel}
-use Rattle.ase.specs.Answer as palette
+use Rattle.ase_judge.specs.Answer as palette
 use Rattle.ase_read.specs.Answer.{Shown, group, close, colour, refusal as refusalAse}
-use Rattle.fields.specs.Writing as writing
 use Rattle.khuyurek.specs.declared.AcoAnswer.{AcoAnswer}
 use Rattle.khuyurek.specs.declared.AseAnswer.{AseAnswer}
 use Rattle.khuyurek.specs.declared.AseRecord.{AseRecord}
-use Rattle.khuyurek.specs.declared.AseWritten.{AseWritten}
 use Rattle.khuyurek.specs.declared.AcoRecord.{AcoRecord}
-use Rattle.khuyurek.specs.declared.AcoWritten.{AcoWritten}
+use Rattle.khuyurek.specs.declared.Length.{Length}
 use Rattle.khuyurek.specs.declared.ChannelBits.{ChannelBits}
 use Rattle.khuyurek.specs.declared.SampleValue.{SampleValue}
 
@@ -30,7 +28,7 @@ placed c (refusal x p r f) = record { number = x; units = 0; place = p; rec = r;
 abbrev pub recordOf : Colour × Where → AcoRecord
 recordOf w = placed (w .0) (w .1)
 
-abbrev pub writtenOf : Outcome → AcoWritten
+abbrev pub writtenOf : Outcome → Length
 writtenOf (bytes n) = record { number = 0; size = n }
 writtenOf (unwritten x) = record { number = x; size = 0 }
 
@@ -38,7 +36,7 @@ writtenOf (unwritten x) = record { number = x; size = 0 }
 abbrev pub readOf : Verdict × List ℕ → AcoAnswer × List ℕ
 readOf v = (answerOf (v .0), v .1)
 
-abbrev pub wroteOf : Outcome × List ℕ → AcoWritten × List ℕ
+abbrev pub wroteOf : Outcome × List ℕ → Length × List ℕ
 wroteOf o = (writtenOf (o .0), o .1)
 
 abbrev pub channelOf : Converted Float → ChannelBits
@@ -67,10 +65,3 @@ blockOf (group p u) = plain 0 0xC001 0 p u
 blockOf close = plain 0 0xC002 0 0 0
 blockOf (colour p u t bs k) = record { number = 0; block = 0x0001; place = 0; name = p; units = u; model = t; channels = bs; kind = k }
 blockOf (refusalAse x p) = plain x 0 p 0 0
-
-abbrev pub wroteOfAse : writing.Outcome → AseWritten
-wroteOfAse (writing.bytes n) = record { number = 0; size = n }
-wroteOfAse (writing.refused x) = record { number = x; size = 0 }
-
-abbrev pub wroteAseOf : writing.Outcome × List ℕ → AseWritten × List ℕ
-wroteAseOf o = (wroteOfAse (o .0), o .1)

@@ -1,7 +1,7 @@
 // ACB colour books for C.
 ghost use mathlib.Core.Path.{_≡_};
 ghost use Rattle.acb.specs.Reading.{acb};
-ghost use Rattle.acb.specs.Answer.{verdict, told, toldTag, toldHeader, toldKnown};
+ghost use Rattle.acb_judge.specs.Answer.{verdict, told, toldTag, toldHeader, toldKnown};
 ghost use Rattle.acb_read.specs.Table.{filled, recordAt};
 ghost use Rattle.acb_read.specs.Answer.{shown};
 ghost use Rattle.acb_show.specs.Components.{shownComponent};
@@ -10,17 +10,17 @@ ghost use Rattle.acb_show.specs.Answer.{toldPage};
 ghost use Rattle.acb_view.specs.View.{shownAt, pageAt, fullLength, fullNameAt};
 ghost use Rattle.acb_view.specs.Answer.{toldCount};
 ghost use Rattle.acb_records.specs.Writing.{given};
-ghost use Rattle.fields.specs.Answer.{toldWritten};
-ghost use Rattle.khuyurek.specs.Acb.{numberOf, headerOf, noHeader, answerOf, readOf, recordOf, fourOf, shownOf, fullOf, fullReadOf, pageOf, pageInOf, givenOf, tagOf, writtenOf, lengthOf, wroteOf};
-use acb::Answer;
-use acb::Header;
-use acb::Known;
-use acb::Tag;
-use acb::Text;
+ghost use Rattle.khuyurek.specs.Acb.{numberOf, headerOf, noHeader, answerOf, readOf, recordOf, fourOf, shownOf, fullOf, fullReadOf, pageOf, pageInOf, givenOf, tagOf, lengthOf, wroteOf};
+use crate::Length;
+use crate::exported_length;
+use acb_judge::Answer;
+use acb_judge::Header;
+use acb_judge::Known;
+use acb_judge::Tag;
+use acb_judge::Text;
 use acb_read::NamePlace;
 use acb_show::Page;
 use acb_view::Count;
-use acb_write::Written;
 
 // Where a string lies in the file or text: the place of its first unit, and its units.
 #[repr(C)]
@@ -148,7 +148,7 @@ fn exported(a: Answer) -> AcbAnswer
 pub extern "C" fn khuyurek_acb_judge(file: &[u8]) -> AcbAnswer
     ensures { λ r. ⌜ r ≡ answerOf (verdict (acb (now (file .entry)))) ⌝ }
 {
-    exported(acb::judge(file))
+    exported(acb_judge::judge(file))
 }
 
 // Reads a book into a table, twelve numbers a record.
@@ -346,13 +346,6 @@ pub extern "C" fn khuyurek_acb_page_in(
 
 // ---- writing
 
-// Number 0 is accepted, with the length in bytes; else the refusal, whose place is 0.
-#[repr(C)]
-pub struct AcbWritten {
-    pub number: u32,
-    pub size: usize,
-}
-
 fn header_given(g: AcbHeader) -> Header
     ensures { λ r. ⌜ toldHeader r ≡ givenOf g ⌝ }
 {
@@ -395,24 +388,15 @@ fn tag_given(number: u32) -> Known
     Known::Unknown
 }
 
-fn exported_size(w: Written) -> AcbWritten
-    ensures { λ r. ⌜ r ≡ writtenOf (toldWritten w) ⌝ }
-{
-    match w {
-        Written::Bytes(size) => AcbWritten { number: 0, size },
-        Written::Refused(number) => AcbWritten { number, size: 0 },
-    }
-}
-
 // How many bytes writing a book takes.
 #[no_mangle]
-pub extern "C" fn khuyurek_acb_length(header: AcbHeader, records: &[u32], text: &[u8]) -> AcbWritten
+pub extern "C" fn khuyurek_acb_length(header: AcbHeader, records: &[u32], text: &[u8]) -> Length
     ensures { λ r. ⌜ r ≡ lengthOf (now (text .entry)) header (tagOf (header .tag)) (given (now (records .entry))) ⌝ }
 {
     match tag_given(header.tag) {
-        Known::Unknown => AcbWritten { number: 3, size: 0 },
+        Known::Unknown => Length { number: 3, size: 0 },
         Known::Is(tag) => {
-            exported_size(acb_records::write_length(header_given(header), tag, records, text))
+            exported_length(acb_records::write_length(header_given(header), tag, records, text))
         }
     }
 }
@@ -424,13 +408,13 @@ pub extern "C" fn khuyurek_acb_write(
     records: &[u32],
     text: &[u8],
     out: &mut [u8],
-) -> AcbWritten
+) -> Length
     ensures { λ r. ⌜ (r, now (out .exit)) ≡ wroteOf (now (text .entry)) header (tagOf (header .tag)) (given (now (records .entry))) (now (out .entry)) ⌝ }
 {
     match tag_given(header.tag) {
-        Known::Unknown => AcbWritten { number: 3, size: 0 },
+        Known::Unknown => Length { number: 3, size: 0 },
         Known::Is(tag) => {
-            exported_size(acb_write::write(header_given(header), tag, records, text, out))
+            exported_length(acb_write::write(header_given(header), tag, records, text, out))
         }
     }
 }

@@ -11,7 +11,6 @@ pub use books::AcbPage;
 pub use books::AcbRecord;
 pub use books::AcbShown;
 pub use books::AcbText;
-pub use books::AcbWritten;
 pub use books::khuyurek_acb_full_length;
 pub use books::khuyurek_acb_full_name;
 pub use books::khuyurek_acb_judge;
@@ -40,7 +39,7 @@ pub use walks::khuyurek_ase_walk_block;
 pub use walks::khuyurek_ase_walk_start;
 ghost use mathlib.Core.Path.{_≡_};
 ghost use Rattle.aco.specs.Reading.{aco};
-ghost use Rattle.aco.specs.Answer.{verdict, told};
+ghost use Rattle.aco_judge.specs.Answer.{verdict, told};
 ghost use Rattle.aco_read.specs.Table.{filled, recordAt, lies, refusal};
 ghost use Rattle.aco_records.specs.Writing.{given, needed, written};
 ghost use Rattle.fields.specs.Answer.{toldWritten};
@@ -48,20 +47,19 @@ ghost use Rattle.colour.specs.Convert.{toChannel, toSample, toldChannel, toldSa
 ghost use Rattle.colour.specs.Models.{traitsOf};
 ghost use Rattle.colour.specs.Channels.{bitsOf, modelIn};
 ghost use Rattle.ase.specs.Reading.{ase};
-ghost use Rattle.ase.specs.Answer.{verdict as verdictAse, told as toldAse};
+ghost use Rattle.ase_judge.specs.Answer.{verdict as verdictAse, told as toldAse};
 ghost use Rattle.ase_read.specs.Table.{filled as filledAse, recordAt as recordAtAse};
 ghost use Rattle.ase_read.specs.Answer.{shown, colour as coloured};
 ghost use Rattle.ase_records.specs.Writing.{given as givenAse, needed as neededAse, written as writtenAse};
-ghost use Rattle.ase_records.specs.Answer.{told as toldWrittenAse};
-ghost use Rattle.khuyurek.specs.Exported.{paletteOf, paletteReadOf, plain, blockOf, wroteOfAse, wroteAseOf, answerOf, placed, recordOf, writtenOf, readOf, wroteOf, channelOf, sampleOf};
-use aco::Answer;
+ghost use Rattle.khuyurek.specs.Exported.{paletteOf, paletteReadOf, plain, blockOf, answerOf, placed, recordOf, writtenOf, readOf, wroteOf, channelOf, sampleOf};
+use aco_judge::Answer;
 use aco_read::NamePlace;
-use aco_write::Written;
 use ase_read::Record;
 use colour::Channel;
 use colour::Channels;
 use colour::Colour;
 use colour::Sample;
+use fields::Written;
 
 // Number 0 is accepted, with the number of colours and of lists; else the refusal with its place,
 // and for 7 the record and field.
@@ -91,7 +89,7 @@ pub struct AcoRecord {
 
 // Number 0 is accepted, with the length in bytes; else the refusal, whose place is 0.
 #[repr(C)]
-pub struct AcoWritten {
+pub struct Length {
     pub number: u32,
     pub size: usize,
 }
@@ -145,12 +143,12 @@ fn exported(a: Answer) -> AcoAnswer
     }
 }
 
-fn exported_length(w: Written) -> AcoWritten
+fn exported_length(w: Written) -> Length
     ensures { λ r. ⌜ r ≡ writtenOf (toldWritten w) ⌝ }
 {
     match w {
-        Written::Bytes(n) => AcoWritten { number: 0, size: n },
-        Written::Refused(x) => AcoWritten { number: x, size: 0 },
+        Written::Bytes(n) => Length { number: 0, size: n },
+        Written::Refused(x) => Length { number: x, size: 0 },
     }
 }
 
@@ -159,7 +157,7 @@ fn exported_length(w: Written) -> AcoWritten
 pub extern "C" fn khuyurek_aco_judge(file: &[u8]) -> AcoAnswer
     ensures { λ r. ⌜ r ≡ answerOf (verdict (aco (now (file .entry)))) ⌝ }
 {
-    exported(aco::judge(file))
+    exported(aco_judge::judge(file))
 }
 
 // Reads a file into a table, seven numbers a record.
@@ -223,7 +221,7 @@ pub extern "C" fn khuyurek_aco_record_at(file: &[u8], i: usize) -> AcoRecord
 
 // How many bytes writing these records takes.
 #[no_mangle]
-pub extern "C" fn khuyurek_aco_length(records: &[u32], text: &[u8]) -> AcoWritten
+pub extern "C" fn khuyurek_aco_length(records: &[u32], text: &[u8]) -> Length
     ensures { λ r. ⌜ r ≡ writtenOf (needed (now (text .entry)) (given (now (records .entry)))) ⌝ }
 {
     exported_length(aco_records::write_length(records, text))
@@ -231,7 +229,7 @@ pub extern "C" fn khuyurek_aco_length(records: &[u32], text: &[u8]) -> AcoWritte
 
 // Writes records, whose names lie in `text`, into `out`.
 #[no_mangle]
-pub extern "C" fn khuyurek_aco_write(records: &[u32], text: &[u8], out: &mut [u8]) -> AcoWritten
+pub extern "C" fn khuyurek_aco_write(records: &[u32], text: &[u8], out: &mut [u8]) -> Length
     ensures { λ r. ⌜ (r, now (out .exit)) ≡ wroteOf (written (now (text .entry)) (given (now (records .entry))) (now (out .entry))) ⌝ }
 {
     exported_length(aco_write::write(records, text, out))
@@ -297,24 +295,17 @@ pub struct AseRecord {
     pub kind: u32,
 }
 
-// Number 0 is accepted, with the length in bytes; else the refusal, whose place is 0.
-#[repr(C)]
-pub struct AseWritten {
-    pub number: u32,
-    pub size: usize,
-}
-
-fn exported_palette(a: ase::Answer) -> AseAnswer
+fn exported_palette(a: ase_judge::Answer) -> AseAnswer
     ensures { λ r. ⌜ r ≡ paletteOf (toldAse a) ⌝ }
 {
     match a {
-        ase::Answer::Accepted { blocks, colours } => AseAnswer {
+        ase_judge::Answer::Accepted { blocks, colours } => AseAnswer {
             number: 0,
             place: 0,
             blocks,
             colours,
         },
-        ase::Answer::Refused { number, place } => AseAnswer {
+        ase_judge::Answer::Refused { number, place } => AseAnswer {
             number,
             place,
             blocks: 0,
@@ -328,7 +319,7 @@ fn exported_palette(a: ase::Answer) -> AseAnswer
 pub extern "C" fn khuyurek_ase_judge(file: &[u8]) -> AseAnswer
     ensures { λ r. ⌜ r ≡ paletteOf (verdictAse (ase (now (file .entry)))) ⌝ }
 {
-    exported_palette(ase::judge(file))
+    exported_palette(ase_judge::judge(file))
 }
 
 // Reads an ASE file into a table, nine numbers a record.
@@ -387,27 +378,18 @@ pub extern "C" fn khuyurek_ase_record_at(file: &[u8], i: usize) -> AseRecord
     }
 }
 
-fn exported_size(w: ase_write::Written) -> AseWritten
-    ensures { λ r. ⌜ r ≡ wroteOfAse (toldWrittenAse w) ⌝ }
-{
-    match w {
-        ase_write::Written::Bytes(size) => AseWritten { number: 0, size },
-        ase_write::Written::Refused(number) => AseWritten { number, size: 0 },
-    }
-}
-
 // How many bytes writing ASE records takes.
 #[no_mangle]
-pub extern "C" fn khuyurek_ase_length(records: &[u32], text: &[u8]) -> AseWritten
-    ensures { λ r. ⌜ r ≡ wroteOfAse (neededAse (now (text .entry)) (givenAse (now (records .entry)))) ⌝ }
+pub extern "C" fn khuyurek_ase_length(records: &[u32], text: &[u8]) -> Length
+    ensures { λ r. ⌜ r ≡ writtenOf (neededAse (now (text .entry)) (givenAse (now (records .entry)))) ⌝ }
 {
-    exported_size(ase_records::write_length(records, text))
+    exported_length(ase_records::write_length(records, text))
 }
 
 // Writes ASE records.
 #[no_mangle]
-pub extern "C" fn khuyurek_ase_write(records: &[u32], text: &[u8], out: &mut [u8]) -> AseWritten
-    ensures { λ r. ⌜ (r, now (out .exit)) ≡ wroteAseOf (writtenAse (now (text .entry)) (givenAse (now (records .entry))) (now (out .entry))) ⌝ }
+pub extern "C" fn khuyurek_ase_write(records: &[u32], text: &[u8], out: &mut [u8]) -> Length
+    ensures { λ r. ⌜ (r, now (out .exit)) ≡ wroteOf (writtenAse (now (text .entry)) (givenAse (now (records .entry))) (now (out .entry))) ⌝ }
 {
-    exported_size(ase_write::write(records, text, out))
+    exported_length(ase_write::write(records, text, out))
 }

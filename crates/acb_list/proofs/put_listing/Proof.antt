@@ -1,5 +1,5 @@
 use native.Mathlib.Omega.{arith}
-use Rattle.acb.proofs.Judging.{components-most}
+use Rattle.acb_judge.proofs.Judging.{components-most}
 use borrow.Author.Needs.{needs}
 use Rattle.acb_list.proofs.put_listing.Statement.{statement}
 use Rattle.acb_list.proofs.put_listing.Tie as tie

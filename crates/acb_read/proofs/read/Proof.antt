@@ -1,7 +1,7 @@
 use mathlib.Core.Path.{sym, ap, _∙_, subst}
 use Prim.Native.Nat.{ℕ}
 use native.Mathlib.Omega.{arith}
-use Rattle.acb.specs.Answer.{told}
+use Rattle.acb_judge.specs.Answer.{told}
 use Rattle.acb.specs.Reading.{acb}
 use Rattle.acb_read.specs.Raw.{Accepted}
 use Rattle.acb_read.proofs.Answers.{accepted-of, filled-refused, filled-short, filled-is}

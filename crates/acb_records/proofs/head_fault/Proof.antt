@@ -1,6 +1,6 @@
 use Rattle.acb_records.proofs.Judging.{head-text, head-many, head-page, head-space}
 use mathlib.Core.Path.{sym, _∙_}
-use Rattle.acb.specs.Answer.{toldHeader}
+use Rattle.acb_judge.specs.Answer.{toldHeader}
 use borrow.Author.Needs.{needs}
 use Rattle.acb_records.proofs.head_fault.Statement.{statement}
 use Rattle.acb_records.proofs.head_fault.Tie as tie

@@ -1,6 +1,6 @@
 use Rattle.acb_records.proofs.Judging.{sizes-four}
 use native.Mathlib.Omega.{arith}
-use Rattle.acb.specs.Answer.{toldText}
+use Rattle.acb_judge.specs.Answer.{toldText}
 use Rattle.acb_records.specs.Writing.{stringSize}
 use borrow.Author.Needs.{needs}
 use Rattle.acb_records.proofs.head_size.Statement.{statement}

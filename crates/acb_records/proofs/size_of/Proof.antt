@@ -4,7 +4,7 @@ use Rattle.fields.proofs.Writing.{size-fits, size-over}
 use mathlib.Core.Path.{_≡_, ap, _∙_}
 use native.Mathlib.Omega.{arith}
 use Prim.Native.Nat.{ℕ, _+_, _-_, _≤_}
-use Rattle.acb.specs.Answer.{toldHeader, toldTag}
+use Rattle.acb_judge.specs.Answer.{toldHeader, toldTag}
 use Rattle.acb_records.specs.Writing.{Given, givens, sizes, stringSize, sizeIn, size}
 use borrow.Author.Needs.{needs}
 use Rattle.acb_records.proofs.size_of.Statement.{statement}

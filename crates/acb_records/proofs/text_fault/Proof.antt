@@ -1,6 +1,6 @@
 use Rattle.acb_records.proofs.Judging.{text-in, text-cut}
 use native.Mathlib.Omega.{arith}
-use Rattle.acb.specs.Answer.{toldText}
+use Rattle.acb_judge.specs.Answer.{toldText}
 use borrow.Author.Needs.{needs}
 use Rattle.acb_records.proofs.text_fault.Statement.{statement}
 use Rattle.acb_records.proofs.text_fault.Tie as tie

@@ -6,7 +6,7 @@ use Rattle.fields.specs.Faults.{faults}
 use Rattle.fields.specs.Answer.{toldWritten}
 use mathlib.Core.Path.{_≡_, sym, ap, _∙_, subst}
 use native.Mathlib.Omega.{arith}
-use Rattle.acb.specs.Answer.{toldHeader, toldTag}
+use Rattle.acb_judge.specs.Answer.{toldHeader, toldTag}
 use Prim.Native.Nat.{ℕ, _/_}
 use lib.ListN.{length}
 use Rattle.acb_records.specs.Writing.{givens, size, headFault, colourFault}

@@ -2,7 +2,7 @@ use borrow.Author.Needs.{needs}
 use mathlib.Core.Path.{refl, sym, ap, _∙_}
 use native.Mathlib.Omega.{arith}
 use Rattle.acb.specs.Reading.{acb}
-use Rattle.acb.specs.Answer.{told, toldHeader}
+use Rattle.acb_judge.specs.Answer.{told, toldHeader}
 use Rattle.acb_view.proofs.Naming.{Opened, opened, text-inside, length-none, length-refused, parts-small, full-length}
 use Rattle.acb_view.proofs.full_length.Statement.{statement}
 use Rattle.acb_view.proofs.full_length.Tie as tie

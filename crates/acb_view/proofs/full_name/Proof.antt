@@ -2,7 +2,7 @@ use borrow.Author.Needs.{needs}
 use mathlib.Core.Path.{refl, sym, ap, _∙_}
 use native.Mathlib.Omega.{arith}
 use Rattle.acb.specs.Reading.{acb}
-use Rattle.acb.specs.Answer.{told, toldHeader}
+use Rattle.acb_judge.specs.Answer.{told, toldHeader}
 use Rattle.acb_view.proofs.Naming.{Opened, opened, text-inside, name-none, name-refused, parts-small, full-short, full-put}
 use Rattle.acb_view.proofs.full_name.Statement.{statement}
 use Rattle.acb_view.proofs.full_name.Tie as tie

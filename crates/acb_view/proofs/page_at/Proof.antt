@@ -1,7 +1,7 @@
 use borrow.Author.Needs.{needs}
 use mathlib.Core.Path.{_≡_, sym, ap, _∙_}
 use Rattle.acb.specs.Reading.{acb}
-use Rattle.acb.specs.Answer.{accepted, verdict, told, toldHeader, toldTag}
+use Rattle.acb_judge.specs.Answer.{accepted, verdict, told, toldHeader, toldTag}
 use Rattle.acb_show.specs.Pages.{pageRange, records}
 use Rattle.acb_show.specs.Answer.{pageOf, toldRecords}
 use Rattle.acb_show.proofs.Sampling.{page-absent, page-there}

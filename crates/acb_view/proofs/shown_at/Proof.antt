@@ -1,7 +1,7 @@
 use borrow.Author.Needs.{needs}
 use mathlib.Core.Path.{sym, ap, _∙_}
 use Rattle.acb.specs.Reading.{acb}
-use Rattle.acb.specs.Answer.{told, toldHeader}
+use Rattle.acb_judge.specs.Answer.{told, toldHeader}
 use Rattle.acb_read.specs.Answer.{Shown}
 use Rattle.acb_view.proofs.Naming.{Opened, opened, values-none, values-are, values-refused}
 use Rattle.acb_view.proofs.shown_at.Statement.{statement}

@@ -4,7 +4,7 @@ use Rattle.acb_records.proofs.Outcomes.{no-fault, records-fit}
 use mathlib.Core.Path.{_≡_, subst, ap}
 use native.Mathlib.Omega.{arith}
 use Prim.Native.Nat.{ℕ}
-use Rattle.acb.specs.Answer.{toldHeader, toldTag}
+use Rattle.acb_judge.specs.Answer.{toldHeader, toldTag}
 use Rattle.acb_records.specs.Writing.{givens, sizes, sizeIn, headFault}
 use borrow.Author.Needs.{needs}
 use Rattle.acb_write.proofs.put_file.Statement.{statement}

@@ -1,7 +1,7 @@
 use Rattle.acb_records.proofs.Judging.{head-fine}
 use Rattle.acb_write.proofs.Puts.{put-head}
 use native.Mathlib.Omega.{arith}
-use Rattle.acb.specs.Answer.{toldHeader}
+use Rattle.acb_judge.specs.Answer.{toldHeader}
 use borrow.Author.Needs.{needs}
 use Rattle.acb_write.proofs.put_head.Statement.{statement}
 use Rattle.acb_write.proofs.put_head.Tie as tie

@@ -1,5 +1,5 @@
 use Rattle.acb_write.proofs.Puts.{put-numbers}
-use Rattle.acb.specs.Answer.{toldHeader}
+use Rattle.acb_judge.specs.Answer.{toldHeader}
 use borrow.Author.Needs.{needs}
 use Rattle.acb_write.proofs.put_numbers.Statement.{statement}
 use Rattle.acb_write.proofs.put_numbers.Tie as tie

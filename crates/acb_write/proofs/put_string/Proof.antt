@@ -1,7 +1,7 @@
 use Rattle.acb_records.proofs.Judging.{text-inside}
 use Rattle.acb_write.proofs.Puts.{put-string}
 use native.Mathlib.Omega.{arith}
-use Rattle.acb.specs.Answer.{toldText}
+use Rattle.acb_judge.specs.Answer.{toldText}
 use borrow.Author.Needs.{needs}
 use Rattle.acb_write.proofs.put_string.Statement.{statement}
 use Rattle.acb_write.proofs.put_string.Tie as tie

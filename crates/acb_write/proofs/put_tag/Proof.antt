@@ -3,7 +3,7 @@ use lib.Seq.{sets}
 use mathlib.Core.Path.{sym, ap, _∙_}
 use native.Mathlib.Omega.{arith}
 use Rattle.acb.specs.Grammar.{tagBytes}
-use Rattle.acb.specs.Answer.{toldTag}
+use Rattle.acb_judge.specs.Answer.{toldTag}
 use Rattle.acb_records.specs.Writing.{tagSize}
 use borrow.Author.Needs.{needs}
 use Rattle.acb_write.proofs.put_tag.Statement.{statement}

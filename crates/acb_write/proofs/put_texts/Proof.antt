@@ -1,7 +1,7 @@
 use Rattle.acb_records.proofs.Judging.{sizes-four, four-sound}
 use Rattle.acb_write.proofs.Puts.{put-texts}
 use native.Mathlib.Omega.{arith}
-use Rattle.acb.specs.Answer.{toldText}
+use Rattle.acb_judge.specs.Answer.{toldText}
 use Rattle.acb_records.specs.Writing.{stringSize, textFault}
 use borrow.Author.Needs.{needs}
 use Rattle.acb_write.proofs.put_texts.Statement.{statement}

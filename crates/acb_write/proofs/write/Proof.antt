@@ -4,7 +4,7 @@ use Rattle.fields.proofs.Writing.{writes-no, writes-none, writes-all}
 use Rattle.fields.specs.Answer.{toldWritten}
 use mathlib.Core.Path.{sym, ap, _∙_}
 use native.Mathlib.Omega.{arith}
-use Rattle.acb.specs.Answer.{toldHeader, toldTag}
+use Rattle.acb_judge.specs.Answer.{toldHeader, toldTag}
 use Prim.Native.Nat.{_/_}
 use lib.ListN.{length}
 use Rattle.acb.specs.Grammar.{fileBytes}

@@ -1,7 +1,7 @@
 use Prim.Native.Nat.{ℕ, _-_}
 use mathlib.Core.Path.{sym, ap, _∙_, subst}
 use native.Mathlib.Omega.{arith}
-use Rattle.aco.specs.Answer.{told}
+use Rattle.aco_judge.specs.Answer.{told}
 use Rattle.aco.specs.Reading.{aco}
 use Rattle.aco_read.specs.Table.{Accepted}
 use Rattle.aco_read.proofs.Filling.{count-small}

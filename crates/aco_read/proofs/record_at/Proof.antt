@@ -1,6 +1,6 @@
 use mathlib.Core.Path.{sym, ap, _∙_}
 use native.Mathlib.Omega.{arith}
-use Rattle.aco.specs.Answer.{told}
+use Rattle.aco_judge.specs.Answer.{told}
 use Rattle.aco.specs.Reading.{aco}
 use Rattle.aco_read.proofs.Answers.{accepted-of, record-refused, record-none}
 use borrow.Author.Needs.{needs}

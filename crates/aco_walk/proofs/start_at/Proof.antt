@@ -1,6 +1,6 @@
 use mathlib.Core.Path.{_≡_, refl, sym, ap, _∙_}
 use native.Mathlib.Omega.{arith}
-use Rattle.aco.specs.Answer.{told}
+use Rattle.aco_judge.specs.Answer.{told}
 use Rattle.aco_walk.proofs.Stepping.{start-refused, start-is}
 use borrow.Author.Needs.{needs}
 use Rattle.aco_walk.proofs.start_at.Statement.{statement}

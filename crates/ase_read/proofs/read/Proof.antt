@@ -1,7 +1,7 @@
 use Prim.Native.Nat.{_-_}
 use mathlib.Core.Path.{sym, ap, _∙_}
 use native.Mathlib.Omega.{arith}
-use Rattle.ase.specs.Answer.{told}
+use Rattle.ase_judge.specs.Answer.{told}
 use Rattle.ase.specs.Reading.{ase}
 use Rattle.ase_read.proofs.Filling.{count-small}
 use Rattle.ase_read.proofs.Answers.{accepted-of, filled-short, filled-is, filled-refused}

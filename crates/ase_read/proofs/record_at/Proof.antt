@@ -1,6 +1,6 @@
 use mathlib.Core.Path.{sym, ap, _∙_}
 use native.Mathlib.Omega.{arith}
-use Rattle.ase.specs.Answer.{told}
+use Rattle.ase_judge.specs.Answer.{told}
 use Rattle.ase.specs.Reading.{ase}
 use Rattle.ase_read.proofs.Answers.{accepted-of, record-refused, record-none}
 use borrow.Author.Needs.{needs}

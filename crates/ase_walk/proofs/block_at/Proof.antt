@@ -1,6 +1,6 @@
 use mathlib.Core.Path.{_≡_, refl, sym, ap, _∙_}
 use native.Mathlib.Omega.{arith}
-use Rattle.ase.specs.Answer.{toldPassed}
+use Rattle.ase_judge.specs.Answer.{toldPassed}
 use Rattle.ase_walk.proofs.Blocks.{block-moves}
 use Rattle.ase_walk.proofs.Stepping.{block-over, passed-stands, block-lost, block-shown}
 use borrow.Author.Needs.{needs}

@@ -1,7 +1,7 @@
 use mathlib.Core.Path.{_≡_, refl, sym, ap, _∙_}
 use native.Mathlib.Omega.{arith}
 use Rattle.ase.specs.Reading.{ase}
-use Rattle.ase.specs.Answer.{told}
+use Rattle.ase_judge.specs.Answer.{told}
 use Rattle.ase_walk.proofs.Stepping.{lent-refused, lent-is}
 use borrow.Author.Needs.{needs}
 use Rattle.ase_walk.proofs.lent.Statement.{statement}

@@ -1,6 +1,6 @@
 use mathlib.Core.Path.{sym, ap}
 use Rattle.khuyurek.specs.Exported.{answerOf}
-use Rattle.aco.specs.Answer.{told}
+use Rattle.aco_judge.specs.Answer.{told}
 use borrow.Author.Needs.{needs}
 use Rattle.khuyurek.proofs.exported.Statement.{statement}
 use Rattle.khuyurek.proofs.exported.Tie as tie

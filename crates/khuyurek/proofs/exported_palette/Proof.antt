@@ -1,6 +1,6 @@
 use mathlib.Core.Path.{sym, ap}
 use Rattle.khuyurek.specs.Exported.{paletteOf}
-use Rattle.ase.specs.Answer.{told}
+use Rattle.ase_judge.specs.Answer.{told}
 use borrow.Author.Needs.{needs}
 use Rattle.khuyurek.proofs.exported_palette.Statement.{statement}
 use Rattle.khuyurek.proofs.exported_palette.Tie as tie

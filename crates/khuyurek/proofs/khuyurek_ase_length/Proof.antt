@@ -1,5 +1,5 @@
 use mathlib.Core.Path.{ap, _∙_}
-use Rattle.khuyurek.specs.Exported.{wroteOfAse}
+use Rattle.khuyurek.specs.Exported.{writtenOf}
 use borrow.Author.Needs.{needs}
 use Rattle.khuyurek.proofs.khuyurek_ase_length.Statement.{statement}
 use Rattle.khuyurek.proofs.khuyurek_ase_length.Tie as tie
@@ -7,12 +7,12 @@ use Rattle.khuyurek.proofs.khuyurek_ase_length.Tie as tie
 write-length-requires : tie.Need-write-length-requires
 write-length-requires c κs = search needs
 
-exported-size-requires : tie.Need-exported-size-requires
-exported-size-requires c κs = search needs
+exported-length-requires : tie.Need-exported-length-requires
+exported-length-requires c κs = search needs
 
 returns : tie.Need-returns
-returns c = c .exported-size .ensures ∙ ap wroteOfAse (c .before .write-length .ensures)
+returns c = c .exported-length .ensures ∙ ap writtenOf (c .before .write-length .ensures)
 
 pub khuyurek-ase-length-spec : {M : Type 1} → statement M
 khuyurek-ase-length-spec =
-    tie.close (tie.spec write-length-requires exported-size-requires returns)
+    tie.close (tie.spec write-length-requires exported-length-requires returns)

@@ -1,6 +1,6 @@
 use mathlib.Core.Path.{sym, ap, _∙_}
 use Rattle.khuyurek.specs.Acb.{answerOf}
-use Rattle.acb.specs.Answer.{told}
+use Rattle.acb_judge.specs.Answer.{told}
 use borrow.Author.Needs.{needs}
 use Rattle.khuyurek.proofs.books.exported.Statement.{statement}
 use Rattle.khuyurek.proofs.books.exported.Tie as tie

@@ -1,11 +1,12 @@
 use Prim.Native.Nat.{ℕ}
 use mathlib.Core.List.{List}
 use mathlib.Core.Path.{_≡_, sym, ap, _∙_}
-use Rattle.acb.specs.Answer.{Shown, toldKnown, toldTag}
-use Rattle.acb.specs.Parts.{Found}
-use Rattle.acb.specs.declared.Known.{Known}
+use Rattle.acb_judge.specs.Answer.{Shown, toldKnown, toldTag}
+use Rattle.acb_judge.specs.Parts.{Found}
+use Rattle.acb_judge.specs.declared.Known.{Known}
 use Rattle.acb_records.specs.Writing.{given, needed, written}
-use Rattle.khuyurek.specs.Acb.{writtenOf, lengthOf}
+use Rattle.khuyurek.specs.Exported.{writtenOf}
+use Rattle.khuyurek.specs.Acb.{lengthOf}
 use borrow.Author.Needs.{needs}
 use Rattle.khuyurek.proofs.books.khuyurek_acb_length.Statement.{statement}
 use Rattle.khuyurek.proofs.books.khuyurek_acb_length.Tie as tie
@@ -25,8 +26,8 @@ header-given-requires c κs = search needs
 write-length-requires : tie.Need-write-length-requires
 write-length-requires c κs = search needs
 
-exported-size-requires : tie.Need-exported-size-requires
-exported-size-requires c κs = search needs
+exported-length-requires : tie.Need-exported-length-requires
+exported-length-requires c κs = search needs
 
 returns : tie.Need-returns
 returns c =
@@ -36,10 +37,10 @@ returns c =
 returns-2 : tie.Need-returns-2
 returns-2 c =
     let st = c .before .before .before .before .before .before .before .before .before in
-    c .exported-size .ensures
+    c .exported-length .ensures
     ∙ ap writtenOf (c .before .write-length .ensures)
     ∙ ap (λ (h : Shown). writtenOf (needed (st .args .text .now) h (toldTag (c .before .before .before .before .tag .given .0 .0)) (given (st .args .records .now)))) (c .before .before .header-given .ensures)
     ∙ ap (λ (f : Found). lengthOf (st .args .text .now) (st .args .header) f (given (st .args .records .now))) (sym (ap toldKnown (c .before .before .before .before .tag .given .1)) ∙ c .before .before .before .before .before .before .tag-given .ensures)
 
 pub khuyurek-acb-length-spec : {M : Type 1} → statement M
-khuyurek-acb-length-spec = tie.close (tie.spec tag-given-requires enum-told enum-known-tag header-given-requires write-length-requires exported-size-requires returns returns-2)
+khuyurek-acb-length-spec = tie.close (tie.spec tag-given-requires enum-told enum-known-tag header-given-requires write-length-requires exported-length-requires returns returns-2)

@@ -1,11 +1,12 @@
 use Prim.Native.Nat.{ℕ}
 use mathlib.Core.List.{List}
 use mathlib.Core.Path.{_≡_, sym, ap, _∙_}
-use Rattle.acb.specs.Answer.{Shown, toldKnown, toldTag}
-use Rattle.acb.specs.Parts.{Found}
-use Rattle.acb.specs.declared.Known.{Known}
+use Rattle.acb_judge.specs.Answer.{Shown, toldKnown, toldTag}
+use Rattle.acb_judge.specs.Parts.{Found}
+use Rattle.acb_judge.specs.declared.Known.{Known}
 use Rattle.acb_records.specs.Writing.{given, needed, written}
-use Rattle.khuyurek.specs.Acb.{sizedOf, wroteOf}
+use Rattle.khuyurek.specs.Exported.{wroteOf as sizedOf}
+use Rattle.khuyurek.specs.Acb.{wroteOf}
 use borrow.Author.Needs.{needs}
 use Rattle.khuyurek.proofs.books.khuyurek_acb_write.Statement.{statement}
 use Rattle.khuyurek.proofs.books.khuyurek_acb_write.Tie as tie
@@ -25,8 +26,8 @@ header-given-requires c κs = search needs
 write-requires : tie.Need-write-requires
 write-requires c κs = search needs
 
-exported-size-requires : tie.Need-exported-size-requires
-exported-size-requires c κs = search needs
+exported-length-requires : tie.Need-exported-length-requires
+exported-length-requires c κs = search needs
 
 returns : tie.Need-returns
 returns c =
@@ -43,7 +44,7 @@ returns-2 c =
     ∙ ap (λ (h : Shown). sizedOf (written (st .args .text .now) h (toldTag (c .before .before .before .before .before .before .before .tag .given .0 .0)) (given (st .args .records .now)) (st .args .out .now))) (c .before .before .before .before .before .header-given .ensures)
     ∙ ap (λ (f : Found). wroteOf (st .args .text .now) (st .args .header) f (given (st .args .records .now)) (st .args .out .now)) (sym (ap toldKnown (c .before .before .before .before .before .before .before .tag .given .1)) ∙ c .before .before .before .before .before .before .before .before .before .tag-given .ensures)
     in
-    rw (c .exported-size .ensures) wrote
+    rw (c .exported-length .ensures) wrote
 
 pub khuyurek-acb-write-spec : {M : Type 1} → statement M
-khuyurek-acb-write-spec = tie.close (tie.spec tag-given-requires enum-told enum-known-tag header-given-requires write-requires exported-size-requires returns same-length returns-2)
+khuyurek-acb-write-spec = tie.close (tie.spec tag-given-requires enum-told enum-known-tag header-given-requires write-requires exported-length-requires returns same-length returns-2)

@@ -1,0 +1,2 @@
+-- Laws of the definitions of specs/, for this crate's proofs and its callers'.
+pub mod Judging

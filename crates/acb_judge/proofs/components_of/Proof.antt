@@ -1,0 +1,12 @@
+use borrow.Author.Tests.{ne-eqb}
+use Rattle.acb_judge.proofs.components_of.Statement.{statement}
+use Rattle.acb_judge.proofs.components_of.Tie as tie
+
+returns : tie.Need-returns
+returns c = rw (c .if1 .taken)
+
+returns-2 : tie.Need-returns-2
+returns-2 c = simp (ne-eqb _ _ (c .if1 .left))
+
+pub components-of-spec : {M : Type 1} → statement M
+components-of-spec = tie.close (tie.spec returns returns-2)

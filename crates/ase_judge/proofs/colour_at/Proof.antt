@@ -1,0 +1,57 @@
+use Rattle.fields.specs.Reader.{mapRes}
+use Rattle.fields.specs.Answer.{toldStep}
+use Rattle.ase.specs.Reading.{inside}
+use lib.Seq.{length-take-le}
+use mathlib.Core.Path.{sym, ap, _∙_}
+use Prim.Native.Nat.{_+_, _-_}
+use Rattle.ase_judge.proofs.Judging.{colour-map}
+use borrow.Author.Needs.{needs}
+use Rattle.ase_judge.proofs.colour_at.Statement.{statement}
+use Rattle.ase_judge.proofs.colour_at.Tie as tie
+
+slice-aggregate-shade-at : tie.Need-slice-aggregate-shade-at
+slice-aggregate-shade-at c = sym (length-take-le (c .before .before .args .end) (c .before .before .args .file .now) (c .before .before .pre .1))
+
+add-shade-at : tie.Need-add-shade-at
+add-shade-at c = search needs
+
+shade-at-requires : tie.Need-shade-at-requires
+shade-at-requires c κs = search needs
+
+add-inside-of : tie.Need-add-inside-of
+add-inside-of c = search needs
+
+inside-of-requires : tie.Need-inside-of-requires
+inside-of-requires c κs = search needs
+
+enum-known-number : tie.Need-enum-known-number
+enum-known-number c = search needs
+
+enum-known-next : tie.Need-enum-known-next
+enum-known-next c = search needs
+
+returns : tie.Need-returns
+returns c =
+    let io = c .before .before .before in
+    let a = io .before .before .before .before .args in
+    sym (colour-map (a .depth) (a .end) (a .file .now) (a .at) ∙ ap (mapRes (λ u. (a .depth, 1))) (ap (inside (a .at + 2) (a .end)) (sym (io .before .shade-at .ensures)) ∙ sym (io .inside-of .ensures) ∙ ap toldStep (c .before .number .given .1)))
+
+returns-2 : tie.Need-returns-2
+returns-2 c =
+    let io = c .before .before .before in
+    let a = io .before .before .before .before .args in
+    sym (colour-map (a .depth) (a .end) (a .file .now) (a .at) ∙ ap (mapRes (λ u. (a .depth, 1))) (ap (inside (a .at + 2) (a .end)) (sym (io .before .shade-at .ensures)) ∙ sym (io .inside-of .ensures) ∙ ap toldStep (c .before .next .given .1)))
+
+pub colour-at-spec : {M : Type 1} → statement M
+colour-at-spec =
+    tie.close
+    (tie.spec
+    slice-aggregate-shade-at
+    add-shade-at
+    shade-at-requires
+    add-inside-of
+    inside-of-requires
+    enum-known-number
+    enum-known-next
+    returns
+    returns-2)

@@ -1,0 +1,38 @@
+use mathlib.Core.Path.{sym, ap, _∙_}
+use Prim.Native.Nat.{ℕ, _-_}
+use Rattle.ase_judge.proofs.Judging.{shade-done}
+use Rattle.fields.specs.Reader.{Res, done, then}
+use Rattle.fields.specs.Answer.{toldName}
+use Rattle.ase_judge.specs.Parts.{paint}
+use borrow.Author.Needs.{needs}
+use Rattle.ase_judge.proofs.shade_at.Statement.{statement}
+use Rattle.ase_judge.proofs.shade_at.Tie as tie
+
+name16-at-requires : tie.Need-name16-at-requires
+name16-at-requires c κs = search needs
+
+enum-known-x : tie.Need-enum-known-x
+enum-known-x c = search needs
+
+enum-known-next : tie.Need-enum-known-next
+enum-known-next c = search needs
+
+paint-at-requires : tie.Need-paint-at-requires
+paint-at-requires c κs = search needs
+
+returns : tie.Need-returns
+returns c =
+    let call = c .before .before .before in
+    let a = call .before .before .args in
+    sym (shade-done (a .file .now) (a .at) ∙ ap (λ (m : Res (ℕ × ℕ)). then (done m) (λ u q. paint (a .file .now) q)) (sym (sym (ap toldName (c .before .x .given .1)) ∙ call .name16-at .ensures)))
+
+returns-2 : tie.Need-returns-2
+returns-2 c =
+    let call = c .before .before .before .before in
+    let a = call .before .before .args in
+    c .paint-at .ensures ∙ sym (shade-done (a .file .now) (a .at) ∙ ap (λ (m : Res (ℕ × ℕ)). then (done m) (λ u q. paint (a .file .now) q)) (sym (sym (ap toldName (c .before .before .next .given .1)) ∙ call .name16-at .ensures)))
+
+pub shade-at-spec : {M : Type 1} → statement M
+shade-at-spec =
+    tie.close
+    (tie.spec name16-at-requires enum-known-x enum-known-next paint-at-requires returns returns-2)

@@ -1,0 +1,52 @@
+-- What each answer of the code says.
+use Prim.Native.Nat.{ℕ, _+_}
+use mathlib.Core.List.{List, [], _∷_}
+use lib.ListN.{length}
+use Rattle.fields.specs.Reader.{Res, ok, refuse, stateAfter}
+use Rattle.ase.specs.Reading.{Entry, started, stopped, coloured, standingAfter}
+use Rattle.ase_judge.specs.declared.Answer.{Answer}
+use Rattle.ase_judge.specs.declared.Answer.the-variants as va
+use Rattle.ase_judge.specs.declared.Passed.{Passed}
+use Rattle.ase_judge.specs.declared.Passed.the-variants as vp
+use Rattle.ase_judge.specs.declared.Heading.{Heading}
+use Rattle.ase_judge.specs.declared.Heading.the-variants as vh
+
+-- how many of some records are colours
+abbrev pub colourIn : Entry → ℕ
+colourIn (started nm) = 0
+colourIn stopped = 0
+colourIn (coloured nm t bs k) = 1
+
+unfoldable pub colours : List Entry → ℕ
+colours [] = 0
+colours (e ∷ es) = colourIn e + colours es
+
+-- accepted: the number of blocks and of colours; refused: number and place
+pub data Verdict : Type 0 where
+  accepted : ℕ → ℕ → Verdict
+  refused : ℕ → ℕ → Verdict
+
+-- the verdict on a file
+abbrev pub verdict : Res (List Entry) → Verdict
+verdict (ok es q) = accepted (length es) (colours es)
+verdict (refuse x p r f) = refused x p
+
+abbrev pub told : Answer → Verdict
+told (va.Accepted n k) = accepted n k
+told (va.Refused x p) = refused x p
+
+-- what is told of a block that was passed, where d groups stood open: how many then do, and how many colours it is
+abbrev pub passed : ℕ → Entry → ℕ × ℕ
+passed d e = (standingAfter d e, colourIn e)
+
+-- the same of some blocks
+abbrev pub tally : ℕ → List Entry → ℕ × ℕ
+tally d es = (stateAfter standingAfter d es, colours es)
+
+abbrev pub toldPassed : Passed → Res (ℕ × ℕ)
+toldPassed (vp.Next n d k) = ok (d, k) n
+toldPassed (vp.Refused x p) = refuse x p 0 0
+
+abbrev pub toldHeading : Heading → Res ℕ
+toldHeading (vh.Is n next) = ok n next
+toldHeading (vh.Refused x p) = refuse x p 0 0
