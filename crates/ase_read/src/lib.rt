@@ -74,6 +74,35 @@ fn units_of(count: u16) -> u32
     (count - 1) as u32
 }
 
+// Stores the nine numbers of a row. The stores stand by themselves, so that their proof knows of
+// nothing else.
+fn put_numbers(
+    table: &mut [u32],
+    to: usize,
+    kind: u32,
+    place: u32,
+    units: u32,
+    tag: u32,
+    a: u32,
+    b: u32,
+    c: u32,
+    d: u32,
+    last: u32,
+)
+    requires { ⌜ to + 9 ≤ length (now table) ⌝ }
+    ensures { λ _. ⌜ now (table .exit) ≡ sets (now (table .entry)) to (kind ∷ place ∷ units ∷ tag ∷ a ∷ b ∷ c ∷ d ∷ last ∷ []) ⌝ }
+{
+    table[to] = kind;
+    table[to + 1] = place;
+    table[to + 2] = units;
+    table[to + 3] = tag;
+    table[to + 4] = a;
+    table[to + 5] = b;
+    table[to + 6] = c;
+    table[to + 7] = d;
+    table[to + 8] = last;
+}
+
 // Stores the numbers of the block from `at` to `end`. All is loaded from the file up to its end, so
 // that what a shorter payload does not have is 0, and only then stored, which compilers join.
 fn put_row(file: &[u8], at: usize, end: usize, table: &mut [u32], to: usize)
@@ -92,15 +121,19 @@ fn put_row(file: &[u8], at: usize, end: usize, table: &mut [u32], to: usize)
     let last = fields::u16_or_zero(part, end - 2);
     let place = first_at(count, at);
     let units = units_of(count);
-    table[to] = kind as u32;
-    table[to + 1] = place;
-    table[to + 2] = units;
-    table[to + 3] = tag;
-    table[to + 4] = a;
-    table[to + 5] = b;
-    table[to + 6] = c;
-    table[to + 7] = d;
-    table[to + 8] = last as u32;
+    put_numbers(
+        table,
+        to,
+        kind as u32,
+        place,
+        units,
+        tag,
+        a,
+        b,
+        c,
+        d,
+        last as u32,
+    );
 }
 
 // Stores the n records of an accepted file.
@@ -157,12 +190,6 @@ fn coloured(place: usize, units: u32, tag: u32, a: u32, b: u32, c: u32, d: u32, 
     }
 }
 
-fn wide(x: u32) -> usize
-    ensures { λ r. ⌜ r ≡ x ⌝ }
-{
-    x as usize
-}
-
 // Record i of an accepted file, which has it.
 fn found(file: &[u8], n: usize, i: usize) -> Record
     requires { ⌜ Accepted (ase (now file)) n × (i < n) ⌝ }
@@ -172,7 +199,7 @@ fn found(file: &[u8], n: usize, i: usize) -> Record
     let end = block_end(file, at);
     let mut row = [0; WIDTH];
     put_row(file, at, end, &mut row, 0);
-    let place = wide(row[1]);
+    let place = fields::wide(row[1]);
     let block = row[0] as u16;
     match block {
         START => Record::Group {

@@ -497,12 +497,6 @@ pub fn read(file: &[u8], table: &mut [u32]) -> Answer
 
 // ---- one row
 
-fn wide(x: u32) -> usize
-    ensures { λ r. ⌜ r ≡ x ⌝ }
-{
-    x as usize
-}
-
 // The kind of a row, and where its value lies.
 fn extent_at(file: &[u8], row: usize) -> Extent
     ensures { λ r. ⌜ toldExtent r ≡ extentOf (rowIn row (descriptor (now (file .entry)))) ⌝ }
@@ -515,7 +509,7 @@ fn extent_at(file: &[u8], row: usize) -> Extent
             }
             let mut t = [0u32; 3];
             root(file, &mut t, row + 1);
-            Extent::Is(t[0], wide(t[1]), wide(t[2]))
+            Extent::Is(t[0], fields::wide(t[1]), fields::wide(t[2]))
         }
     }
 }

@@ -82,7 +82,7 @@ returns : tie.Need-returns
 returns c =
     let r = c .before .before in
     let st = r .before .before .before .before .before .before in
-    record-is _ _ (st .pre .0) (st .args .i) (st .pre .1) _ (row-group (entryAt (st .args .file .now) (st .args .i)) _ (loaded r) (c .match .keys1) _ (c .before .wide .ensures))
+    record-is _ _ (st .pre .0) (st .args .i) (st .pre .1) _ (row-group (entryAt (st .args .file .now) (st .args .i)) _ (loaded r) (c .match .keys1) _ (c .before .wide .ensures .0))
 
 returns-2 : tie.Need-returns-2
 returns-2 c =
@@ -94,7 +94,7 @@ returns-3 : tie.Need-returns-3
 returns-3 c =
     let r = c .before .before .before in
     let st = r .before .before .before .before .before .before in
-    record-is _ _ (st .pre .0) (st .args .i) (st .pre .1) _ (c .coloured .ensures ∙ hue (c .before) .shows _ (c .before .before .wide .ensures))
+    record-is _ _ (st .pre .0) (st .args .i) (st .pre .1) _ (c .coloured .ensures ∙ hue (c .before) .shows _ (c .before .before .wide .ensures .0))
 
 pub found-spec : {M : Type 1} → statement M
 found-spec =

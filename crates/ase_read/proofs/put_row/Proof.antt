@@ -1,10 +1,8 @@
 use Prim.Native.Nat.{ℕ}
 use mathlib.Core.List.{List}
 use mathlib.Core.Path.{sym, ap, _∙_}
-use lib.ListN.{length-set, take}
+use lib.ListN.{take}
 use lib.Seq.{sets, length-take-le}
-use native.Mathlib.Omega.{arith}
-use native.Mathlib.Numerals.{unary-clauses}
 use Rattle.ase_read.proofs.Filling.{row-loaded}
 use borrow.Author.Needs.{needs}
 use Rattle.ase_read.proofs.put_row.Statement.{statement}
@@ -73,97 +71,23 @@ first-at-requires c κs = search needs
 units-of-requires : tie.Need-units-of-requires
 units-of-requires c κs = search needs
 
-cast-table : tie.Need-cast-table
-cast-table c = search needs
+cast-put-numbers : tie.Need-cast-put-numbers
+cast-put-numbers c = search needs
 
-mul-table : tie.Need-mul-table
-mul-table c = search needs
+cast-put-numbers-2 : tie.Need-cast-put-numbers-2
+cast-put-numbers-2 c = search needs
 
-slice-write-table : tie.Need-slice-write-table
-slice-write-table c = search needs
-
-add-table : tie.Need-add-table
-add-table c = search needs
-
-mul-table-2 : tie.Need-mul-table-2
-mul-table-2 c = search needs
-
-slice-write-table-2 : tie.Need-slice-write-table-2
-slice-write-table-2 c = simp length-set (omega arith)
-
-add-table-2 : tie.Need-add-table-2
-add-table-2 c = search needs
-
-mul-table-3 : tie.Need-mul-table-3
-mul-table-3 c = search needs
-
-slice-write-table-3 : tie.Need-slice-write-table-3
-slice-write-table-3 c = simp length-set (omega arith)
-
-add-table-3 : tie.Need-add-table-3
-add-table-3 c = search needs
-
-mul-table-4 : tie.Need-mul-table-4
-mul-table-4 c = search needs
-
-slice-write-table-4 : tie.Need-slice-write-table-4
-slice-write-table-4 c = simp length-set (omega arith)
-
-add-table-4 : tie.Need-add-table-4
-add-table-4 c = search needs
-
-mul-table-5 : tie.Need-mul-table-5
-mul-table-5 c = search needs
-
-slice-write-table-5 : tie.Need-slice-write-table-5
-slice-write-table-5 c = simp length-set (omega arith)
-
-add-table-5 : tie.Need-add-table-5
-add-table-5 c = search needs
-
-mul-table-6 : tie.Need-mul-table-6
-mul-table-6 c = search needs
-
-slice-write-table-6 : tie.Need-slice-write-table-6
-slice-write-table-6 c = simp length-set (omega arith)
-
-add-table-6 : tie.Need-add-table-6
-add-table-6 c = search needs
-
-mul-table-7 : tie.Need-mul-table-7
-mul-table-7 c = search needs
-
-slice-write-table-7 : tie.Need-slice-write-table-7
-slice-write-table-7 c = simp length-set (omega arith)
-
-add-table-7 : tie.Need-add-table-7
-add-table-7 c = search needs
-
-mul-table-8 : tie.Need-mul-table-8
-mul-table-8 c = search needs
-
-slice-write-table-8 : tie.Need-slice-write-table-8
-slice-write-table-8 c = simp length-set (omega arith)
-
-cast-table-2 : tie.Need-cast-table-2
-cast-table-2 c = search needs
-
-add-table-8 : tie.Need-add-table-8
-add-table-8 c = search needs
-
-mul-table-9 : tie.Need-mul-table-9
-mul-table-9 c = search needs
-
-slice-write-table-9 : tie.Need-slice-write-table-9
-slice-write-table-9 c = simp length-set (omega arith)
+put-numbers-requires : tie.Need-put-numbers-requires
+put-numbers-requires c κs = search needs
 
 same-length : tie.Need-same-length
-same-length c = simp length-set
+same-length c = search needs
 
 returns : tie.Need-returns
 returns c =
-    let l = c .before .before .u16-or-zero3 in
-    let d5 = c .before .before .before in
+    let u = c .before .before .before .before in
+    let l = u .before .before .u16-or-zero3 in
+    let d5 = u .before .before .before in
     let d4 = d5 .before in
     let d3 = d4 .before in
     let d2 = d3 .before in
@@ -171,9 +95,9 @@ returns c =
     let n = d1 .before in
     let k = n .before in
     let a = k .before .before .before .before .args in
-    (simp unary-clauses)
+    c .before .before .put-numbers .ensures
     ∙ ap (λ (xs : List ℕ). sets (a .table .now) (a .to) xs)
-    (row-loaded (take (a .end) (a .file .now)) (a .at) (a .end) _ _ _ _ _ _ _ _ _ _ (k .u16-or-zero .ensures) (n .u16-or-zero2 .ensures) (c .before .first-at .ensures) (c .units-of .ensures)
+    (row-loaded (take (a .end) (a .file .now)) (a .at) (a .end) _ _ _ _ _ _ _ _ _ _ (k .u16-or-zero .ensures) (n .u16-or-zero2 .ensures) (u .before .first-at .ensures) (u .units-of .ensures)
     (d1 .u32-or-zero .ensures) (d2 .u32-or-zero2 .ensures) (d3 .u32-or-zero3 .ensures) (d4 .u32-or-zero4 .ensures) (d5 .u32-or-zero5 .ensures) (l .ensures))
 
 pub put-row-spec : {M : Type 1} → statement M
@@ -201,33 +125,8 @@ put-row-spec =
     u16-or-zero-requires-3
     first-at-requires
     units-of-requires
-    cast-table
-    mul-table
-    slice-write-table
-    add-table
-    mul-table-2
-    slice-write-table-2
-    add-table-2
-    mul-table-3
-    slice-write-table-3
-    add-table-3
-    mul-table-4
-    slice-write-table-4
-    add-table-4
-    mul-table-5
-    slice-write-table-5
-    add-table-5
-    mul-table-6
-    slice-write-table-6
-    add-table-6
-    mul-table-7
-    slice-write-table-7
-    add-table-7
-    mul-table-8
-    slice-write-table-8
-    cast-table-2
-    add-table-8
-    mul-table-9
-    slice-write-table-9
+    cast-put-numbers
+    cast-put-numbers-2
+    put-numbers-requires
     same-length
     returns)

@@ -54,7 +54,7 @@ returns-2 c =
 returns-3 : tie.Need-returns-3
 returns-3 c =
     let a = c .before .before .before .before .before .before .before .before .before .before .before .args in
-    row-found (a .file .now) (a .row) _ (sym (ap told (c .before .before .before .before .before .before .before .rows .given .1)) ∙ c .before .before .before .before .before .before .before .before .before .judge .ensures) (c .before .before .before .before .before .if1 .left) _ refl _ _ (c .before .before .before .root .ensures) _ _ (c .before .wide .ensures) (c .wide2 .ensures)
+    row-found (a .file .now) (a .row) _ (sym (ap told (c .before .before .before .before .before .before .before .rows .given .1)) ∙ c .before .before .before .before .before .before .before .before .before .judge .ensures) (c .before .before .before .before .before .if1 .left) _ refl _ _ (c .before .before .before .root .ensures) _ _ (c .before .wide .ensures .0) (c .wide2 .ensures .0)
 
 pub extent-at-spec : {M : Type 1} → statement M
 extent-at-spec =
