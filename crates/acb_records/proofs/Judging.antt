@@ -1,4 +1,5 @@
 -- Which fault is found first, and how long the file is, on plain values. Assumes nothing.
+use Rattle.fields.proofs.Counted.{counted-end, counted-start, counted-turn}
 use Prim.Native.Nat.{ℕ, zero, suc, _+_, _*_, _-_, _/_, _≤_, _<_}
 use mathlib.Core.Path.{_≡_, refl, sym, ap, _∙_, subst}
 use mathlib.Core.List.{List, [], _∷_}
@@ -158,51 +159,17 @@ toned t g = stringSize (g .name) + t
 -- ---- a loop over the records of a run
 
 module _ (run : List ℕ) where
-  pub givens-turn : (n i : ℕ) → i < n → givens run (n - i) i ≡ givenAt run i ∷ givens run (n - (i + 1)) (i + 1)
-  unfolding givens
-  givens-turn n i h = let e : n - i ≡ suc (n - (i + 1)) = omega arith in ap (λ (k : ℕ). givens run k i) e
-
-  pub givens-end : (n i : ℕ) → n ≤ i → givens run (n - i) i ≡ []
-  unfolding givens
-  givens-end n i h = let e : n - i ≡ 0 = omega arith in ap (λ (k : ℕ). givens run k i) e
-
-  pub givens-start : (n : ℕ) → givens run n 0 ≡ givens run (n - 0) 0
-  givens-start n = ap (λ (k : ℕ). givens run k 0) (sym (sub-zero n))
-
-  pub length-givens : (n k : ℕ) → length (givens run n k) ≡ n
-  unfolding givens
-  length-givens zero k = refl
-  length-givens (suc n) k = ap suc (length-givens n (k + 1))
-
   module _ (f : Given → ℕ) where
     pub sizes-start : (n : ℕ) → sizes f (givens run (n - 0) 0) ≡ sizes f (givens run n 0)
-    sizes-start n = ap (sizes f) (sym (givens-start n))
+    sizes-start n = ap (sizes f) (sym (counted-start (givenAt run) n))
 
     pub sizes-turn : (n i : ℕ) → i < n → sizes f (givens run (n - i) i) ≡ f (givenAt run i) + sizes f (givens run (n - (i + 1)) (i + 1))
     unfolding sizes
-    sizes-turn n i h = ap (sizes f) (givens-turn n i h)
+    sizes-turn n i h = ap (sizes f) (counted-turn (givenAt run) n i h)
 
     pub sizes-end : (n i : ℕ) → n ≤ i → sizes f (givens run (n - i) i) ≡ 0
     unfolding sizes
-    sizes-end n i h = ap (sizes f) (givens-end n i h)
-
-    pub faults-start : (n : ℕ) → faults f (givens run n 0) ≡ faults f (givens run (n - 0) 0)
-    faults-start n = ap (faults f) (givens-start n)
-
-    -- what is left has the first fault of all
-    module _ (all n i : ℕ) (inv : all ≡ faults f (givens run (n - i) i)) where
-      module _ (h : i < n) (r : ℕ) (g : Given) (at : g ≡ givenAt run i) (e : r ≡ f g) where
-        turn : all ≡ faults f (givenAt run i ∷ givens run (n - (i + 1)) (i + 1))
-        turn = inv ∙ ap (faults f) (givens-turn n i h)
-
-        pub faults-found : (r ≡ 0 → ⊥) → r ≡ all
-        faults-found z = found-here f (givenAt run i) _ r (e ∙ ap f at) z ∙ sym turn
-
-        pub faults-more : r ≡ 0 → all ≡ faults f (givens run (n - (i + 1)) (i + 1))
-        faults-more z = turn ∙ sym (found-next f (givenAt run i) _ r _ (e ∙ ap f at) z refl)
-
-      pub faults-end : n ≤ i → 0 ≡ all
-      faults-end h = found-none f ∙ sym (inv ∙ ap (faults f) (givens-end n i h))
+    sizes-end n i h = ap (sizes f) (counted-end (givenAt run) n i h)
 
 -- ---- four values
 
@@ -223,12 +190,12 @@ module _ {A : Type 0} (f : A → ℕ) (a b c d : A) where
 
 module _ (text run : List ℕ) (m : ℕ) where
   pub fit-start : (n at room : ℕ) → RecordsFit text m (givens run n 0) at room → RecordsFit text m (givens run (n - 0) 0) at room
-  fit-start n at room e = subst (λ (gs : List Given). RecordsFit text m gs at room) (givens-start run n) e
+  fit-start n at room e = subst (λ (gs : List Given). RecordsFit text m gs at room) (counted-start (givenAt run) n) e
 
   module _ (n i at room : ℕ) (h : i < n) (e : RecordsFit text m (givens run (n - i) i) at room) where
     none : (colourFault text m (givenAt run i) ≡ 0) × (faults (colourFault text m) (givens run (n - (i + 1)) (i + 1)) ≡ 0)
     unfolding faults
-    none = first-inv _ _ (sym (ap (faults (colourFault text m)) (givens-turn run n i h)) ∙ e .sound)
+    none = first-inv _ _ (sym (ap (faults (colourFault text m)) (counted-turn (givenAt run) n i h)) ∙ e .sound)
 
     pub fit-next : RecordFits text m (givenAt run i) at room
     fit-next =

@@ -7,7 +7,7 @@ use lib.ListN.{length, getD, take, length-append}
 use lib.Seq.{getD-append-add}
 use native.Mathlib.Omega.{arith}
 use native.Mathlib.Nat.{add-zero}
-use Rattle.fields.specs.Numbers.{nums, joined, Bytes, All}
+use Rattle.fields.specs.Numbers.{counted, nums, joined, Bytes, All}
 use Rattle.fields.specs.Reader.{Reader, ok, field, body, each, limit}
 use Rattle.fields.specs.Text.{Name}
 use Rattle.fields.proofs.Places.{length-nums}
@@ -41,7 +41,7 @@ length-row : (e : Entry) → length (row e) ≡ 12
 length-row e = refl
 
 rows-back : (p : List ℕ) (k : ℕ) (es : List Entry) → length p ≡ 12 * k → givens (p ++ joined row es) (length es) k ≡ map taken es
-unfolding givens joined
+unfolding counted joined
 rows-back p k [] l = refl
 rows-back p k (e ∷ es) l =
     let len : length (p ++ row e) ≡ 12 * (k + 1) = omega (arith, length-append p (row e), length-row e) in

@@ -1,4 +1,5 @@
 -- Stores one after the other, on plain values. Assumes nothing.
+use Rattle.fields.proofs.Counted.{counted-end, counted-start, counted-turn, length-counted}
 use Prim.Native.Nat.{ℕ, zero, suc, _+_, _*_, _-_, _%_, _≤_, _<_}
 use mathlib.Core.Path.{_≡_, refl, sym, ap, ap₂, _∙_}
 use mathlib.Core.List.{List, [], _∷_, _++_, map}
@@ -8,7 +9,7 @@ use borrow.Author.Tests.{ne-eqb}
 use native.Mathlib.Omega.{arith}
 use native.Mathlib.Numerals.{unary-clauses}
 use native.Mathlib.Decide.{ℕ-discrete}
-use Rattle.fields.specs.Numbers.{be, nums, joined, Bytes, All}
+use Rattle.fields.specs.Numbers.{counted, be, nums, joined, Bytes, All}
 use Rattle.fields.specs.Store.{stored, part}
 use Rattle.fields.proofs.Places.{length-be, length-bes, length-nums, part-nums}
 use Rattle.fields.proofs.Exact.{length-map}
@@ -18,7 +19,7 @@ use Rattle.acb.specs.Reading.{componentsOf}
 use Rattle.acb_judge.specs.Answer.{Shown}
 use Rattle.acb_records.specs.Writing.{Given, givenAt, givens, unitsIn, componentsIn, colourIn, bookIn, sizes, stringSize, sizeIn, tagSize, headSize, size, textFault}
 use Rattle.acb_records.specs.Parts.{start, numberBytes, headingBytes}
-use Rattle.acb_records.proofs.Judging.{text-inside, givens-start, givens-turn, givens-end, length-givens}
+use Rattle.acb_records.proofs.Judging.{text-inside}
 use Rattle.acb.proofs.Laws.{components-some}
 
 -- ---- a string
@@ -96,7 +97,7 @@ abbrev pub Shaped : Given → Type 0
 Shaped g = (length (g .code) ≡ 6) × (length (g .components) ≡ 4)
 
 pub givens-shaped : (run : List ℕ) (n k i : ℕ) → All (λ j g. Shaped g) i (givens run n k)
-unfolding givens
+unfolding counted
 givens-shaped run zero k i = tt
 givens-shaped run (suc n) k i = ((refl, refl), givens-shaped run n (k + 1) (i + 1))
 
@@ -112,20 +113,20 @@ module _ (text : List ℕ) (m : ℕ) (few : m ≤ 4) where
 module _ (run text : List ℕ) (m : ℕ) where
   module _ (all out : List ℕ) (n i at : ℕ) where
     pub puts-start : all ≡ sets out at (joined colourBytes (map (colourIn text m) (givens run n 0))) → all ≡ sets out at (joined colourBytes (map (colourIn text m) (givens run (n - 0) 0)))
-    puts-start e = e ∙ ap (λ (gs : List Given). sets out at (joined colourBytes (map (colourIn text m) gs))) (givens-start run n)
+    puts-start e = e ∙ ap (λ (gs : List Given). sets out at (joined colourBytes (map (colourIn text m) gs))) (counted-start (givenAt run) n)
 
     module _ (inv : all ≡ sets out at (joined colourBytes (map (colourIn text m) (givens run (n - i) i)))) where
       pub puts-turn : m ≤ 4 → i < n → (o : List ℕ) (q : ℕ) → q ≡ at + sizeIn m (givenAt run i) → (g : Given) → g ≡ givenAt run i → o ≡ sets out at (colourBytes (colourIn text m g))
           → all ≡ sets o q (joined colourBytes (map (colourIn text m) (givens run (n - (i + 1)) (i + 1))))
       unfolding joined
       puts-turn few h o q w g z s =
-          inv ∙ ap (λ (gs : List Given). sets out at (joined colourBytes (map (colourIn text m) gs))) (givens-turn run n i h)
+          inv ∙ ap (λ (gs : List Given). sets out at (joined colourBytes (map (colourIn text m) gs))) (counted-turn (givenAt run) n i h)
           ∙ peel out o (colourBytes (colourIn text m (givenAt run i))) (joined colourBytes (map (colourIn text m) (givens run (n - (i + 1)) (i + 1)))) at (sizeIn m (givenAt run i)) q (length-shaped text m few (givenAt run i) (refl, refl)) (sym w)
           (s ∙ ap (λ (x : Given). sets out at (colourBytes (colourIn text m x))) z)
 
       pub puts-end : n ≤ i → out ≡ all
       unfolding joined
-      puts-end h = sym (inv ∙ ap (λ (gs : List Given). sets out at (joined colourBytes (map (colourIn text m) gs))) (givens-end run n i h))
+      puts-end h = sym (inv ∙ ap (λ (gs : List Given). sets out at (joined colourBytes (map (colourIn text m) gs))) (counted-end (givenAt run) n i h))
 
 -- ---- the header
 
@@ -234,7 +235,7 @@ module _ (run text : List ℕ) (h : Shown) (t : Tag) (n : ℕ) where
   put-file m w o₀ o₁ o₂ o₃ p q e₁ x e₂ y e₃ =
       let gs : List Given = givens run n 0 in
       let k : ℕ = componentsOf (h .space) in
-      let s : headBytes (bookIn text h t gs) ≡ headingBytes text h n = heading-is text h t gs ∙ ap (headingBytes text h) (length-givens run n 0) in
+      let s : headBytes (bookIn text h t gs) ≡ headingBytes text h n = heading-is text h t gs ∙ ap (headingBytes text h) (length-counted (givenAt run) n 0) in
       let u : 0 + headSize h ≡ p = omega arith in
       let v : p + sizes (sizeIn k) gs ≡ q = omega (arith, ap (λ (j : ℕ). sizes (sizeIn j) gs) w) in
       e₃ ∙ sym (

@@ -1,4 +1,6 @@
 -- Which fault is found first, and how long the file is, on plain values. Assumes nothing.
+use Rattle.fields.proofs.Counted.{counted-end, counted-start, counted-turn, length-counted, faults-clear}
+use Rattle.fields.specs.Numbers.{counted}
 use Prim.Native.Nat.{ℕ, zero, suc, _+_, _*_, _-_, _≤_, _<_}
 use mathlib.Core.Path.{_≡_, refl, sym, ap, _∙_, subst}
 use mathlib.Core.List.{List, [], _∷_}
@@ -82,79 +84,39 @@ name-inside names g e = elim (ℕ-discrete (g .units) 0) [
 -- ---- a loop over the records of a run
 
 module _ (run : List ℕ) where
-  pub givens-turn : (n i : ℕ) → i < n → givens run (n - i) i ≡ givenAt run i ∷ givens run (n - (i + 1)) (i + 1)
-  unfolding givens
-  givens-turn n i h = let e : n - i ≡ suc (n - (i + 1)) = omega arith in ap (λ (k : ℕ). givens run k i) e
-
-  pub givens-end : (n i : ℕ) → n ≤ i → givens run (n - i) i ≡ []
-  unfolding givens
-  givens-end n i h = let e : n - i ≡ 0 = omega arith in ap (λ (k : ℕ). givens run k i) e
-
-  pub givens-start : (n : ℕ) → givens run n 0 ≡ givens run (n - 0) 0
-  givens-start n = ap (λ (k : ℕ). givens run k 0) (sym (sub-zero n))
-
-  pub length-givens : (n k : ℕ) → length (givens run n k) ≡ n
-  unfolding givens
-  length-givens zero k = refl
-  length-givens (suc n) k = ap suc (length-givens n (k + 1))
-
   pub sizes-turn : (n i : ℕ) → i < n → sizes (givens run (n - i) i) ≡ 26 + 2 * getD run (7 * i + 6) 0 + sizes (givens run (n - (i + 1)) (i + 1))
   unfolding sizes
-  sizes-turn n i h = ap sizes (givens-turn n i h)
+  sizes-turn n i h = ap sizes (counted-turn (givenAt run) n i h)
 
   pub sizes-end : (n i : ℕ) → n ≤ i → sizes (givens run (n - i) i) ≡ 0
   unfolding sizes
-  sizes-end n i h = ap sizes (givens-end n i h)
+  sizes-end n i h = ap sizes (counted-end (givenAt run) n i h)
 
   pub sizes-all : (n k : ℕ) → 26 * n ≤ sizes (givens run n k)
-  unfolding sizes givens
+  unfolding sizes counted
   sizes-all zero k = omega arith
   sizes-all (suc n) k = let h = sizes-all n (k + 1) in omega arith
-
--- what is left has the first fault of all
-module _ (f : Given → ℕ) (run : List ℕ) where
-  faults-turn : (n i : ℕ) → i < n → faults f (givens run (n - i) i) ≡ firstOf (f (givenAt run i)) (faults f (givens run (n - (i + 1)) (i + 1)))
-  unfolding faults
-  faults-turn n i h = ap (faults f) (givens-turn run n i h)
-
-  pub faults-start : (n : ℕ) → faults f (givens run n 0) ≡ faults f (givens run (n - 0) 0)
-  faults-start n = ap (faults f) (givens-start run n)
-
-  -- no fault in what is left, so none in the next record
-  pub faults-none : (n i : ℕ) → i < n → faults f (givens run (n - i) i) ≡ 0 → (f (givenAt run i) ≡ 0) × (faults f (givens run (n - (i + 1)) (i + 1)) ≡ 0)
-  faults-none n i h e = first-inv _ _ (sym (faults-turn n i h) ∙ e)
-
-  module _ (all n i : ℕ) (inv : all ≡ faults f (givens run (n - i) i)) where
-    pub faults-found : i < n → (r : ℕ) → r ≡ f (givenAt run i) → (r ≡ 0 → ⊥) → r ≡ all
-    faults-found h r e z = hit r _ _ e z ∙ sym (inv ∙ faults-turn n i h)
-
-    pub faults-more : i < n → (r : ℕ) → r ≡ f (givenAt run i) → r ≡ 0 → all ≡ faults f (givens run (n - (i + 1)) (i + 1))
-    faults-more h r e z = inv ∙ faults-turn n i h ∙ first-none _ _ (sym e ∙ z)
-
-    pub faults-end : n ≤ i → 0 ≡ all
-    unfolding faults
-    faults-end h = sym (inv ∙ ap (faults f) (givens-end run n i h))
 
 -- ---- what storing list 2 asks
 
 module _ (names run : List ℕ) where
   pub fit-start : (n at room : ℕ) → EntriesFit names (givens run n 0) at room → EntriesFit names (givens run (n - 0) 0) at room
-  fit-start n at room e = subst (λ (gs : List Given). EntriesFit names gs at room) (givens-start run n) e
+  fit-start n at room e = subst (λ (gs : List Given). EntriesFit names gs at room) (counted-start (givenAt run) n) e
 
   module _ (n i at room : ℕ) (h : i < n) (e : EntriesFit names (givens run (n - i) i) at room) where
     none : (nameFault names (givenAt run i) ≡ 0) × (faults (nameFault names) (givens run (n - (i + 1)) (i + 1)) ≡ 0)
-    none = faults-none (nameFault names) run n i h (e .name)
+    none = faults-clear (nameFault names) (givenAt run) n i h (e .name)
 
     pub fit-next : EntryFits names (givenAt run i) at room
     fit-next =
         let t = sizes-turn run n i h in
-        let l = length-givens run (n - i) i in
+        let l = length-counted (givenAt run) (n - i) i in
         let m = sizes-all run (n - (i + 1)) (i + 1) in
         record { inside = omega (arith, e .inside); short = omega (arith, e .short); name = none .0 }
 
     pub fit-rest : (k : ℕ) → 16 + 2 * givenAt run i .units ≡ k → EntriesFit names (givens run (n - (i + 1)) (i + 1)) (at + k) room
     fit-rest k w =
         let t = sizes-turn run n i h in
-        let l = length-givens run (n - i) i in
-        let m = length-givens run (n - (i + 1)) (i + 1) in
+        let l = length-counted (givenAt run) (n - i) i in
+        let m = length-counted (givenAt run) (n - (i + 1)) (i + 1) in
         record { inside = omega (arith, e .inside); short = omega (arith, e .short); name = none .1 }

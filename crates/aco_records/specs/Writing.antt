@@ -3,7 +3,7 @@ use Prim.Native.Nat.{ℕ, zero, suc, _+_, _*_, _/_}
 use mathlib.Core.List.{List, [], _∷_, map}
 use lib.ListN.{length, getD}
 use lib.Dec.{leb}
-use Rattle.fields.specs.Numbers.{nums}
+use Rattle.fields.specs.Numbers.{counted, nums}
 use Rattle.fields.specs.Reader.{pick, numberOf, limit}
 use Rattle.fields.specs.Text.{text}
 use Rattle.fields.specs.Writing.{Outcome, needs, writes}
@@ -31,9 +31,8 @@ givenAt run k = record {
 }
 
 -- the n records from record k
-unfoldable pub givens : List ℕ → ℕ → ℕ → List Given
-givens run zero k = []
-givens run (suc n) k = givenAt run k ∷ givens run n (k + 1)
+abbrev pub givens : List ℕ → ℕ → ℕ → List Given
+givens run n k = counted (givenAt run) n k
 
 -- as many records as fit whole in a run
 abbrev pub given : List ℕ → List Given

@@ -9,7 +9,7 @@ use borrow.Author.Tests.{leb-true, ne-eqb}
 use native.Mathlib.Omega.{arith}
 use native.Mathlib.Nat.{lt-of-not-le}
 use native.Mathlib.Decide.{ℕ-discrete, decLe}
-use Rattle.fields.specs.Numbers.{joined, Bytes, nums, All}
+use Rattle.fields.specs.Numbers.{counted, joined, Bytes, nums, All}
 use Rattle.fields.specs.Reader.{pick, numberOf, limit}
 use Rattle.fields.specs.Text.{anyZero, text}
 use Rattle.fields.specs.Faults.{firstOf, faults, faultsFrom}
@@ -151,6 +151,6 @@ module _ (names : List ℕ) where
 
 -- a record of a run has four samples
 pub givens-four : (run : List ℕ) (n k i : ℕ) → All (λ k g. length (g .samples) ≡ 4) i (givens run n k)
-unfolding givens
+unfolding counted
 givens-four run zero k i = tt
 givens-four run (suc n) k i = (refl, givens-four run n (k + 1) (i + 1))

@@ -7,7 +7,7 @@ use lib.Seq.{getD-append-add}
 use native.Mathlib.Omega.{arith}
 use native.Mathlib.Nat.{add-zero}
 use native.Mathlib.Decide.{ℕ-discrete}
-use Rattle.fields.specs.Numbers.{num, nums, joined, Bytes, All}
+use Rattle.fields.specs.Numbers.{counted, num, nums, joined, Bytes, All}
 use Rattle.fields.specs.Reader.{ok}
 use Rattle.fields.proofs.Exact.{all-map, all-both, all-by}
 use Rattle.aco.specs.Grammar.{Swatch, Allowed, Palette, File, plain, named, entryBytes, listOne, listTwo, twoLists}
@@ -45,7 +45,7 @@ length-row : (e : Entry) → length (e .colour .samples) ≡ 4 → length (row e
 length-row e h = omega (arith, length-append (e .colour .samples) (e .name .first ∷ length (e .name .units) ∷ []))
 
 rows-back : (p : List ℕ) (k i : ℕ) (rs : List Entry) → All (λ j e. length (e .colour .samples) ≡ 4) i rs → length p ≡ 7 * k → givens (p ++ joined row rs) (length rs) k ≡ map taken rs
-unfolding givens joined
+unfolding counted joined
 rows-back p k i [] h l = refl
 rows-back p k i (e ∷ rs) h l =
     let len : length (p ++ row e) ≡ 7 * (k + 1) = omega (arith, length-append p (row e), length-row e (h .0)) in

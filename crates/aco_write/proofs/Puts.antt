@@ -1,4 +1,5 @@
 -- Stores one after the other, on plain values. Assumes nothing.
+use Rattle.fields.proofs.Counted.{counted-end, counted-start, counted-turn, length-counted}
 use Prim.Native.Nat.{ℕ, zero, suc, _+_, _*_, _-_, _/_, _%_, _≤_, _<_}
 use mathlib.Core.Path.{_≡_, refl, sym, ap, ap₂, _∙_}
 use mathlib.Core.List.{List, [], _∷_, _++_, map, append-assoc, append-nil}
@@ -9,7 +10,7 @@ use borrow.Rule.Slice.PartMut.{putMid, post-is}
 use native.Mathlib.Omega.{arith}
 use native.Mathlib.Decide.{ℕ-discrete}
 use native.Mathlib.Numerals.{unary-clauses}
-use Rattle.fields.specs.Numbers.{be, nums, joined, Bytes}
+use Rattle.fields.specs.Numbers.{counted, be, nums, joined, Bytes}
 use Rattle.fields.specs.Store.{stored, part}
 use Rattle.fields.specs.Text.{nameBytes, countedUnits}
 use Rattle.fields.proofs.Stores.{length-stored}
@@ -20,7 +21,7 @@ use Rattle.aco.specs.Grammar.{Swatch, colourBytes, entryBytes, listOne, listTwo
 use Rattle.aco.proofs.Whole.{length-colour}
 use Rattle.aco_records.specs.Writing.{Given, givenAt, givens, swatchIn, sizes, size, nameFault}
 use Rattle.aco_records.specs.Parts.{colourIn, plain, start}
-use Rattle.aco_records.proofs.Judging.{name-inside, givens-start, givens-turn, givens-end, length-givens}
+use Rattle.aco_records.proofs.Judging.{name-inside}
 use Rattle.fields.proofs.Storing.{as-sets, peel}
 
 -- ---- one store
@@ -125,18 +126,18 @@ put-record names b g o₀ o₁ o₂ at k l e f h m e₁ e₂ =
 
 module _ (run : List ℕ) (f : Given → Swatch) (ser : Swatch → List ℕ) (all out : List ℕ) (n i at : ℕ) where
   pub puts-start : all ≡ sets out at (joined ser (map f (givens run n 0))) → all ≡ sets out at (joined ser (map f (givens run (n - 0) 0)))
-  puts-start e = e ∙ ap (λ (gs : List Given). sets out at (joined ser (map f gs))) (givens-start run n)
+  puts-start e = e ∙ ap (λ (gs : List Given). sets out at (joined ser (map f gs))) (counted-start (givenAt run) n)
 
   pub puts-turn : all ≡ sets out at (joined ser (map f (givens run (n - i) i))) → i < n → (o : List ℕ) (k : ℕ) → length (ser (f (givenAt run i))) ≡ k → o ≡ sets out at (ser (f (givenAt run i)))
       → all ≡ sets o (at + k) (joined ser (map f (givens run (n - (i + 1)) (i + 1))))
   unfolding joined
   puts-turn e h o k l s =
-      e ∙ ap (λ (gs : List Given). sets out at (joined ser (map f gs))) (givens-turn run n i h)
+      e ∙ ap (λ (gs : List Given). sets out at (joined ser (map f gs))) (counted-turn (givenAt run) n i h)
       ∙ peel out o (ser (f (givenAt run i))) (joined ser (map f (givens run (n - (i + 1)) (i + 1)))) at k (at + k) l refl s
 
   pub puts-end : all ≡ sets out at (joined ser (map f (givens run (n - i) i))) → n ≤ i → out ≡ all
   unfolding joined
-  puts-end e h = sym (e ∙ ap (λ (gs : List Given). sets out at (joined ser (map f gs))) (givens-end run n i h))
+  puts-end e h = sym (e ∙ ap (λ (gs : List Given). sets out at (joined ser (map f gs))) (counted-end (givenAt run) n i h))
 
 -- ---- the whole file
 
@@ -148,14 +149,14 @@ same-colours names (g ∷ gs) = ap (λ (l : List ℕ). (be 2 (g .space) ++ joine
 
 module _ (run names : List ℕ) where
   length-colours : (n k : ℕ) → length (joined colourBytes (map (swatchIn names) (givens run n k))) ≡ 10 * n
-  unfolding joined givens
+  unfolding joined counted
   length-colours zero k = refl
   length-colours (suc n) k =
       let w : Swatch = swatchIn names (givenAt run k) in
       length-append (colourBytes w) (joined colourBytes (map (swatchIn names) (givens run n (k + 1)))) ∙ omega (arith, length-colour w refl, length-colours n (k + 1))
 
   length-entries : (n k : ℕ) → length (joined entryBytes (map (swatchIn names) (givens run n k))) + 10 * n ≡ sizes (givens run n k)
-  unfolding joined givens sizes
+  unfolding joined counted sizes
   length-entries zero k = refl
   length-entries (suc n) k =
       let g : Given = givenAt run k in
@@ -164,7 +165,7 @@ module _ (run names : List ℕ) where
 
   module _ (n : ℕ) where
     length-swatches : length (map (swatchIn names) (givens run n 0)) ≡ n
-    length-swatches = length-map (swatchIn names) (givens run n 0) ∙ length-givens run n 0
+    length-swatches = length-map (swatchIn names) (givens run n 0) ∙ length-counted (givenAt run) n 0
 
     -- the six stores of a file, one after the other
     file : List ℕ

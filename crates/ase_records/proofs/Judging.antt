@@ -1,4 +1,5 @@
 -- Which fault is found first, and how long the file is, on plain values. Assumes nothing.
+use Rattle.fields.proofs.Counted.{counted-end, counted-start, counted-turn}
 use Prim.Native.Nat.{ℕ, zero, suc, _+_, _*_, _-_, _/_, _≤_, _<_}
 use mathlib.Core.Path.{_≡_, refl, sym, ap, _∙_, subst}
 use mathlib.Core.List.{List, [], _∷_}
@@ -323,29 +324,13 @@ module _ (names : List ℕ) (d : ℕ) (g : Given) where
 -- ---- a loop over the records of a run
 
 module _ (run : List ℕ) where
-  pub givens-turn : (n i : ℕ) → i < n → givens run (n - i) i ≡ givenAt run i ∷ givens run (n - (i + 1)) (i + 1)
-  unfolding givens
-  givens-turn n i h = let e : n - i ≡ suc (n - (i + 1)) = omega arith in ap (λ (k : ℕ). givens run k i) e
-
-  pub givens-end : (n i : ℕ) → n ≤ i → givens run (n - i) i ≡ []
-  unfolding givens
-  givens-end n i h = let e : n - i ≡ 0 = omega arith in ap (λ (k : ℕ). givens run k i) e
-
-  pub givens-start : (n : ℕ) → givens run n 0 ≡ givens run (n - 0) 0
-  givens-start n = ap (λ (k : ℕ). givens run k 0) (sym (sub-zero n))
-
-  pub length-givens : (n k : ℕ) → length (givens run n k) ≡ n
-  unfolding givens
-  length-givens zero k = refl
-  length-givens (suc n) k = ap suc (length-givens n (k + 1))
-
   pub sizes-turn : (n i : ℕ) → i < n → sizes (givens run (n - i) i) ≡ sizeIn (givenAt run i) + sizes (givens run (n - (i + 1)) (i + 1))
   unfolding sizes
-  sizes-turn n i h = ap sizes (givens-turn n i h)
+  sizes-turn n i h = ap sizes (counted-turn (givenAt run) n i h)
 
   pub sizes-end : (n i : ℕ) → n ≤ i → sizes (givens run (n - i) i) ≡ 0
   unfolding sizes
-  sizes-end n i h = ap sizes (givens-end n i h)
+  sizes-end n i h = ap sizes (counted-end (givenAt run) n i h)
 
 -- every record takes six bytes or more
 pub size-least : (g : Given) → 6 ≤ sizeIn g
@@ -368,11 +353,11 @@ module _ (names run : List ℕ) where
       → blocksFault names d (givens run (n - i) i) ≡ firstOf (blockFault names d (givenAt run i)) (blocksFault names (standingIn names d (givenAt run i)) (givens run (n - (i + 1)) (i + 1)))
   unfolding blocksFault faultsIn stateAfter
   blocks-turn d n i h =
-      ap (blocksFault names d) (givens-turn run n i h)
+      ap (blocksFault names d) (counted-turn (givenAt run) n i h)
       ∙ first-assoc (blockFault names d (givenAt run i)) (faultsIn (standingIn names) (blockFault names) (standingIn names d (givenAt run i)) (givens run (n - (i + 1)) (i + 1))) _
 
   pub blocks-start : (n : ℕ) → blocksFault names 0 (givens run n 0) ≡ blocksFault names 0 (givens run (n - 0) 0)
-  blocks-start n = ap (blocksFault names 0) (givens-start run n)
+  blocks-start n = ap (blocksFault names 0) (counted-start (givenAt run) n)
 
   module _ (all d n i : ℕ) (inv : all ≡ blocksFault names d (givens run (n - i) i)) where
     module _ (h : i < n) (r : ℕ) (g : Given) (at : g ≡ givenAt run i) (e : r ≡ blockFault names d g) where
@@ -390,7 +375,7 @@ module _ (names run : List ℕ) where
     module _ (h : n ≤ i) where
       last : all ≡ pick (eqb d 0) 0 9
       unfolding blocksFault faultsIn stateAfter
-      last = inv ∙ ap (blocksFault names d) (givens-end run n i h)
+      last = inv ∙ ap (blocksFault names d) (counted-end (givenAt run) n i h)
 
       pub blocks-open : (d ≡ 0 → ⊥) → 9 ≡ all
       blocks-open z = sym (last ∙ rw (ne-eqb d 0 z))
@@ -410,12 +395,12 @@ all-own names d (g ∷ gs) e =
 
 module _ (names run : List ℕ) where
   pub fit-start : (n at room : ℕ) → RecordsFit names (givens run n 0) at room → RecordsFit names (givens run (n - 0) 0) at room
-  fit-start n at room e = subst (λ (gs : List Given). RecordsFit names gs at room) (givens-start run n) e
+  fit-start n at room e = subst (λ (gs : List Given). RecordsFit names gs at room) (counted-start (givenAt run) n) e
 
   module _ (n i at room : ℕ) (h : i < n) (e : RecordsFit names (givens run (n - i) i) at room) where
     none : (ownFault names (givenAt run i) ≡ 0) × (faults (ownFault names) (givens run (n - (i + 1)) (i + 1)) ≡ 0)
     unfolding faults
-    none = first-inv _ _ (sym (ap (faults (ownFault names)) (givens-turn run n i h)) ∙ e .sound)
+    none = first-inv _ _ (sym (ap (faults (ownFault names)) (counted-turn (givenAt run) n i h)) ∙ e .sound)
 
     pub fit-next : RecordFits names (givenAt run i) at room
     fit-next =

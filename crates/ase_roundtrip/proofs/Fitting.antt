@@ -10,7 +10,7 @@ use borrow.Author.Tests.{leb-true, le-leb, eqb-true}
 use native.Mathlib.Omega.{arith}
 use native.Mathlib.Nat.{lt-of-not-le}
 use native.Mathlib.Decide.{ℕ-discrete, decLe}
-use Rattle.fields.specs.Numbers.{be, joined, Bytes, nums, All}
+use Rattle.fields.specs.Numbers.{counted, be, joined, Bytes, nums, All}
 use Rattle.fields.specs.Reader.{Res, ok, refuse, pick, numberOf, done, stateAfter, limit}
 use Rattle.fields.specs.Text.{anyZero, text, nameBytes}
 use Rattle.fields.specs.Faults.{firstOf, faultsFrom, faultsIn}
@@ -60,7 +60,7 @@ abbrev pub Worded : Given → Type 0
 Worded g = (length (g .channels) ≡ 4) × All (λ i b. b < 256 ^ 4) 0 (g .channels)
 
 pub givens-words : (run : List ℕ) → Words run → (n k i : ℕ) → All (λ k g. Worded g) i (givens run n k)
-unfolding givens
+unfolding counted
 givens-words run h zero k i = tt
 givens-words run h (suc n) k i = ((refl, (h _, (h _, (h _, (h _, tt))))), givens-words run h n (k + 1) (i + 1))
 

@@ -8,7 +8,7 @@ use lib.ListN.{length, getD, take, length-append}
 use lib.Seq.{getD-append-add, length-take-le, getD-take}
 use native.Mathlib.Omega.{arith}
 use native.Mathlib.Nat.{add-zero}
-use Rattle.fields.specs.Numbers.{nums, joined, Bytes, All}
+use Rattle.fields.specs.Numbers.{counted, nums, joined, Bytes, All}
 use Rattle.fields.specs.Reader.{ok, pick, rule, unless, judged, each, chain, stateAfter, limit}
 use Rattle.fields.specs.Text.{Name, name, front}
 use Rattle.fields.proofs.Places.{length-nums, nums-cong}
@@ -47,7 +47,7 @@ row-back p k stopped more l = nine-back p k 0xC002 0 0 0 0 0 0 0 0 more l
 row-back p k (coloured nm t bs c) more l = nine-back p k 0x0001 (nm .first) (length (nm .units)) t (getD bs 0 0) (getD bs 1 0) (getD bs 2 0) (getD bs 3 0) c more l
 
 rows-back : (p : List ℕ) (k : ℕ) (es : List Entry) → length p ≡ 9 * k → givens (p ++ joined row es) (length es) k ≡ map taken es
-unfolding givens joined
+unfolding counted joined
 rows-back p k [] l = refl
 rows-back p k (e ∷ es) l =
     let len : length (p ++ row e) ≡ 9 * (k + 1) = omega (arith, length-append p (row e), row-length e) in

@@ -1,4 +1,5 @@
 -- Stores one after the other, on plain values. Assumes nothing.
+use Rattle.fields.proofs.Counted.{counted-end, counted-start, counted-turn, length-counted}
 use Prim.Native.Nat.{ℕ, zero, suc, _+_, _*_, _-_, _≤_, _<_}
 use mathlib.Core.Path.{_≡_, refl, sym, ap, ap₂, _∙_}
 use mathlib.Core.List.{List, [], _∷_, _++_, map}
@@ -8,7 +9,7 @@ use lib.Seq.{sets, sets-eq}
 use borrow.Author.Tests.{ne-eqb}
 use native.Mathlib.Omega.{arith}
 use native.Mathlib.Decide.{ℕ-discrete}
-use Rattle.fields.specs.Numbers.{be, nums, joined, Bytes}
+use Rattle.fields.specs.Numbers.{counted, be, nums, joined, Bytes}
 use Rattle.fields.specs.Store.{stored, part}
 use Rattle.fields.specs.Text.{nameBytes, countedUnits}
 use Rattle.fields.specs.Faults.{faults}
@@ -23,7 +24,7 @@ use Rattle.ase.specs.Grammar.{Block, start, stop, colour, typeOf, payload, bloc
 use Rattle.ase_records.specs.Writing.{Given, givenAt, givens, unitsIn, channelsIn, blockIn, nameSize, sizeIn, sizes, size, nameFault}
 use Rattle.ase_records.specs.Parts.{shadeBytes, ownFault}
 use Rattle.ase_records.specs.Parts as parts
-use Rattle.ase_records.proofs.Judging.{Sort, is-start, is-stop, is-colour, head-fine, block-head, channels-few, size-start, size-stop, size-colour, name-inside, givens-start, givens-turn, givens-end, length-givens}
+use Rattle.ase_records.proofs.Judging.{Sort, is-start, is-stop, is-colour, head-fine, block-head, channels-few, size-start, size-stop, size-colour, name-inside}
 use Rattle.fields.proofs.Storing.{as-sets, peel, peel-be, length-kept}
 
 -- ---- one store
@@ -217,7 +218,7 @@ module _ (names : List ℕ) (g : Given) where
 
 module _ (run names all out : List ℕ) (n i at : ℕ) where
   pub puts-start : all ≡ sets out at (joined blockBytes (map (blockIn names) (givens run n 0))) → all ≡ sets out at (joined blockBytes (map (blockIn names) (givens run (n - 0) 0)))
-  puts-start e = e ∙ ap (λ (gs : List Given). sets out at (joined blockBytes (map (blockIn names) gs))) (givens-start run n)
+  puts-start e = e ∙ ap (λ (gs : List Given). sets out at (joined blockBytes (map (blockIn names) gs))) (counted-start (givenAt run) n)
 
   module _ (inv : all ≡ sets out at (joined blockBytes (map (blockIn names) (givens run (n - i) i)))) where
     pub puts-turn : i < n → (o : List ℕ) (k : ℕ) → k ≡ sizeIn (givenAt run i) → ownFault names (givenAt run i) ≡ 0 → (g : Given) → g ≡ givenAt run i → o ≡ sets out at (blockBytes (blockIn names g))
@@ -226,18 +227,18 @@ module _ (run names all out : List ℕ) (n i at : ℕ) where
     puts-turn h o k w f g z s =
         let b : List ℕ = blockBytes (blockIn names (givenAt run i)) in
         let l : length b ≡ k = length-block names (givenAt run i) refl (sort names (givenAt run i) f) ∙ sym w in
-        inv ∙ ap (λ (gs : List Given). sets out at (joined blockBytes (map (blockIn names) gs))) (givens-turn run n i h)
+        inv ∙ ap (λ (gs : List Given). sets out at (joined blockBytes (map (blockIn names) gs))) (counted-turn (givenAt run) n i h)
         ∙ peel out o b (joined blockBytes (map (blockIn names) (givens run (n - (i + 1)) (i + 1)))) at k (at + k) l refl (s ∙ ap (λ (x : Given). sets out at (blockBytes (blockIn names x))) z)
 
     pub puts-end : n ≤ i → out ≡ all
     unfolding joined
-    puts-end h = sym (inv ∙ ap (λ (gs : List Given). sets out at (joined blockBytes (map (blockIn names) gs))) (givens-end run n i h))
+    puts-end h = sym (inv ∙ ap (λ (gs : List Given). sets out at (joined blockBytes (map (blockIn names) gs))) (counted-end (givenAt run) n i h))
 
 -- ---- the whole file
 
 module _ (run names : List ℕ) where
   length-blocks : (n k : ℕ) → faults (ownFault names) (givens run n k) ≡ 0 → length (joined blockBytes (map (blockIn names) (givens run n k))) ≡ sizes (givens run n k)
-  unfolding joined givens sizes faults
+  unfolding joined counted sizes faults
   length-blocks zero k e = refl
   length-blocks (suc n) k e =
       let g : Given = givenAt run k in
@@ -247,7 +248,7 @@ module _ (run names : List ℕ) where
 
   module _ (n : ℕ) where
     length-all : length (map (blockIn names) (givens run n 0)) ≡ n
-    length-all = length-map (blockIn names) (givens run n 0) ∙ length-givens run n 0
+    length-all = length-map (blockIn names) (givens run n 0) ∙ length-counted (givenAt run) n 0
 
     length-file : faults (ownFault names) (givens run n 0) ≡ 0 → length (fileBytes (map (blockIn names) (givens run n 0))) ≡ size (givens run n 0)
     unfolding fileBytes

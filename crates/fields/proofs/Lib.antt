@@ -15,3 +15,4 @@ pub mod Sets
 pub mod Joined
 pub mod Storing
 pub mod Firsts
+pub mod Counted

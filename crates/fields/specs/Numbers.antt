@@ -24,6 +24,11 @@ unfoldable pub joined : {A : Type 0} → (A → List ℕ) → List A → List �
 joined ser [] = []
 joined ser (a ∷ more) = ser a ++ joined ser more
 
+-- the n items from item k
+unfoldable pub counted : {A : Type 0} → (ℕ → A) → ℕ → ℕ → List A
+counted f zero k = []
+counted f (suc n) k = f k ∷ counted f n (k + 1)
+
 -- the bytes l stand in s from `at`
 unfoldable pub At : List ℕ → ℕ → List ℕ → Type 0
 At s at [] = at ≤ length s

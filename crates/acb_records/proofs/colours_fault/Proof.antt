@@ -1,9 +1,9 @@
-use Rattle.acb_records.proofs.Judging.{faults-start, faults-found, faults-more, faults-end}
-use mathlib.Core.Path.{_≡_}
+use Rattle.fields.proofs.Counted.{faults-start, faults-found, faults-more, faults-end}
+use mathlib.Core.Path.{_≡_, ap, _∙_}
 use native.Mathlib.Omega.{arith}
 use Prim.Native.Nat.{_-_, _≤_}
 use Rattle.fields.specs.Faults.{faults}
-use Rattle.acb_records.specs.Writing.{givens, colourFault}
+use Rattle.acb_records.specs.Writing.{givenAt, givens, colourFault}
 use Rattle.acb_records.specs.Parts.{givenOf}
 use borrow.Author.Needs.{needs}
 use Rattle.acb_records.proofs.colours_fault.Statement.{statement}
@@ -16,7 +16,7 @@ abbrev μ-loop : tie.MeasureT-loop
 μ-loop run text count n i₀ i = count - i
 
 loop-holds : tie.Need-loop-holds Inv-loop μ-loop
-loop-holds c = let a = c .before .before .args in (omega arith, faults-start (a .run .now) (colourFault (a .text .now) (a .n)) (a .count))
+loop-holds c = let a = c .before .before .args in (omega arith, faults-start (colourFault (a .text .now) (a .n)) (givenAt (a .run .now)) (a .count))
 
 whole-at-requires : tie.Need-whole-at-requires Inv-loop μ-loop
 whole-at-requires c κs = search needs
@@ -28,7 +28,7 @@ returns : tie.Need-returns Inv-loop μ-loop
 returns c = let l = c .before .before .before .before .loop in
     let a = c .before .before .before .before .before .before .before .args in
     let g = c .before .before .whole-at in
-    faults-found (a .run .now) (colourFault (a .text .now) (a .n)) _ (a .count) (l .i) (l .inv .1) (c .before .before .before .loop-test .taken) _ (givenOf (g .result)) (g .ensures) (c .before .colour-fault .ensures) (c .if1 .taken)
+    faults-found (colourFault (a .text .now) (a .n)) (givenAt (a .run .now)) _ (a .count) (l .i) (l .inv .1) (c .before .before .before .loop-test .taken) _ (c .before .colour-fault .ensures ∙ ap (colourFault (a .text .now) (a .n)) (g .ensures)) (c .if1 .taken)
 
 add-i : tie.Need-add-i Inv-loop μ-loop
 add-i c = search needs
@@ -40,10 +40,10 @@ loop-again : tie.Need-loop-again Inv-loop μ-loop
 loop-again c = let l = c .before .before .before .before .loop in
     let a = c .before .before .before .before .before .before .before .args in
     let g = c .before .before .whole-at in
-    (omega arith, faults-more (a .run .now) (colourFault (a .text .now) (a .n)) _ (a .count) (l .i) (l .inv .1) (c .before .before .before .loop-test .taken) _ (givenOf (g .result)) (g .ensures) (c .before .colour-fault .ensures) (c .if1 .left))
+    (omega arith, faults-more (colourFault (a .text .now) (a .n)) (givenAt (a .run .now)) _ (a .count) (l .i) (l .inv .1) (c .before .before .before .loop-test .taken) _ (c .before .colour-fault .ensures ∙ ap (colourFault (a .text .now) (a .n)) (g .ensures)) (c .if1 .left))
 
 returns-2 : tie.Need-returns-2 Inv-loop μ-loop
-returns-2 c = let a = c .before .before .before .before .args in let l = c .before .loop in faults-end (a .run .now) (colourFault (a .text .now) (a .n)) _ (a .count) (l .i) (l .inv .1) (c .loop-test .left)
+returns-2 c = let a = c .before .before .before .before .args in let l = c .before .loop in faults-end (colourFault (a .text .now) (a .n)) (givenAt (a .run .now)) _ (a .count) (l .i) (l .inv .1) (c .loop-test .left)
 
 pub colours-fault-spec : {M : Type 1} → statement M
 colours-fault-spec =

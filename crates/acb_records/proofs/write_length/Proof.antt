@@ -1,4 +1,4 @@
-use Rattle.acb_records.proofs.Judging.{length-givens}
+use Rattle.fields.proofs.Counted.{length-counted}
 use Rattle.acb.proofs.Laws.{components-some}
 use Rattle.acb_records.proofs.Outcomes.{too-long, bad-head, bad-colour, all-fine}
 use Rattle.fields.proofs.Writing.{size-is, size-passes}
@@ -9,7 +9,7 @@ use native.Mathlib.Omega.{arith}
 use Rattle.acb_judge.specs.Answer.{toldHeader, toldTag}
 use Prim.Native.Nat.{ℕ, _/_}
 use lib.ListN.{length}
-use Rattle.acb_records.specs.Writing.{givens, size, headFault, colourFault}
+use Rattle.acb_records.specs.Writing.{givenAt, givens, size, headFault, colourFault}
 use borrow.Author.Needs.{needs}
 use Rattle.acb_records.proofs.write_length.Statement.{statement}
 use Rattle.acb_records.proofs.write_length.Tie as tie
@@ -44,7 +44,7 @@ returns-2 c = let a = c .before .before .before .before .before .before .before 
     let gs = givens (a .records .now) n 0 in
     let s = size-is (size h t gs) _ (sym (ap toldWritten (c .before .before .before .size .given .1)) ∙ c .before .before .before .before .before .size-of .ensures) in
     let x = c .before .head-fault in
-    bad-head text h t gs (s .0) _ (subst (λ (k : ℕ). x .result ≡ headFault text h k) (sym (length-givens (a .records .now) n 0)) (x .ensures)) (c .if1 .taken)
+    bad-head text h t gs (s .0) _ (subst (λ (k : ℕ). x .result ≡ headFault text h k) (sym (length-counted (givenAt (a .records .now)) n 0)) (x .ensures)) (c .if1 .taken)
 
 components-of-requires : tie.Need-components-of-requires
 components-of-requires c κs = search needs
@@ -62,7 +62,7 @@ returns-3 c = let a = c .before .before .before .before .before .before .before 
     let s = size-is (size h t gs) _ (sym (ap toldWritten (c .before .before .before .before .before .before .size .given .1)) ∙ c .before .before .before .before .before .before .before .before .size-of .ensures) in
     let x = c .before .before .before .before .head-fault in
     let y = c .before .colours-fault in
-    bad-colour text h t gs (s .0) _ (subst (λ (k : ℕ). x .result ≡ headFault text h k) (sym (length-givens (a .records .now) n 0)) (x .ensures)) (c .before .before .before .if1 .left) _ (y .ensures ∙ ap (λ (j : ℕ). faults (colourFault text j) gs) (c .before .before .components-of .ensures)) (c .if2 .taken)
+    bad-colour text h t gs (s .0) _ (subst (λ (k : ℕ). x .result ≡ headFault text h k) (sym (length-counted (givenAt (a .records .now)) n 0)) (x .ensures)) (c .before .before .before .if1 .left) _ (y .ensures ∙ ap (λ (j : ℕ). faults (colourFault text j) gs) (c .before .before .components-of .ensures)) (c .if2 .taken)
 
 returns-4 : tie.Need-returns-4
 returns-4 c = let a = c .before .before .before .before .before .before .before .before .before .before .before .args in
@@ -74,7 +74,7 @@ returns-4 c = let a = c .before .before .before .before .before .before .before 
     let s = size-is (size h t gs) _ (sym (ap toldWritten (c .before .before .before .before .before .before .size .given .1)) ∙ c .before .before .before .before .before .before .before .before .size-of .ensures) in
     let x = c .before .before .before .before .head-fault in
     let y = c .before .colours-fault in
-    all-fine text h t gs (s .0) _ (subst (λ (k : ℕ). x .result ≡ headFault text h k) (sym (length-givens (a .records .now) n 0)) (x .ensures)) (c .before .before .before .if1 .left) _ (y .ensures ∙ ap (λ (j : ℕ). faults (colourFault text j) gs) (c .before .before .components-of .ensures)) _ (c .if2 .left) (s .1)
+    all-fine text h t gs (s .0) _ (subst (λ (k : ℕ). x .result ≡ headFault text h k) (sym (length-counted (givenAt (a .records .now)) n 0)) (x .ensures)) (c .before .before .before .if1 .left) _ (y .ensures ∙ ap (λ (j : ℕ). faults (colourFault text j) gs) (c .before .before .components-of .ensures)) _ (c .if2 .left) (s .1)
 
 pub write-length-spec : {M : Type 1} → statement M
 write-length-spec =

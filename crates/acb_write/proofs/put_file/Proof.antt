@@ -1,11 +1,11 @@
-use Rattle.acb_records.proofs.Judging.{length-givens}
+use Rattle.fields.proofs.Counted.{length-counted}
 use Rattle.acb_write.proofs.Puts.{put-file}
 use Rattle.acb_records.proofs.Outcomes.{no-fault, records-fit}
 use mathlib.Core.Path.{_≡_, subst, ap}
 use native.Mathlib.Omega.{arith}
 use Prim.Native.Nat.{ℕ}
 use Rattle.acb_judge.specs.Answer.{toldHeader, toldTag}
-use Rattle.acb_records.specs.Writing.{givens, sizes, sizeIn, headFault}
+use Rattle.acb_records.specs.Writing.{givenAt, givens, sizes, sizeIn, headFault}
 use borrow.Author.Needs.{needs}
 use Rattle.acb_write.proofs.put_file.Statement.{statement}
 use Rattle.acb_write.proofs.put_file.Tie as tie
@@ -16,7 +16,7 @@ put-head-requires c κs = let s = c .before .before .before .before in
     let h = toldHeader (a .header) in
     let t = toldTag (a .tag) in
     let gs = givens (a .run .now) (a .n) 0 in
-    (omega (arith, s .pre .1), subst (λ (k : ℕ). headFault (a .text .now) h k ≡ 0) (length-givens (a .run .now) (a .n) 0) (no-fault (a .text .now) h t gs (s .pre .2) .0))
+    (omega (arith, s .pre .1), subst (λ (k : ℕ). headFault (a .text .now) h k ≡ 0) (length-counted (givenAt (a .run .now)) (a .n) 0) (no-fault (a .text .now) h t gs (s .pre .2) .0))
 
 components-of-requires : tie.Need-components-of-requires
 components-of-requires c κs = search needs

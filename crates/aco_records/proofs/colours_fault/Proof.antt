@@ -1,10 +1,10 @@
-use Rattle.aco_records.proofs.Judging.{faults-start, faults-found, faults-more, faults-end}
+use Rattle.fields.proofs.Counted.{faults-start, faults-found, faults-more, faults-end}
 use borrow.Author.Needs.{needs}
 use native.Mathlib.Omega.{arith}
 use Prim.Native.Nat.{_-_, _≤_}
 use mathlib.Core.Path.{_≡_}
 use Rattle.fields.specs.Faults.{faults}
-use Rattle.aco_records.specs.Writing.{givens, colourFault}
+use Rattle.aco_records.specs.Writing.{givenAt, givens, colourFault}
 use Rattle.aco_records.proofs.colours_fault.Statement.{statement}
 use Rattle.aco_records.proofs.colours_fault.Tie as tie
 
@@ -15,7 +15,7 @@ abbrev μ-loop : tie.MeasureT-loop
 μ-loop run n i₀ i = n - i
 
 loop-holds : tie.Need-loop-holds Inv-loop μ-loop
-loop-holds c = let a = c .before .args in (omega arith, faults-start colourFault (a .run .now) (a .n))
+loop-holds c = let a = c .before .args in (omega arith, faults-start colourFault (givenAt (a .run .now)) (a .n))
 
 colour-fault-requires : tie.Need-colour-fault-requires Inv-loop μ-loop
 colour-fault-requires c κs = search needs
@@ -24,7 +24,7 @@ returns : tie.Need-returns Inv-loop μ-loop
 returns c =
     let l = c .before .before .before .loop in
     let a = c .before .before .before .before .before .args in
-    faults-found colourFault (a .run .now) _ (a .n) (l .i) (l .inv .1) (c .before .before .loop-test .taken) _ (c .before .colour-fault .ensures) (c .if1 .taken)
+    faults-found colourFault (givenAt (a .run .now)) _ (a .n) (l .i) (l .inv .1) (c .before .before .loop-test .taken) _ (c .before .colour-fault .ensures) (c .if1 .taken)
 
 add-i : tie.Need-add-i Inv-loop μ-loop
 add-i c = search needs
@@ -36,13 +36,13 @@ loop-again : tie.Need-loop-again Inv-loop μ-loop
 loop-again c =
     let l = c .before .before .before .loop in
     let a = c .before .before .before .before .before .args in
-    (omega arith, faults-more colourFault (a .run .now) _ (a .n) (l .i) (l .inv .1) (c .before .before .loop-test .taken) _ (c .before .colour-fault .ensures) (c .if1 .left))
+    (omega arith, faults-more colourFault (givenAt (a .run .now)) _ (a .n) (l .i) (l .inv .1) (c .before .before .loop-test .taken) _ (c .before .colour-fault .ensures) (c .if1 .left))
 
 returns-2 : tie.Need-returns-2 Inv-loop μ-loop
 returns-2 c =
     let l = c .before .loop in
     let a = c .before .before .before .args in
-    faults-end colourFault (a .run .now) _ (a .n) (l .i) (l .inv .1) (c .loop-test .left)
+    faults-end colourFault (givenAt (a .run .now)) _ (a .n) (l .i) (l .inv .1) (c .loop-test .left)
 
 pub colours-fault-spec : {M : Type 1} → statement M
 colours-fault-spec =

@@ -1,10 +1,11 @@
-use Rattle.aco_records.proofs.Judging.{sizes-turn, sizes-end, givens-start}
+use Rattle.fields.proofs.Counted.{counted-start}
+use Rattle.aco_records.proofs.Judging.{sizes-turn, sizes-end}
 use Rattle.fields.proofs.Writing.{size-fits, size-over}
 use borrow.Author.Needs.{needs}
 use native.Mathlib.Omega.{arith}
 use Prim.Native.Nat.{_+_, _-_, _≤_}
 use mathlib.Core.Path.{_≡_, sym, ap}
-use Rattle.aco_records.specs.Writing.{givens, sizes}
+use Rattle.aco_records.specs.Writing.{givenAt, givens, sizes}
 use Rattle.aco_records.proofs.size_of.Statement.{statement}
 use Rattle.aco_records.proofs.size_of.Tie as tie
 
@@ -15,7 +16,7 @@ abbrev μ-loop : tie.MeasureT-loop
 μ-loop run n total₀ i₀ total i = n - i
 
 loop-holds : tie.Need-loop-holds Inv-loop μ-loop
-loop-holds c = let a = c .before .args in (omega arith, omega arith, ap (λ gs. 8 + sizes gs) (sym (givens-start (a .run .now) (a .n))))
+loop-holds c = let a = c .before .args in (omega arith, omega arith, ap (λ gs. 8 + sizes gs) (sym (counted-start (givenAt (a .run .now)) (a .n))))
 
 mul-wide : tie.Need-mul-wide Inv-loop μ-loop
 mul-wide c = search needs

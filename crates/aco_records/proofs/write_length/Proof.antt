@@ -1,10 +1,10 @@
+use Rattle.fields.proofs.Counted.{length-counted}
 use mathlib.Core.Path.{sym, ap, _∙_}
 use Prim.Native.Nat.{_+_, _/_}
 use native.Mathlib.Omega.{arith}
 use lib.ListN.{length}
-use Rattle.aco_records.specs.Writing.{givens, sizes}
+use Rattle.aco_records.specs.Writing.{givenAt, givens, sizes}
 use Rattle.fields.specs.Answer.{toldWritten}
-use Rattle.aco_records.proofs.Judging.{length-givens}
 use Rattle.aco_records.proofs.Outcomes.{too-long, too-many, bad-colour, bad-name, all-fine}
 use Rattle.fields.proofs.Writing.{size-is, size-passes}
 use borrow.Author.Needs.{needs}
@@ -25,7 +25,7 @@ returns c =
     let a = c .before .before .before .before .before .args in
     let n = length (a .records .now) / 7 in
     let gs = givens (a .records .now) n 0 in
-    let len = length-givens (a .records .now) n 0 in
+    let len = length-counted (givenAt (a .records .now)) n 0 in
     too-long (a .text .now) gs (size-passes (8 + sizes gs) _ (sym (ap toldWritten (c .enum-told .given .1)) ∙ c .before .before .size-of .ensures))
 
 cast-if1 : tie.Need-cast-if1
@@ -36,7 +36,7 @@ returns-2 c =
     let a = c .before .before .before .before .before .before .before .args in
     let n = length (a .records .now) / 7 in
     let gs = givens (a .records .now) n 0 in
-    let len = length-givens (a .records .now) n 0 in
+    let len = length-counted (givenAt (a .records .now)) n 0 in
     let s = size-is (8 + sizes gs) _ (sym (ap toldWritten (c .before .before .size .given .1)) ∙ c .before .before .before .before .size-of .ensures) in
     too-many (a .text .now) gs (s .0) (omega (arith, len, c .if1 .taken))
 
@@ -48,7 +48,7 @@ returns-3 c =
     let a = c .before .before .before .before .before .before .before .before .before .args in
     let n = length (a .records .now) / 7 in
     let gs = givens (a .records .now) n 0 in
-    let len = length-givens (a .records .now) n 0 in
+    let len = length-counted (givenAt (a .records .now)) n 0 in
     let s = size-is (8 + sizes gs) _ (sym (ap toldWritten (c .before .before .before .before .size .given .1)) ∙ c .before .before .before .before .before .before .size-of .ensures) in
     bad-colour (a .text .now) gs (s .0) (omega (arith, len, c .before .before .if1 .left)) _ (c .before .colours-fault .ensures) (c .if2 .taken)
 
@@ -60,7 +60,7 @@ returns-4 c =
     let a = c .before .before .before .before .before .before .before .before .before .before .before .args in
     let n = length (a .records .now) / 7 in
     let gs = givens (a .records .now) n 0 in
-    let len = length-givens (a .records .now) n 0 in
+    let len = length-counted (givenAt (a .records .now)) n 0 in
     let s = size-is (8 + sizes gs) _ (sym (ap toldWritten (c .before .before .before .before .before .before .size .given .1)) ∙ c .before .before .before .before .before .before .before .before .size-of .ensures) in
     bad-name (a .text .now) gs (s .0) (omega (arith, len, c .before .before .before .before .if1 .left)) _ (c .before .before .before .colours-fault .ensures) (c .before .before .if2 .left) _ (c .before .names-fault .ensures) (c .if3 .taken)
 
@@ -69,7 +69,7 @@ returns-5 c =
     let a = c .before .before .before .before .before .before .before .before .before .before .before .args in
     let n = length (a .records .now) / 7 in
     let gs = givens (a .records .now) n 0 in
-    let len = length-givens (a .records .now) n 0 in
+    let len = length-counted (givenAt (a .records .now)) n 0 in
     let s = size-is (8 + sizes gs) _ (sym (ap toldWritten (c .before .before .before .before .before .before .size .given .1)) ∙ c .before .before .before .before .before .before .before .before .size-of .ensures) in
     all-fine (a .text .now) gs (s .0) (omega (arith, len, c .before .before .before .before .if1 .left)) _ (c .before .before .before .colours-fault .ensures) (c .before .before .if2 .left) _ _ (c .before .names-fault .ensures) (c .if3 .left) (s .1)
 

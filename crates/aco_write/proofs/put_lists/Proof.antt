@@ -1,5 +1,7 @@
+use Rattle.fields.proofs.Counted.{length-counted}
+use Rattle.aco_records.specs.Writing.{givenAt}
 use native.Mathlib.Omega.{arith}
-use Rattle.aco_records.proofs.Judging.{sizes-all, length-givens}
+use Rattle.aco_records.proofs.Judging.{sizes-all}
 use Rattle.aco_write.proofs.Puts.{put-file}
 use borrow.Author.Needs.{needs}
 use Rattle.aco_write.proofs.put_lists.Statement.{statement}
@@ -15,7 +17,7 @@ put-u16-requires-2 : tie.Need-put-u16-requires-2
 put-u16-requires-2 c κs = search needs
 
 put-colours-requires : tie.Need-put-colours-requires
-put-colours-requires c κs = let s = c .before .before .before .before .before .before .before .before .before .before .before .before in let h = sizes-all (s .args .run .now) (s .args .n) 0 in let m = length-givens (s .args .run .now) (s .args .n) 0 in (omega (arith, h, m, s .pre .2 .inside), omega (arith, s .pre .0))
+put-colours-requires c κs = let s = c .before .before .before .before .before .before .before .before .before .before .before .before in let h = sizes-all (s .args .run .now) (s .args .n) 0 in let m = length-counted (givenAt (s .args .run .now)) (s .args .n) 0 in (omega (arith, h, m, s .pre .2 .inside), omega (arith, s .pre .0))
 
 mul-put-u16 : tie.Need-mul-put-u16
 mul-put-u16 c = search needs
@@ -60,7 +62,7 @@ returns c =
     let p₁ = p₂ .before .before .before .before in
     let s = p₁ .before .before .before .before .before in
     let a = s .args in
-    put-file (a .run .now) (a .text .now) (a .n) (a .out .now) _ _ _ _ _ _ (omega (arith, sizes-all (a .run .now) (a .n) 0, length-givens (a .run .now) (a .n) 0, s .pre .2 .inside)) (p₁ .put-u16 .ensures) (p₂ .put-u162 .ensures) (p₃ .put-colours .ensures) (p₃ .put-colours .kept .0)
+    put-file (a .run .now) (a .text .now) (a .n) (a .out .now) _ _ _ _ _ _ (omega (arith, sizes-all (a .run .now) (a .n) 0, length-counted (givenAt (a .run .now)) (a .n) 0, s .pre .2 .inside)) (p₁ .put-u16 .ensures) (p₂ .put-u162 .ensures) (p₃ .put-colours .ensures) (p₃ .put-colours .kept .0)
     (p₄ .put-u163 .ensures) (p₅ .put-u164 .ensures) (p₆ .put-entries .ensures)
 
 pub put-lists-spec : {M : Type 1} → statement M

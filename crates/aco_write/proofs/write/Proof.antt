@@ -1,10 +1,10 @@
+use Rattle.fields.proofs.Counted.{length-counted}
 use mathlib.Core.Path.{sym, ap, _∙_}
 use Prim.Native.Nat.{_/_}
 use native.Mathlib.Omega.{arith}
 use lib.ListN.{length}
-use Rattle.aco_records.specs.Writing.{givens, swatchIn, size, fault}
+use Rattle.aco_records.specs.Writing.{givenAt, givens, swatchIn, size, fault}
 use Rattle.fields.specs.Answer.{toldWritten}
-use Rattle.aco_records.proofs.Judging.{length-givens}
 use Rattle.aco_write.proofs.Puts.{file-front}
 use mathlib.Core.List.{map}
 use Rattle.aco.specs.Grammar.{twoLists}
@@ -37,7 +37,7 @@ put-lists-requires c κs =
     let gs = givens (a .records .now) n 0 in
     let w = needed-bytes (a .text .now) gs _ (sym (ap toldWritten (c .before .before .before .size .given .1)) ∙ c .before .before .before .before .before .write-length .ensures) in
     let f = no-fault (a .text .now) gs (w .0) in
-    let len = length-givens (a .records .now) n 0 in
+    let len = length-counted (givenAt (a .records .now)) n 0 in
     (omega arith, omega (arith, len, f .1), record { inside = omega (arith, len, w .1, c .before .if1 .left); short = omega (arith, f .0); name = f .2 })
 
 returns-2 : tie.Need-returns-2

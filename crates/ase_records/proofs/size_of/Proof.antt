@@ -1,8 +1,9 @@
-use Rattle.ase_records.proofs.Judging.{sizes-turn, sizes-end, givens-start}
+use Rattle.fields.proofs.Counted.{counted-start}
+use Rattle.ase_records.proofs.Judging.{sizes-turn, sizes-end}
 use Rattle.fields.proofs.Writing.{size-fits, size-over}
 use mathlib.Core.Path.{_≡_, sym, ap, _∙_}
 use native.Mathlib.Omega.{arith}
-use Rattle.ase_records.specs.Writing.{givens, sizeIn, sizes}
+use Rattle.ase_records.specs.Writing.{givenAt, givens, sizeIn, sizes}
 use borrow.Author.Needs.{needs}
 use Prim.Native.Nat.{_+_, _-_, _≤_}
 use Rattle.ase_records.proofs.size_of.Statement.{statement}
@@ -15,7 +16,7 @@ abbrev μ-loop : tie.MeasureT-loop
 μ-loop run n total₀ i₀ total i = n - i
 
 loop-holds : tie.Need-loop-holds Inv-loop μ-loop
-loop-holds c = let a = c .before .args in (omega arith, omega arith, ap (λ gs. 12 + sizes gs) (sym (givens-start (a .run .now) (a .n))))
+loop-holds c = let a = c .before .args in (omega arith, omega arith, ap (λ gs. 12 + sizes gs) (sym (counted-start (givenAt (a .run .now)) (a .n))))
 
 whole-at-requires : tie.Need-whole-at-requires Inv-loop μ-loop
 whole-at-requires c κs = search needs
