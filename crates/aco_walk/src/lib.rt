@@ -5,8 +5,8 @@ ghost use Rattle.colour.specs.declared.space.Colour.{Colour};
 ghost use Rattle.fields.specs.Reader.{refuse};
 ghost use Rattle.aco.specs.Reading.{colour, black, aco};
 ghost use Rattle.walk.specs.Walk.{answered, over, refused};
-ghost use Rattle.aco_walk.specs.Walking.{isPlain, firstPlace, labelled, walk, lentOf, startOf, called, following};
-ghost use Rattle.aco_walk.specs.Answer.{toldGiven, toldStep, handed, toldStart, toldTested, tested};
+ghost use Rattle.aco_walk.specs.Walking.{isPlain, firstPlace, labelled, walk, lentOf, startOf};
+ghost use Rattle.aco_walk.specs.Answer.{toldGiven, toldStep, handed, toldTurn, handedOn, toldStart, toldTested, tested};
 use aco::Answer;
 use colour::Colour;
 use fields::NameAt;
@@ -250,7 +250,7 @@ pub struct Turn<'a> {
 
 // One call: the colour, and the walker that follows.
 pub fn next<'a>(w: Walker<'a>) -> Turn<'a>
-    ensures { λ r. ⌜ (toldStep (r .step) ≡ handed (called (w .entry))) × (r .walker ≡ following (w .entry)) ⌝ }
+    ensures { λ r. ⌜ toldTurn r ≡ handedOn (w .entry) ⌝ }
 {
     let step = step_at(w.file, w.at);
     Turn {

@@ -10,8 +10,8 @@ ghost use Rattle.fields.specs.Reader.{pick, refuse};
 ghost use Rattle.ase.specs.Reading.{ase};
 ghost use Rattle.ase_read.specs.Answer.{colour, IsColour};
 ghost use Rattle.walk.specs.Walk.{gives, answered};
-ghost use Rattle.ase_walk.specs.Walking.{blockFrom, Stands, blockWalk, walk, firstPlace, lentOf, startOf, called, following};
-ghost use Rattle.ase_walk.specs.Answer.{toldBlock, toldBlockStep, passes, toldGiven, toldStep, handed, toldStart};
+ghost use Rattle.ase_walk.specs.Walking.{blockFrom, Stands, blockWalk, walk, firstPlace, lentOf, startOf};
+ghost use Rattle.ase_walk.specs.Answer.{toldBlock, toldBlockStep, passes, toldGiven, toldStep, handed, toldTurn, handedOn, toldStart};
 use ase::Answer;
 use ase::Passed;
 use ase::START;
@@ -341,7 +341,7 @@ pub struct Turn<'a> {
 
 // One call: the colour, and the walker that follows.
 pub fn next<'a>(w: Walker<'a>) -> Turn<'a>
-    ensures { λ r. ⌜ (toldStep (r .step) ≡ handed (called (w .entry))) × (r .walker ≡ following (w .entry)) ⌝ }
+    ensures { λ r. ⌜ toldTurn r ≡ handedOn (w .entry) ⌝ }
 {
     let step = step_at(w.file, w.at);
     Turn {
