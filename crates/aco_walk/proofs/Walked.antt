@@ -65,11 +65,13 @@ started-in-turn s i = go (aco s) refl
     go (ok c q) e = colours-in-turn s e i
     go (refuse x p r f) e = calls-are (walk []) [] (firstPlace []) none i
 
--- the same of the walkers that `next` hands back one after the other, from one that `start` made
+-- what the walkers that `next` hands back one after the other answer is what the calls from the first one's place answer; of any walker, altered or not
+pub next-calls : (w : Walker) (i : ℕ) → called (after following w i) .0 ≡ call (walk (now (w .file))) (w .at) i
+next-calls w i = after-calls (λ (v : Walker). walk (now (v .file))) (λ (v : Walker). v .at) following (λ v. refl) (λ v. refl) w i
+
+-- so from one that `start` made they give the colours in turn
 pub next-in-turn : (s : List ℕ) (w : Walker) → now (w .file) ≡ lentOf (aco s) s → w .at ≡ firstPlace (lentOf (aco s) s) → (i : ℕ) → called (after following w i) .0 ≡ inTurn (recordsOf (aco s)) i
-next-in-turn s w file at i =
-    after-calls (λ (v : Walker). walk (now (v .file))) (λ (v : Walker). v .at) following (λ v. refl) (λ v. refl) w i ∙
-    ap (λ (l : List ℕ). call (walk l) (w .at) i) file ∙ ap (λ (p : ℕ). call (walk (lentOf (aco s) s)) p i) at ∙ started-in-turn s i
+next-in-turn s w file at i = next-calls w i ∙ ap (λ (l : List ℕ). call (walk l) (w .at) i) file ∙ ap (λ (p : ℕ). call (walk (lentOf (aco s) s)) p i) at ∙ started-in-turn s i
 
 -- ---- W5: any walker, over any bytes
 

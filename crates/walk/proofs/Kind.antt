@@ -1,4 +1,4 @@
--- A format's walker, as its proofs by hand see it: a struct with the lent file and a place in it, under a name of the format's own crate. Assumes nothing.
+-- A format's walker, its step, and the two together, as the proofs by hand see them: types of the format's own crate, of which only what is named here is used. Assumes nothing.
 use Prim.Native.Nat.{ℕ, zero, _<_, _^_}
 use mathlib.Core.Path.{_≡_}
 use mathlib.Core.List.{List, [], _∷_}
@@ -18,7 +18,7 @@ use denote.Struct.Field.{shr-slice-field, usize-field}
 use denote.Struct.Struct.{toTys}
 use denote.Struct.Laws.{Laws, Copyables, spells, shr-slice-laws, usize-laws, shr-slice-copy, usize-copy}
 
--- the name; the record, which is its file and its place and no more; and the record made of a file and a place
+-- a walker's type: its name; its record, which is a file and a place (`to`) and no more (`one`); and the record made of the two
 pub record Kind : Type 1 where
   pub name : Sym
   pub D : Type 0
@@ -50,7 +50,7 @@ walkerVal r n = vstruct (vcons (fileVal r) (vcons (vint w64 n) vnil))
 
 -- ---- what a call hands back
 
--- a step's type: its laws, and its field `next`, which is the k-th
+-- a step's type and laws, and its field `next`: the k-th of the layout (`lies`) and of the machine value (`stands`), which fits its width (`fits`)
 pub record Answer : Type 2 where
   pub type : Declared
   pub laws : Laws type
@@ -60,7 +60,7 @@ pub record Answer : Type 2 where
   pub stands : (r : type .D) → getV (ofList (flat (fields type) (valss (fields type) (spells (type .parts) laws) (type .to r)))) k ≡ vint w64 (next r)
   pub fits : (r : type .D) (vs : List Val) → Is (row type) r vs → next r < 2 ^ 64
 
--- a step beside a walker: the name, the record, which is the two and no more, and the record made of them
+-- the type of a step beside a walker, likewise
 pub record Both (S : Answer) (K : Kind) : Type 1 where
   pub name : Sym
   pub D : Type 0
