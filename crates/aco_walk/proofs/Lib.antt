@@ -2,3 +2,4 @@
 pub mod Swatches
 pub mod Walked
 pub mod Stepping
+pub mod Types

@@ -5,6 +5,7 @@ use mathlib.Core.List.{List, [], _∷_, map}
 use mathlib.Core.Bool.{Bool, true, false}
 use lib.Dec.{eqb}
 use lib.ListN.{length, getD}
+use denote.Ref.{now}
 use native.Mathlib.Omega.{arith}
 use Rattle.fields.specs.Numbers.{num, nums}
 use Rattle.fields.specs.Reader.{Res, ok, refuse, then, pick, field, fine, fault, each}
@@ -19,13 +20,14 @@ use Rattle.aco.specs.Reading.{colour, Entry, entry, Contents, black, unnamed, a
 use Rattle.aco.proofs.Raw.{colour-inv}
 use Rattle.aco.proofs.Inverse.{First, Then, one, two, heading-inv, aco-inv}
 use Rattle.aco_read.specs.Table.{recordsOf}
-use Rattle.walk.specs.Walk.{Call, gives, over, refused, Step, call, inTurn, step}
-use Rattle.walk.proofs.Calls.{Walks, calls-are, each-walks, step-over, step-read, step-five, step-past, lost-stays}
+use Rattle.walk.specs.Walk.{Call, gives, over, refused, Step, after, call, inTurn, step}
+use Rattle.walk.proofs.Calls.{Walks, calls-are, after-calls, each-walks, step-over, step-read, step-five, step-past, lost-stays}
 use Rattle.walk.specs.Names.{namePart}
 use Rattle.walk.proofs.Names.{part-is}
-use Rattle.aco_walk.specs.Walking.{isPlain, firstPlace, titled, labelled, swatchFrom, walk, lentOf}
+use Rattle.aco_walk.specs.Walking.{isPlain, firstPlace, titled, labelled, swatchFrom, walk, lentOf, called, following}
 use Rattle.aco_walk.specs.Answer.{toldStep, handing, handed}
 use Rattle.aco_walk.specs.declared.Step.{Step as Answered}
+use Rattle.aco_walk.specs.declared.Walker.{Walker}
 use Rattle.aco_walk.proofs.Swatches.{first-fine, plain-item, named-item, one-plain, two-named}
 
 -- ---- an accepted file
@@ -62,6 +64,14 @@ started-in-turn s i = go (aco s) refl
     go : (m : Res Contents) → aco s ≡ m → call (walk (lentOf m s)) (firstPlace (lentOf m s)) i ≡ inTurn (recordsOf m) i
     go (ok c q) e = colours-in-turn s e i
     go (refuse x p r f) e = calls-are (walk []) [] (firstPlace []) none i
+
+-- what the walkers that `next` hands back one after the other answer is what the calls from the first one's place answer; of any walker, altered or not
+pub next-calls : (w : Walker) (i : ℕ) → called (after following w i) .0 ≡ call (walk (now (w .file))) (w .at) i
+next-calls w i = after-calls (λ (v : Walker). walk (now (v .file))) (λ (v : Walker). v .at) following (λ v. refl) (λ v. refl) w i
+
+-- so from one that `start` made they give the colours in turn
+pub next-in-turn : (s : List ℕ) (w : Walker) → now (w .file) ≡ lentOf (aco s) s → w .at ≡ firstPlace (lentOf (aco s) s) → (i : ℕ) → called (after following w i) .0 ≡ inTurn (recordsOf (aco s)) i
+next-in-turn s w file at i = next-calls w i ∙ ap (λ (l : List ℕ). call (walk l) (w .at) i) file ∙ ap (λ (p : ℕ). call (walk (lentOf (aco s) s)) p i) at ∙ started-in-turn s i
 
 -- ---- W5: any walker, over any bytes
 
@@ -118,7 +128,7 @@ past-refused s at h = step-past swatchFrom s at h (past-none s at)
 pub refused-stays : (s : List ℕ) (i : ℕ) → call (walk s) (length s + 1) i ≡ refused 5 0
 refused-stays s i = lost-stays swatchFrom s (past-none s (length s + 1)) i
 
--- ---- the walker's calls are those of the theorems above: the walker that follows a call stands where the definition leaves it
+-- ---- the place that an answer leaves is where the definition leaves the walker
 pub next-follows : (s : List ℕ) (at : ℕ) (r : Answered) → toldStep r ≡ handed (walk s at) → r .next ≡ walk s at .1
 next-follows s at r e = go (walk s at .0) (walk s at .1) e
   where

@@ -6,10 +6,12 @@ use Rattle.fields.specs.Reader.{Res, ok, refuse}
 use Rattle.colour.specs.declared.space.Colour.{Colour}
 use Rattle.aco.specs.Reading.{Entry, black}
 use Rattle.walk.specs.Walk.{Call, gives, over, refused}
-use Rattle.aco_walk.specs.Walking.{Started, starts, refusal}
+use Rattle.aco_walk.specs.Walking.{Started, starts, refusal, called, following}
 use Rattle.aco_walk.specs.declared.Given.{Given}
 use Rattle.aco_walk.specs.declared.Given.the-variants as vg
 use Rattle.aco_walk.specs.declared.Step.{Step}
+use Rattle.aco_walk.specs.declared.Walker.{Walker}
+use Rattle.aco_walk.specs.declared.Turn.{Turn}
 use Rattle.aco_walk.specs.declared.Opening.{Opening}
 use Rattle.aco_walk.specs.declared.Opening.the-variants as vs
 use Rattle.aco_walk.specs.declared.Tested.{Tested}
@@ -32,6 +34,14 @@ handing (refused x p) q = (black, refused x p, q)
 
 abbrev pub handed : Call Entry × ℕ → Colour × Call (ℕ × ℕ) × ℕ
 handed w = handing (w .0) (w .1)
+
+-- what a call of a walker hands back: what its step says, and the whole walker
+abbrev pub toldTurn : Turn → (Colour × Call (ℕ × ℕ) × ℕ) × Walker
+toldTurn t = (toldStep (t .step), t .walker)
+
+-- the record as it is handed out, and the walker that follows
+abbrev pub handedOn : Walker → (Colour × Call (ℕ × ℕ) × ℕ) × Walker
+handedOn w = (handed (called w), following w)
 
 abbrev pub toldStart : Opening → Started
 toldStart (vs.At p) = starts p

@@ -4,11 +4,13 @@ use mathlib.Core.List.{List, []}
 use mathlib.Core.Bool.{Bool, true, false}
 use lib.Dec.{leb, eqb}
 use lib.ListN.{length}
+use denote.Ref.{now}
 use Rattle.fields.specs.Reader.{Res, ok, refuse, Reader, then, pick, field, _>>=_, orZero}
 use Rattle.fields.specs.Text.{Name, name}
 use Rattle.colour.specs.declared.space.Colour.{Colour}
 use Rattle.aco.specs.Reading.{colour, Entry, Contents, unnamed}
-use Rattle.walk.specs.Walk.{Step, step}
+use Rattle.walk.specs.Walk.{Call, Step, step}
+use Rattle.aco_walk.specs.declared.Walker.{Walker}
 
 -- ---- which list is walked
 
@@ -58,3 +60,13 @@ pub data Started : Type 0 where
 abbrev pub startOf : Res Contents → List ℕ → Started
 startOf (ok c q) s = starts (firstPlace s)
 startOf (refuse x p r f) s = refusal x p r f
+
+-- ---- the walker
+
+-- what a call of it gives, and the place that the call leaves
+abbrev pub called : Walker → Call Entry × ℕ
+called w = walk (now (w .file)) (w .at)
+
+-- the walker that follows: over the same file, at that place
+abbrev pub following : Walker → Walker
+following w = record { file = w .file; at = called w .1 }

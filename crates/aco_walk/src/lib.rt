@@ -6,7 +6,7 @@ ghost use Rattle.fields.specs.Reader.{refuse};
 ghost use Rattle.aco.specs.Reading.{colour, black, aco};
 ghost use Rattle.walk.specs.Walk.{answered, over, refused};
 ghost use Rattle.aco_walk.specs.Walking.{isPlain, firstPlace, labelled, walk, lentOf, startOf};
-ghost use Rattle.aco_walk.specs.Answer.{toldGiven, toldStep, handed, toldStart, toldTested, tested};
+ghost use Rattle.aco_walk.specs.Answer.{toldGiven, toldStep, handed, toldTurn, handedOn, toldStart, toldTested, tested};
 use aco_judge::Answer;
 use colour::Colour;
 use fields::NameAt;
@@ -242,11 +242,22 @@ pub fn start<'a>(file: &'a [u8]) -> Walker<'a>
     Walker { file: part, at }
 }
 
-// One call: the colour, and the walker moves on.
-pub fn next<'s, 'a>(w: &'s mut Walker<'a>) -> Step
-    ensures { λ r. ⌜ (toldStep r ≡ handed (walk (now (now (w .entry) .file)) (now (w .entry) .at))) × (now (w .exit) .file ≡ now (w .entry) .file) × (now (w .exit) .at ≡ r .next) ⌝ }
+// What a call of `next` hands back: what it gave, and the walker that follows.
+pub struct Turn<'a> {
+    pub step: Step,
+    pub walker: Walker<'a>,
+}
+
+// One call: the colour, and the walker that follows.
+pub fn next<'a>(w: Walker<'a>) -> Turn<'a>
+    ensures { λ r. ⌜ toldTurn r ≡ handedOn (w .entry) ⌝ }
 {
     let step = step_at(w.file, w.at);
-    w.at = step.next;
-    step
+    Turn {
+        step,
+        walker: Walker {
+            file: w.file,
+            at: step.next,
+        },
+    }
 }

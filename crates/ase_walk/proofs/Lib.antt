@@ -2,3 +2,4 @@
 pub mod Blocks
 pub mod Walked
 pub mod Stepping
+pub mod Types

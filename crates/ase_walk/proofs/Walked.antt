@@ -5,6 +5,7 @@ use mathlib.Core.List.{List, [], _∷_, map}
 use mathlib.Core.Bool.{Bool, true, false}
 use lib.Dec.{leb}
 use lib.ListN.{length}
+use denote.Ref.{now}
 use lib.Seq.{length-take-le}
 use borrow.Author.Tests.{le-leb}
 use native.Mathlib.Omega.{arith}
@@ -17,13 +18,14 @@ use Rattle.ase_judge.specs.Answer.{colours}
 use Rattle.ase_read.specs.Raw.{entriesOf}
 use Rattle.ase_read.specs.Answer.{Shown}
 use Rattle.ase_read.proofs.Blocks.{Blocked, blocked}
-use Rattle.walk.specs.Walk.{Call, gives, over, refused, Step, call, inTurn, step, sought, seek, only}
-use Rattle.walk.proofs.Calls.{Walks, call-stays, calls-are, chain-walks, step-over, step-read, step-five, step-past, only-walks, seek-five}
+use Rattle.walk.specs.Walk.{Call, gives, over, refused, Step, after, call, inTurn, step, sought, seek, only}
+use Rattle.walk.proofs.Calls.{Walks, call-stays, calls-are, after-calls, chain-walks, step-over, step-read, step-five, step-past, only-walks, seek-five}
 use Rattle.walk.specs.Names.{namePart}
 use Rattle.walk.proofs.Names.{part-is}
-use Rattle.ase_walk.specs.Walking.{blockFrom, blockWalk, isColour, walk, firstPlace, lentOf}
+use Rattle.ase_walk.specs.Walking.{blockFrom, blockWalk, isColour, walk, firstPlace, lentOf, called, following}
 use Rattle.ase_walk.specs.Answer.{toldStep, handing, handed}
 use Rattle.ase_walk.specs.declared.Step.{Step as Answered}
+use Rattle.ase_walk.specs.declared.Walker.{Walker}
 use Rattle.ase_walk.proofs.Blocks.{block-item, block-moves, walk-moves, accepted-chain}
 
 -- ---- an accepted file
@@ -63,6 +65,14 @@ started-in-turn s i = go (ase s) refl
     go : (m : Res (List Entry)) → ase s ≡ m → call (walk (lentOf m s)) (firstPlace (lentOf m s)) i ≡ inTurn (only isColour (entriesOf m)) i
     go (ok es q) e = colours-in-turn s e i
     go (refuse x p r f) e = calls-are (walk []) [] (firstPlace []) none i
+
+-- what the walkers that `next` hands back one after the other answer is what the calls from the first one's place answer; of any walker, altered or not
+pub next-calls : (w : Walker) (i : ℕ) → called (after following w i) .0 ≡ call (walk (now (w .file))) (w .at) i
+next-calls w i = after-calls (λ (v : Walker). walk (now (v .file))) (λ (v : Walker). v .at) following (λ v. refl) (λ v. refl) w i
+
+-- so from one that `start` made they give the colours in turn
+pub next-in-turn : (s : List ℕ) (w : Walker) → now (w .file) ≡ lentOf (ase s) s → w .at ≡ firstPlace (lentOf (ase s) s) → (i : ℕ) → called (after following w i) .0 ≡ inTurn (only isColour (entriesOf (ase s))) i
+next-in-turn s w file at i = next-calls w i ∙ ap (λ (l : List ℕ). call (walk l) (w .at) i) file ∙ ap (λ (p : ℕ). call (walk (lentOf (ase s) s)) p i) at ∙ started-in-turn s i
 
 -- ---- W5: any walker, over any bytes
 
@@ -119,7 +129,7 @@ past-refused s at h =
 pub refused-stays : (s : List ℕ) (i : ℕ) → call (walk s) (length s + 1) i ≡ refused 5 0
 refused-stays s i = call-stays (walk s) (length s + 1) (past-refused s (length s + 1) (omega arith)) i
 
--- ---- the walker's calls are those of the theorems above: the walker that follows a call stands where the definition leaves it
+-- ---- the place that an answer leaves is where the definition leaves the walker
 pub next-follows : (s : List ℕ) (at : ℕ) (r : Answered) → toldStep r ≡ handed (walk s at) → r .next ≡ walk s at .1
 next-follows s at r e = go (walk s at .0) (walk s at .1) e
   where

@@ -7,13 +7,15 @@ use Rattle.colour.specs.Channels.{bitsOf, modelIn}
 use Rattle.ase_read.specs.Answer.{Shown, group, close, colour, entryShown}
 use Rattle.ase_read.specs.Answer as shown
 use Rattle.walk.specs.Walk.{Call, gives, over, refused}
-use Rattle.ase_walk.specs.Walking.{Started, starts, refusal}
+use Rattle.ase_walk.specs.Walking.{Started, starts, refusal, called, following}
 use Rattle.ase_walk.specs.declared.Block.{Block}
 use Rattle.ase_walk.specs.declared.Block.the-variants as vb
 use Rattle.ase_walk.specs.declared.BlockStep.{BlockStep}
 use Rattle.ase_walk.specs.declared.Given.{Given}
 use Rattle.ase_walk.specs.declared.Given.the-variants as vg
 use Rattle.ase_walk.specs.declared.Step.{Step}
+use Rattle.ase_walk.specs.declared.Walker.{Walker}
+use Rattle.ase_walk.specs.declared.Turn.{Turn}
 use Rattle.ase_walk.specs.declared.Opening.{Opening}
 use Rattle.ase_walk.specs.declared.Opening.the-variants as vs
 
@@ -54,6 +56,14 @@ handing (refused x p) q = (refused x p, q)
 
 abbrev pub handed : Call Entry × ℕ → Call Shown × ℕ
 handed w = handing (w .0) (w .1)
+
+-- what a call of a walker hands back: what its step says, and the whole walker
+abbrev pub toldTurn : Turn → (Call Shown × ℕ) × Walker
+toldTurn t = (toldStep (t .step), t .walker)
+
+-- the record as it is handed out, and the walker that follows
+abbrev pub handedOn : Walker → (Call Shown × ℕ) × Walker
+handedOn w = (handed (called w), following w)
 
 abbrev pub toldStart : Opening → Started
 toldStart (vs.At p) = starts p

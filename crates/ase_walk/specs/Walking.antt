@@ -5,9 +5,11 @@ use mathlib.Core.List.{List, []}
 use mathlib.Core.Bool.{Bool, true, false}
 use lib.Dec.{leb}
 use lib.ListN.{length}
+use denote.Ref.{now}
 use Rattle.fields.specs.Reader.{Res, ok, refuse, Reader, pick}
 use Rattle.ase.specs.Reading.{Entry, started, stopped, coloured, block}
-use Rattle.walk.specs.Walk.{Step, step, seek}
+use Rattle.walk.specs.Walk.{Call, Step, step, seek}
+use Rattle.ase_walk.specs.declared.Walker.{Walker}
 
 -- ---- a block at a place
 
@@ -53,3 +55,13 @@ pub data Started : Type 0 where
 abbrev pub startOf : Res (List Entry) → List ℕ → Started
 startOf (ok es q) s = starts (firstPlace s)
 startOf (refuse x p r f) s = refusal x p
+
+-- ---- the walker
+
+-- what a call of it gives, and the place that the call leaves
+abbrev pub called : Walker → Call Entry × ℕ
+called w = walk (now (w .file)) (w .at)
+
+-- the walker that follows: over the same file, at that place
+abbrev pub following : Walker → Walker
+following w = record { file = w .file; at = called w .1 }

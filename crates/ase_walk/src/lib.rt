@@ -11,7 +11,7 @@ ghost use Rattle.ase.specs.Reading.{ase};
 ghost use Rattle.ase_read.specs.Answer.{colour, IsColour};
 ghost use Rattle.walk.specs.Walk.{gives, answered};
 ghost use Rattle.ase_walk.specs.Walking.{blockFrom, Stands, blockWalk, walk, firstPlace, lentOf, startOf};
-ghost use Rattle.ase_walk.specs.Answer.{toldBlock, toldBlockStep, passes, toldGiven, toldStep, handed, toldStart};
+ghost use Rattle.ase_walk.specs.Answer.{toldBlock, toldBlockStep, passes, toldGiven, toldStep, handed, toldTurn, handedOn, toldStart};
 use ase::START;
 use ase::STOP;
 use ase_judge::Answer;
@@ -333,11 +333,22 @@ pub fn start<'a>(file: &'a [u8]) -> Walker<'a>
     Walker { file: part, at }
 }
 
-// One call: the colour, and the walker moves on.
-pub fn next<'s, 'a>(w: &'s mut Walker<'a>) -> Step
-    ensures { λ r. ⌜ (toldStep r ≡ handed (walk (now (now (w .entry) .file)) (now (w .entry) .at))) × (now (w .exit) .file ≡ now (w .entry) .file) × (now (w .exit) .at ≡ r .next) ⌝ }
+// What a call of `next` hands back: what it gave, and the walker that follows.
+pub struct Turn<'a> {
+    pub step: Step,
+    pub walker: Walker<'a>,
+}
+
+// One call: the colour, and the walker that follows.
+pub fn next<'a>(w: Walker<'a>) -> Turn<'a>
+    ensures { λ r. ⌜ toldTurn r ≡ handedOn (w .entry) ⌝ }
 {
     let step = step_at(w.file, w.at);
-    w.at = step.next;
-    step
+    Turn {
+        step,
+        walker: Walker {
+            file: w.file,
+            at: step.next,
+        },
+    }
 }

@@ -10,7 +10,7 @@ use native.Mathlib.Omega.{arith}
 use Rattle.fields.specs.Reader.{Res, ok, refuse, Reader, pick, each, chain}
 use Rattle.fields.proofs.Inverse.{each-none, each-inv}
 use Rattle.fields.proofs.Chain.{chain-none, chain-inv}
-use Rattle.walk.specs.Walk.{Call, gives, over, refused, Step, placeAfter, call, inTurn, lost, answered, step, sought, seek, only}
+use Rattle.walk.specs.Walk.{Call, gives, over, refused, Step, placeAfter, after, call, inTurn, lost, answered, step, sought, seek, only}
 
 -- ---- calls in turn
 
@@ -60,6 +60,16 @@ in-turn-is d (a ∷ more) (suc i) = in-turn-is d more i ∙ ap (λ (b : Bool). p
     go : (b : Bool) → ltb i (length more) ≡ b → ltb i (length more) ≡ ltb (suc i) (suc (length more))
     go true e = let h : i < length more = ltb-true i (length more) e in let g : suc i < suc (length more) = omega arith in e ∙ sym (lt-ltb _ _ g)
     go false e = let h : length more ≤ i = ltb-false i (length more) e in let g : suc (length more) ≤ suc i = omega arith in e ∙ sym (le-ltb _ _ g)
+
+-- ---- walkers that are handed on
+
+-- over one file, each from the place that the call before it left: what the walker after i calls answers is what call i answers
+pub after-calls : {A W : Type 0} (rule : W → Step A) (place : W → ℕ) (follows : W → W) → ((w : W) → rule (follows w) ≡ rule w) → ((w : W) → place (follows w) ≡ rule w (place w) .1)
+    → (w : W) (i : ℕ) → rule (after follows w i) (place (after follows w i)) .0 ≡ call (rule w) (place w) i
+unfolding after placeAfter
+after-calls rule place follows same moves w zero = refl
+after-calls {A} rule place follows same moves w (suc i) =
+    after-calls rule place follows same moves (follows w) i ∙ ap (λ (f : Step A). call f (place (follows w)) i) (same w) ∙ ap (λ (p : ℕ). call (rule w) p i) (moves w)
 
 -- ---- a step by what a reader reads
 

@@ -23,6 +23,11 @@ unfoldable pub placeAfter : {A : Type 0} → Step A → ℕ → ℕ → ℕ
 placeAfter f at zero = at
 placeAfter f at (suc i) = placeAfter f (f at .1) i
 
+-- the walker after i calls, each of which hands back the one that follows
+unfoldable pub after : {W : Type 0} → (W → W) → W → ℕ → W
+after follows w zero = w
+after follows w (suc i) = after follows (follows w) i
+
 -- what call i answers; the first is call 0
 abbrev pub call : {A : Type 0} → Step A → ℕ → ℕ → Call A
 call f at i = f (placeAfter f at i) .0
