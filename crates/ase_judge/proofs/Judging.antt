@@ -205,7 +205,7 @@ module _ (d : ℕ) (s : List ℕ) (at : ℕ) where
       pub block-cut : isType t ≡ true → length s - b < n → block d s at ≡ refuse 2 b 0 0
       block-cut u h = block-known u ∙ ap (λ (y : Bool). pick y (content t d n s at) (refuse 2 b 0 0)) (lt-leb n (length s - b) h)
 
-      pub block-content : isType t ≡ true → n ≤ length s - b → block d s at ≡ content t d n s at
+      block-content : isType t ≡ true → n ≤ length s - b → block d s at ≡ content t d n s at
       block-content u h = block-known u ∙ ap (λ (y : Bool). pick y (content t d n s at) (refuse 2 b 0 0)) (le-leb n (length s - b) h)
 
   pub content-start : (t n end : ℕ) → t ≡ 0xC001 → at + 6 + n ≡ end → content t d n s at ≡ startOf d end s at
@@ -236,17 +236,8 @@ module _ (d : ℕ) (s : List ℕ) (at t a : ℕ) (e : ok t a ≡ field 2 s at) (
     pub room : (at + 6 ≤ b + n) × (b + n ≤ length s)
     room = (omega (arith, after-length .0), omega (arith, after-length .1))
 
-    same-end : at + 6 + n ≡ b + n
-    same-end = ap (λ (x : ℕ). x + n) (after-length .0)
-
-    pub block-start : t ≡ 0xC001 → block d s at ≡ startOf d (b + n) s at
-    block-start k = block-content d s at t a e n b f u h ∙ content-start d s at t n (b + n) k same-end
-
-    pub block-stop : t ≡ 0xC002 → block d s at ≡ stopOf d (b + n) at
-    block-stop k = block-content d s at t a e n b f u h ∙ content-stop d s at t n (b + n) k same-end
-
-    pub block-colour : (t ≡ 0xC001 → ⊥) → (t ≡ 0xC002 → ⊥) → block d s at ≡ colourOf (b + n) s at
-    block-colour j k = block-content d s at t a e n b f u h ∙ content-colour d s at t n (b + n) j k same-end
+    pub block-held : block d s at ≡ content t d (b + n - (at + 6)) s at
+    block-held = let k : n ≡ b + n - (at + 6) = omega (arith, after-length .0) in block-content d s at t a e n b f u h ∙ ap (λ (m : ℕ). content t d m s at) k
 
 -- ---- blocks in a row
 

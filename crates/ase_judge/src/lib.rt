@@ -1,10 +1,10 @@
 // ASE palettes: judging a file by the layout.
 ghost use mathlib.Core.Path.{_≡_};
-ghost use Prim.Native.Nat.{_+_, _≤_, _<_};
+ghost use Prim.Native.Nat.{_+_, _-_, _≤_, _<_};
 ghost use lib.ListN.{length};
 ghost use Rattle.fields.specs.Reader.{done, each, judged, mapRes, chain};
 ghost use Rattle.fields.specs.Answer.{toldStep};
-ghost use Rattle.ase.specs.Reading.{type, shade, group, inside, isType, block, standingAfter, heading, ase};
+ghost use Rattle.ase.specs.Reading.{type, shade, group, inside, isType, content, block, standingAfter, heading, ase};
 ghost use Rattle.ase_judge.specs.Parts.{channelIn, paint, startOf, stopOf, colourOf, whole};
 ghost use Rattle.ase_judge.specs.Answer.{verdict, told, toldPassed, toldHeading, passed, tally};
 use ase::COLOUR;
@@ -209,6 +209,19 @@ fn is_type(kind: u16) -> bool
     }
 }
 
+// The content of a block at `at` of a known type, whose payload ends at `end`. It stands by itself so
+// that `block_at` is small enough to be inlined into the loops that call it.
+fn content_at(file: &[u8], at: usize, end: usize, kind: u16, depth: usize) -> Passed
+    requires { ⌜ (at + 6 ≤ end) × (end ≤ length (now file)) ⌝ }
+    ensures { λ r. ⌜ toldPassed r ≡ mapRes (passed depth) (content kind depth (end - (at + 6)) (now (file .entry)) at) ⌝ }
+{
+    match kind {
+        START => start_at(file, at, end, depth),
+        STOP => stop_at(at, end, depth),
+        _ => colour_at(file, at, end, depth),
+    }
+}
+
 // The block at `at`, where `depth` groups stand open.
 pub fn block_at(file: &[u8], at: usize, depth: usize) -> Passed
     ensures { λ r. ⌜ toldPassed r ≡ mapRes (passed depth) (block depth (now (file .entry)) at) ⌝ }
@@ -237,12 +250,7 @@ pub fn block_at(file: &[u8], at: usize, depth: usize) -> Passed
             place: b,
         };
     }
-    let end = b + n as usize;
-    match kind {
-        START => start_at(file, at, end, depth),
-        STOP => stop_at(at, end, depth),
-        _ => colour_at(file, at, end, depth),
-    }
+    content_at(file, at, b + n as usize, kind, depth)
 }
 
 // ---- the file

@@ -3,7 +3,7 @@ use Prim.Native.Nat.{ℕ, _-_}
 use mathlib.Core.List.{List}
 use mathlib.Core.Bool.{Bool, true, false}
 use Rattle.fields.specs.Reader.{ok, Reader}
-use Rattle.descriptor.specs.Reading.{Row, known, sortOf, valueOf, item, pair, listOf, objectOf}
+use Rattle.descriptor.specs.Reading.{Row, known, sortOf, valueOf, item, pair, listOf, objectOf, referenceOf, arrayOf}
 
 -- a field that is there, or none
 abbrev pub optional : Bool → Reader Unit → Reader Unit
@@ -19,6 +19,11 @@ memberOf false d p k = λ s at. item d p k at s at
 abbrev pub holderOf : Bool → ℕ → ℕ → Reader (List Row)
 holderOf true d k = objectOf (item d) d k
 holderOf false d k = listOf (item d) k
+
+-- the members of the row k that hold no items: an object array's, or a reference's
+abbrev pub heldOf : Bool → ℕ → ℕ → Reader (List Row)
+heldOf true d k = arrayOf d k
+heldOf false d k = referenceOf d k
 
 -- what follows the type t of the row k, which stands in the four bytes before v; an unknown one is 4
 abbrev pub valued : ℕ → ℕ → ℕ → Reader (List Row)

@@ -21,7 +21,7 @@ ghost use Rattle.fields.specs.Answer.{toldStep};
 ghost use Rattle.descriptor.specs.Leaves.{Leafed};
 ghost use Rattle.descriptor.specs.Reading.{id, class, children, refItem, referenceOf, arrayPair, arrayOf, item, objectOf, root, descriptor};
 ghost use Rattle.descriptor_read.specs.Table.{putRow, Done, Within, Below};
-ghost use Rattle.descriptor_read.specs.Cycle.{optional, memberOf, holderOf, valued};
+ghost use Rattle.descriptor_read.specs.Cycle.{optional, memberOf, holderOf, valued, heldOf};
 ghost use Rattle.descriptor_read.specs.Answer.{verdict, told, closing};
 ghost use Rattle.descriptor_read.specs.Filled.{filled, rowsIn};
 ghost use Rattle.descriptor_read.specs.Values.{rowIn, extentOf, toldExtent, placeOf, toldValue, valueIn};
@@ -269,6 +269,26 @@ fn array(file: &[u8], table: &mut [u32], only: usize, left: usize, row: usize, a
 
 // ---- the cycle
 
+// A reference, or, with `columns`, an object array: neither holds items. It is called at two places
+// and so not inlined, which keeps the frame of the readers of items small.
+fn held(
+    file: &[u8],
+    table: &mut [u32],
+    only: usize,
+    columns: bool,
+    left: usize,
+    row: usize,
+    at: usize,
+) -> Walk
+    requires { ⌜ Below (now file) left row at ⌝ }
+    ensures { λ r. ⌜ Done r only (now (table .entry)) (now (table .exit)) (row + 1) (heldOf columns left row (now (file .entry)) at) ⌝ }
+{
+    if columns {
+        return array(file, table, only, left, row, at);
+    }
+    reference(file, table, only, left, row, at)
+}
+
 // A class, where there is one.
 fn class_if(file: &[u8], there: bool, at: usize) -> Step
     ensures { λ r. ⌜ toldStep r ≡ optional there class (now (file .entry)) at ⌝ }
@@ -335,8 +355,8 @@ fn value_of(
         Value::Ends(end) => Walk::Next(end, row + 1),
         Value::List => list(file, table, only, false, left, row, at),
         Value::Object => object(file, table, only, left, row, at),
-        Value::Reference => reference(file, table, only, left, row, at),
-        Value::Array => array(file, table, only, left, row, at),
+        Value::Reference => held(file, table, only, false, left, row, at),
+        Value::Array => held(file, table, only, true, left, row, at),
         Value::Unknown => Walk::Refused(4, at - 4),
         Value::Refused(x, p) => Walk::Refused(x, p),
     }

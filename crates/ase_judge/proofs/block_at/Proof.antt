@@ -2,7 +2,7 @@ use native.Mathlib.Omega.{arith}
 use mathlib.Core.Path.{sym, ap, _∙_}
 use Prim.Native.Nat.{_-_}
 use borrow.Author.Tests.{not-true, not-false}
-use Rattle.ase_judge.proofs.Judging.{block-short, block-short-length, block-unknown, after-length, block-cut, room, block-start, block-stop, block-colour}
+use Rattle.ase_judge.proofs.Judging.{block-short, block-short-length, block-unknown, after-length, block-cut, room, block-held}
 use Rattle.fields.specs.Reader.{mapRes}
 use Rattle.fields.specs.Answer.{told16, told32}
 use Rattle.ase_judge.specs.Answer.{passed}
@@ -74,11 +74,11 @@ returns-4 c =
     let f = sym (ap (told32 _) (nn .n .given .1)) ∙ nn .before .before .u32-at .ensures in
     sym (ap (mapRes (passed (a .depth))) (block-cut (a .depth) (a .file .now) (a .at) _ _ e _ _ f (sym (c .before .before .is-type .ensures) ∙ not-false _ (c .before .if1 .left)) (c .if2 .taken)))
 
-cast-end : tie.Need-cast-end
-cast-end c = search needs
+cast-content-at : tie.Need-cast-content-at
+cast-content-at c = search needs
 
-add-end : tie.Need-add-end
-add-end c =
+add-content-at : tie.Need-add-content-at
+add-content-at c =
     let nn = c .before .before .before .before in
     let kk = nn .before .before .before .before in
     let a = kk .before .before .before .before .args in
@@ -87,59 +87,23 @@ add-end c =
     let x = after-length (a .depth) (a .file .now) (a .at) _ _ e _ _ f in
     omega (arith, x .0, x .1)
 
-start-at-requires : tie.Need-start-at-requires
-start-at-requires c κs =
-    let nn = c .before .before .before .before .before in
+content-at-requires : tie.Need-content-at-requires
+content-at-requires c κs =
+    let nn = c .before .before .before .before in
     let kk = nn .before .before .before .before in
     let a = kk .before .before .before .before .args in
     let e = sym (ap (told16 (a .at)) (kk .kind .given .1)) ∙ kk .before .before .u16-at .ensures in
     let f = sym (ap (told32 _) (nn .n .given .1)) ∙ nn .before .before .u32-at .ensures in
-    room (a .depth) (a .file .now) (a .at) _ _ e _ _ f (sym (c .before .before .before .is-type .ensures) ∙ not-false _ (c .before .before .if1 .left)) (c .before .if2 .left)
-
-stop-at-requires : tie.Need-stop-at-requires
-stop-at-requires c κs =
-    let nn = c .before .before .before .before .before in
-    let kk = nn .before .before .before .before in
-    let a = kk .before .before .before .before .args in
-    let e = sym (ap (told16 (a .at)) (kk .kind .given .1)) ∙ kk .before .before .u16-at .ensures in
-    let f = sym (ap (told32 _) (nn .n .given .1)) ∙ nn .before .before .u32-at .ensures in
-    room (a .depth) (a .file .now) (a .at) _ _ e _ _ f (sym (c .before .before .before .is-type .ensures) ∙ not-false _ (c .before .before .if1 .left)) (c .before .if2 .left) .0
-
-colour-at-requires : tie.Need-colour-at-requires
-colour-at-requires c κs =
-    let nn = c .before .before .before .before .before in
-    let kk = nn .before .before .before .before in
-    let a = kk .before .before .before .before .args in
-    let e = sym (ap (told16 (a .at)) (kk .kind .given .1)) ∙ kk .before .before .u16-at .ensures in
-    let f = sym (ap (told32 _) (nn .n .given .1)) ∙ nn .before .before .u32-at .ensures in
-    room (a .depth) (a .file .now) (a .at) _ _ e _ _ f (sym (c .before .before .before .is-type .ensures) ∙ not-false _ (c .before .before .if1 .left)) (c .before .if2 .left)
+    room (a .depth) (a .file .now) (a .at) _ _ e _ _ f (sym (c .before .before .is-type .ensures) ∙ not-false _ (c .before .if1 .left)) (c .if2 .left)
 
 returns-5 : tie.Need-returns-5
 returns-5 c =
-    let nn = c .before .before .before .before .before .before in
+    let nn = c .before .before .before .before .before in
     let kk = nn .before .before .before .before in
     let a = kk .before .before .before .before .args in
     let e = sym (ap (told16 (a .at)) (kk .kind .given .1)) ∙ kk .before .before .u16-at .ensures in
     let f = sym (ap (told32 _) (nn .n .given .1)) ∙ nn .before .before .u32-at .ensures in
-    c .start-at .ensures ∙ sym (ap (mapRes (passed (a .depth))) (block-start (a .depth) (a .file .now) (a .at) _ _ e _ _ f (sym (c .before .before .before .before .is-type .ensures) ∙ not-false _ (c .before .before .before .if1 .left)) (c .before .before .if2 .left) (c .before .match3 .keys1)))
-
-returns-6 : tie.Need-returns-6
-returns-6 c =
-    let nn = c .before .before .before .before .before .before in
-    let kk = nn .before .before .before .before in
-    let a = kk .before .before .before .before .args in
-    let e = sym (ap (told16 (a .at)) (kk .kind .given .1)) ∙ kk .before .before .u16-at .ensures in
-    let f = sym (ap (told32 _) (nn .n .given .1)) ∙ nn .before .before .u32-at .ensures in
-    c .stop-at .ensures ∙ sym (ap (mapRes (passed (a .depth))) (block-stop (a .depth) (a .file .now) (a .at) _ _ e _ _ f (sym (c .before .before .before .before .is-type .ensures) ∙ not-false _ (c .before .before .before .if1 .left)) (c .before .before .if2 .left) (c .before .match3 .keys2)))
-
-returns-7 : tie.Need-returns-7
-returns-7 c =
-    let nn = c .before .before .before .before .before .before in
-    let kk = nn .before .before .before .before in
-    let a = kk .before .before .before .before .args in
-    let e = sym (ap (told16 (a .at)) (kk .kind .given .1)) ∙ kk .before .before .u16-at .ensures in
-    let f = sym (ap (told32 _) (nn .n .given .1)) ∙ nn .before .before .u32-at .ensures in
-    c .colour-at .ensures ∙ sym (ap (mapRes (passed (a .depth))) (block-colour (a .depth) (a .file .now) (a .at) _ _ e _ _ f (sym (c .before .before .before .before .is-type .ensures) ∙ not-false _ (c .before .before .before .if1 .left)) (c .before .before .if2 .left) (c .before .match3 .rest .0 .1) (c .before .match3 .rest .1)))
+    c .content-at .ensures ∙ sym (ap (mapRes (passed (a .depth))) (block-held (a .depth) (a .file .now) (a .at) _ _ e _ _ f (sym (c .before .before .before .is-type .ensures) ∙ not-false _ (c .before .before .if1 .left)) (c .before .if2 .left)))
 
 pub block-at-spec : {M : Type 1} → statement M
 block-at-spec =
@@ -158,11 +122,7 @@ block-at-spec =
     sub-if2
     cast-if2
     returns-4
-    cast-end
-    add-end
-    start-at-requires
-    stop-at-requires
-    colour-at-requires
-    returns-5
-    returns-6
-    returns-7)
+    cast-content-at
+    add-content-at
+    content-at-requires
+    returns-5)

@@ -33,11 +33,10 @@ use Rattle.descriptor_read.proofs.value_of.Reads as value-of
 use Rattle.descriptor_read.proofs.value_of.Kinds as value-of-kinds
 use Rattle.descriptor_read.proofs.+item+list+object+pair+value_of.Lts-value_of as value-of-lts
 use Rattle.descriptor.proofs.begin.Reads as begin-reads
-use Rattle.descriptor_read.proofs.array.Reads as array-reads
 use Rattle.descriptor_read.proofs.class_if.Reads as class-if-reads
 use Rattle.descriptor_read.proofs.key_if.Reads as key-if-reads
 use Rattle.descriptor_read.proofs.put_row.Reads as put-row-reads
-use Rattle.descriptor_read.proofs.reference.Reads as reference-reads
+use Rattle.descriptor_read.proofs.held.Reads as held-reads
 use Rattle.fields.proofs.u32_at.Reads as u32-at-reads
 use Rattle.descriptor_read.proofs.+item+list+object+pair+value_of.{statement}
 use Rattle.descriptor_read.proofs.+item+list+object+pair+value_of.Tie.{close}
@@ -309,7 +308,7 @@ pair-returns-3 t c =
     done-eq (S.member-item (a .left) (a .parent) (a .row) (a .file .now) (a .at) (a .keyed) _ (c .before .before .before .before .before .before .before .before .if1 .left) (sym (c .before .before .before .before .before .before .before .key-if .ensures) ∙ ap toldStep (c .before .before .before .before .before .next .given .1))) (c .before .before .item .ensures)
 
 abbrev value-of-cs : ℕ → value-of-lts.Claims
-value-of-cs t = (begin-reads.Asked, begin-reads.Learnt, list-below t, list.Post, object-below t, object.Post, reference-reads.Asked, reference-reads.Learnt, array-reads.Asked, array-reads.Learnt)
+value-of-cs t = (begin-reads.Asked, begin-reads.Learnt, list-below t, list.Post, object-below t, object.Post, held-reads.Asked, held-reads.Learnt)
 
 value-of-begin-requires : (t : ℕ) → value-of-lts.Need-begin-requires (value-of-cs t) (value-of-at t) value-of.Post
 value-of-begin-requires t c κs = search needs
@@ -341,16 +340,16 @@ value-of-object-requires t c κs =
 value-of-enum-told-3 : (t : ℕ) → value-of-lts.Need-enum-told-3 (value-of-cs t) (value-of-at t) value-of.Post
 value-of-enum-told-3 t c = search needs
 
-value-of-reference-requires : (t : ℕ) → value-of-lts.Need-reference-requires (value-of-cs t) (value-of-at t) value-of.Post
-value-of-reference-requires t c κs =
+value-of-held-requires : (t : ℕ) → value-of-lts.Need-held-requires (value-of-cs t) (value-of-at t) value-of.Post
+value-of-held-requires t c κs =
     let p = c .before .before .before .before .before .before .pre .1 in
     omega (arith, p .size, p .levels, p .row, p .inside)
 
 value-of-enum-told-4 : (t : ℕ) → value-of-lts.Need-enum-told-4 (value-of-cs t) (value-of-at t) value-of.Post
 value-of-enum-told-4 t c = search needs
 
-value-of-array-requires : (t : ℕ) → value-of-lts.Need-array-requires (value-of-cs t) (value-of-at t) value-of.Post
-value-of-array-requires t c κs =
+value-of-held-requires-2 : (t : ℕ) → value-of-lts.Need-held-requires-2 (value-of-cs t) (value-of-at t) value-of.Post
+value-of-held-requires-2 t c κs =
     let p = c .before .before .before .before .before .before .pre .1 in
     omega (arith, p .size, p .levels, p .row, p .inside)
 
@@ -386,20 +385,20 @@ value-of-returns-3 t c =
     done-eq (S.value-is (a .left) (a .row) (a .kind) (a .file .now) (a .at) object-sort (S.begun-object (a .file .now) (a .at) _ (sym (c .before .before .before .before .before .before .begin .ensures) ∙ c .before .before .before .before .enum-told2 .given .1))) (c .before .before .object .ensures)
 
 value-of-same-length-3 : (t : ℕ) → value-of-lts.Need-same-length-3 (value-of-cs t) (value-of-at t) value-of.Post
-value-of-same-length-3 t c = c .before .before .reference .kept .1 .0
+value-of-same-length-3 t c = c .before .before .held .kept .1 .0
 
 value-of-returns-4 : (t : ℕ) → value-of-lts.Need-returns-4 (value-of-cs t) (value-of-at t) value-of.Post
 value-of-returns-4 t c =
     let a = c .before .before .before .before .before .before .before .before .before .args in
-    done-eq (S.value-is (a .left) (a .row) (a .kind) (a .file .now) (a .at) reference-sort (S.begun-reference (a .file .now) (a .at) _ (sym (c .before .before .before .before .before .before .begin .ensures) ∙ c .before .before .before .before .enum-told3 .given .1))) (c .before .before .reference .ensures)
+    done-eq (S.value-is (a .left) (a .row) (a .kind) (a .file .now) (a .at) reference-sort (S.begun-reference (a .file .now) (a .at) _ (sym (c .before .before .before .before .before .before .begin .ensures) ∙ c .before .before .before .before .enum-told3 .given .1))) (c .before .before .held .ensures)
 
 value-of-same-length-4 : (t : ℕ) → value-of-lts.Need-same-length-4 (value-of-cs t) (value-of-at t) value-of.Post
-value-of-same-length-4 t c = c .before .before .array .kept .1 .0
+value-of-same-length-4 t c = c .before .before .held2 .kept .1 .0
 
 value-of-returns-5 : (t : ℕ) → value-of-lts.Need-returns-5 (value-of-cs t) (value-of-at t) value-of.Post
 value-of-returns-5 t c =
     let a = c .before .before .before .before .before .before .before .before .before .args in
-    done-eq (S.value-is (a .left) (a .row) (a .kind) (a .file .now) (a .at) array-sort (S.begun-array (a .file .now) (a .at) _ (sym (c .before .before .before .before .before .before .begin .ensures) ∙ c .before .before .before .before .enum-told4 .given .1))) (c .before .before .array .ensures)
+    done-eq (S.value-is (a .left) (a .row) (a .kind) (a .file .now) (a .at) array-sort (S.begun-array (a .file .now) (a .at) _ (sym (c .before .before .before .before .before .before .begin .ensures) ∙ c .before .before .before .before .enum-told4 .given .1))) (c .before .before .held2 .ensures)
 
 value-of-returns-6 : (t : ℕ) → value-of-lts.Need-returns-6 (value-of-cs t) (value-of-at t) value-of.Post
 value-of-returns-6 t c =
@@ -485,9 +484,9 @@ pub +item+list+object+pair+value-of-spec : {M : Type 1} → statement M
     (value-of-enum-told-2 t)
     (value-of-object-requires t)
     (value-of-enum-told-3 t)
-    (value-of-reference-requires t)
+    (value-of-held-requires t)
     (value-of-enum-told-4 t)
-    (value-of-array-requires t)
+    (value-of-held-requires-2 t)
     (value-of-enum-told-5 t)
     (value-of-sub-t22 t)
     (value-of-enum-known-x t)
