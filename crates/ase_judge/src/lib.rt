@@ -209,8 +209,8 @@ fn is_type(kind: u16) -> bool
     }
 }
 
-// The content of a block at `at` of a known type, whose payload ends at `end`. It stands by itself so
-// that `block_at` is small enough to be inlined into the loops that call it.
+// The content of a block at `at` of a known type, whose payload ends at `end`. It stands by itself:
+// behind the tests of `block_at` the compiler takes these calls for rare, and does not inline them.
 fn content_at(file: &[u8], at: usize, end: usize, kind: u16, depth: usize) -> Passed
     requires { ⌜ (at + 6 ≤ end) × (end ≤ length (now file)) ⌝ }
     ensures { λ r. ⌜ toldPassed r ≡ mapRes (passed depth) (content kind depth (end - (at + 6)) (now (file .entry)) at) ⌝ }
