@@ -110,7 +110,8 @@ fn string_at(file: &[u8], at: usize) -> NameAt
         return NameAt::Refused(2, at);
     };
     let k = n as usize;
-    if file.len() - first < 2 * k {
+    // Not by twice the count: the compiler would take the number apart for it, byte by byte.
+    if (file.len() - first) / 2 < k {
         return NameAt::Refused(2, first);
     }
     NameAt::Is(first, n, first + 2 * k)
@@ -125,10 +126,10 @@ fn colour_at(file: &[u8], at: usize, n: usize) -> Step
         NameAt::Refused(x, p) => Step::Refused(x, p),
         NameAt::Is(_, _, code) => {
             let left = file.len() - code;
-            if left < 6 {
-                return Step::Refused(2, code);
-            }
             if left < 6 + n {
+                if left < 6 {
+                    return Step::Refused(2, code);
+                }
                 return Step::Refused(2, file.len());
             }
             Step::Next(code + (6 + n))

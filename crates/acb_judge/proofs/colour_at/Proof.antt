@@ -22,28 +22,28 @@ sub-left c =
     let a = call .before .before .args in
     omega (arith, string-in (a .file .now) (a .at) _ _ _ (sym (call .string-at .ensures) ∙ ap toldName (v .code .given .1)))
 
+add-if1 : tie.Need-add-if1
+add-if1 c = search needs
+
 returns : tie.Need-returns
 returns c =
-    let v = c .before .before in
+    let v = c .before .before .before in
     let call = v .before .before in
     let a = call .before .before .args in
-    code-short (a .n) (a .file .now) (a .at) _ _ _ (sym (ap toldName (v .code .given .1)) ∙ call .string-at .ensures) (omega (arith, c .if1 .taken))
-
-add-if2 : tie.Need-add-if2
-add-if2 c = search needs
+    code-short (a .n) (a .file .now) (a .at) _ _ _ (sym (ap toldName (v .code .given .1)) ∙ call .string-at .ensures) (omega (arith, c .if2 .taken))
 
 returns-2 : tie.Need-returns-2
 returns-2 c =
     let v = c .before .before .before in
     let call = v .before .before in
     let a = call .before .before .args in
-    components-short (a .n) (a .file .now) (a .at) _ _ _ (sym (ap toldName (v .code .given .1)) ∙ call .string-at .ensures) (omega (arith, c .before .if1 .left)) (omega (arith, c .if2 .taken))
+    components-short (a .n) (a .file .now) (a .at) _ _ _ (sym (ap toldName (v .code .given .1)) ∙ call .string-at .ensures) (omega (arith, c .if2 .left)) (omega (arith, c .before .if1 .taken))
 
 add-t10 : tie.Need-add-t10
 add-t10 c = search needs
 
-add-t13 : tie.Need-add-t13
-add-t13 c = search needs
+add-t14 : tie.Need-add-t14
+add-t14 c = search needs
 
 returns-3 : tie.Need-returns-3
 returns-3 c =
@@ -54,10 +54,10 @@ returns-3 c =
 
 returns-4 : tie.Need-returns-4
 returns-4 c =
-    let v = c .before .before .before in
+    let v = c .before .before in
     let call = v .before .before in
     let a = call .before .before .args in
-    colour-in (a .n) (a .file .now) (a .at) _ _ _ (sym (ap toldName (v .code .given .1)) ∙ call .string-at .ensures) (omega (arith, c .if2 .left))
+    colour-in (a .n) (a .file .now) (a .at) _ _ _ (sym (ap toldName (v .code .given .1)) ∙ call .string-at .ensures) (omega (arith, c .if1 .left))
 
 pub colour-at-spec : {M : Type 1} → statement M
 colour-at-spec =
@@ -67,10 +67,10 @@ colour-at-spec =
     enum-known-x
     enum-known-code
     sub-left
+    add-if1
     returns
-    add-if2
     returns-2
     add-t10
-    add-t13
+    add-t14
     returns-3
     returns-4)

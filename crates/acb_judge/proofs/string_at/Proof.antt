@@ -33,9 +33,6 @@ sub-if1 c =
     let f = field-next 4 (a .file .now) (a .at) _ _ (sym (ap (told32 (a .at)) (v .n .given .1)) ∙ call .u32-at .ensures) in
     omega arith
 
-mul-if1 : tie.Need-mul-if1
-mul-if1 c = search needs
-
 returns-2 : tie.Need-returns-2
 returns-2 c =
     let v = c .before .before in
@@ -69,7 +66,6 @@ string-at-spec =
     returns
     cast-k
     sub-if1
-    mul-if1
     returns-2
     mul-t7
     add-t8
