@@ -15,6 +15,7 @@ use listing::put_name;
 use listing::put_number;
 use listing::put_refusal;
 use listing::put_text;
+use listing::put_word;
 use listing::take_input;
 use walk::name_part;
 
@@ -27,12 +28,6 @@ fn put_tag(out: &mut [u8], n: usize, tag: Tag) -> usize {
         Tag::Spot => put_text(out, n, b"spot\n"),
         Tag::Process => put_text(out, n, b"process\n"),
     }
-}
-
-// A space, and the number.
-fn put_word(out: &mut [u8], n: usize, v: u64) -> usize {
-    let at = put(out, n, b' ');
-    put_number(out, at, v)
 }
 
 // Page size, page offset and identifier.

@@ -7,6 +7,7 @@ use listing::put;
 use listing::put_number;
 use listing::put_refusal;
 use listing::put_text;
+use listing::put_word;
 use listing::take_input;
 
 // The longest input that is listed.
@@ -34,8 +35,7 @@ fn put_places(out: &mut [u8], n: usize, row: &[u32]) -> usize
     let mut at = n;
     let mut k: usize = 1;
     while k < descriptor_read::WIDTH {
-        at = put(out, at, b' ');
-        at = put_number(out, at, wide(row[k]));
+        at = put_word(out, at, wide(row[k]));
         k += 1;
     }
     at

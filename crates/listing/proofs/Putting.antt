@@ -35,14 +35,17 @@ unfolding putAll
 put-append o [] ys = refl
 put-append o (x ∷ xs) ys = put-append (putOne o x) xs ys
 
+pub put-one : (o : Buffer) (b : ℕ) {p : Buffer} → p ≡ putOne o b → p ≡ putAll o (b ∷ [])
+unfolding putAll
+put-one o b e = e
+
 -- a text, and then another
 pub put-both : (o : Buffer) (xs ys : List ℕ) {p q : Buffer} → p ≡ putAll o xs → q ≡ putAll p ys → q ≡ putAll o (xs ++ ys)
 put-both o xs ys e f = f ∙ ap (λ (b : Buffer). putAll b ys) e ∙ sym (put-append o xs ys)
 
 -- a text, and then a byte
 pub put-last : (o : Buffer) (xs : List ℕ) (b : ℕ) {p q : Buffer} → p ≡ putAll o xs → q ≡ putOne p b → q ≡ putAll o (xs ++ (b ∷ []))
-unfolding putAll
-put-last o xs b e f = put-both o xs (b ∷ []) e f
+put-last o xs b {p = p} e f = put-both o xs (b ∷ []) e (put-one p b f)
 
 -- ---- a loop that puts: what is left to put, put after what was, is the whole
 

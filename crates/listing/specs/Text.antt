@@ -25,6 +25,10 @@ decimalIn (suc k) n = pick (ltb n 10) (digit n ∷ []) (decimalIn k (n / 10) ++ 
 abbrev pub decimal : ℕ → List ℕ
 decimal n = decimalIn 19 n
 
+-- a space, and a number
+abbrev pub word : ℕ → List ℕ
+word n = ascii " " ++ decimal n
+
 -- a byte in hexadecimal
 unfoldable pub hex : ℕ → List ℕ
 hex b = digit (b / 16) ∷ digit (b % 16) ∷ []
@@ -38,6 +42,11 @@ name (b ∷ more) = joined hex (b ∷ more)
 abbrev pub bits : ℕ → List ℕ
 bits v = joined hex (be 4 v)
 
+-- the lines of some records, which are numbered from i
+unfoldable pub lines : {A : Type 0} → (ℕ → A → List ℕ) → ℕ → List A → List ℕ
+lines line i [] = []
+lines line i (a ∷ more) = line i a ++ lines line (i + 1) more
+
 -- the line of a refused file
 abbrev pub refusal : ℕ → ℕ → List ℕ
-refusal number place = ascii "refused " ++ decimal number ++ ascii " at " ++ decimal place ++ ascii "\n"
+refusal number place = ascii "refused" ++ word number ++ ascii " at" ++ word place ++ ascii "\n"

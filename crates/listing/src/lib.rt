@@ -9,7 +9,7 @@ ghost use Rattle.io.specs.Counts.{Counts};
 ghost use Rattle.fields.specs.Numbers.{joined};
 ghost use Rattle.fields.specs.Reader.{pick};
 ghost use Rattle.listing.specs.Buffer.{putOne, putAll};
-ghost use Rattle.listing.specs.Text.{decimal, digit, hex, name, bits, refusal};
+ghost use Rattle.listing.specs.Text.{decimal, word, digit, hex, name, bits, refusal};
 use libc::STDIN_FILENO;
 use libc::STDOUT_FILENO;
 
@@ -50,6 +50,14 @@ pub fn put_number(out: &mut [u8], n: usize, v: u64) -> usize
     let mut digits = [0u8; 20];
     let k = io::decimal(v, &mut digits);
     put_text(out, n, &digits[..k])
+}
+
+// A space, and a number in decimal.
+pub fn put_word(out: &mut [u8], n: usize, v: u64) -> usize
+    ensures { λ r. ⌜ (now (out .exit), r) ≡ putAll (now (out .entry), n) (word v) ⌝ }
+{
+    let at = put(out, n, b' ');
+    put_number(out, at, v)
 }
 
 // The last hexadecimal digit of a number.
@@ -98,10 +106,10 @@ pub fn put_bits(out: &mut [u8], n: usize, v: u32) -> usize
 pub fn put_refusal(out: &mut [u8], number: u32, place: usize) -> usize
     ensures { λ r. ⌜ (now (out .exit), r) ≡ putAll (now (out .entry), 0) (refusal number place) ⌝ }
 {
-    let mut at = put_text(out, 0, b"refused ");
-    at = put_number(out, at, number as u64);
-    at = put_text(out, at, b" at ");
-    at = put_number(out, at, place as u64);
+    let mut at = put_text(out, 0, b"refused");
+    at = put_word(out, at, number as u64);
+    at = put_text(out, at, b" at");
+    at = put_word(out, at, place as u64);
     put(out, at, b'\n')
 }
 

@@ -9,8 +9,8 @@ slice-aggregate-put-text c = search needs
 put-text-requires : tie.Need-put-text-requires
 put-text-requires c κs = search needs
 
-put-number-requires : tie.Need-put-number-requires
-put-number-requires c κs = search needs
+put-word-requires : tie.Need-put-word-requires
+put-word-requires c κs = search needs
 
 slice-aggregate-put-text-2 : tie.Need-slice-aggregate-put-text-2
 slice-aggregate-put-text-2 c = search needs
@@ -18,8 +18,8 @@ slice-aggregate-put-text-2 c = search needs
 put-text-requires-2 : tie.Need-put-text-requires-2
 put-text-requires-2 c κs = search needs
 
-put-number-requires-2 : tie.Need-put-number-requires-2
-put-number-requires-2 c κs = search needs
+put-word-requires-2 : tie.Need-put-word-requires-2
+put-word-requires-2 c κs = search needs
 
 put-requires : tie.Need-put-requires
 put-requires c κs = search needs
@@ -33,7 +33,7 @@ returns c =
     let at = place .before .before .before .before in
     let number = at .before .before .before .before .before in
     let refused = number .before .before .before .before in
-    put-last _ _ _ (put-both _ _ _ (put-both _ _ _ (put-both _ _ _ (refused .put-text .ensures) (number .put-number .ensures)) (at .put-text2 .ensures)) (place .put-number2 .ensures)) (c .before .before .put .ensures)
+    put-last _ _ _ (put-both _ _ _ (put-both _ _ _ (put-both _ _ _ (refused .put-text .ensures) (number .put-word .ensures)) (at .put-text2 .ensures)) (place .put-word2 .ensures)) (c .before .before .put .ensures)
 
 pub put-refusal-spec : {M : Type 1} → statement M
 put-refusal-spec =
@@ -41,10 +41,10 @@ put-refusal-spec =
     (tie.spec
     slice-aggregate-put-text
     put-text-requires
-    put-number-requires
+    put-word-requires
     slice-aggregate-put-text-2
     put-text-requires-2
-    put-number-requires-2
+    put-word-requires-2
     put-requires
     same-length
     returns)
