@@ -4,7 +4,7 @@ use mathlib.Core.Path.{_≡_, refl, sym, ap, ap₂, _∙_}
 use mathlib.Core.List.{List, [], _∷_, _++_}
 use mathlib.Core.Bool.{Bool, true, false}
 use lib.ListN.{length, getD, drop, set, length-set, drop-of-length-le}
-use lib.Seq.{drop-cons}
+use lib.Seq.{drop-cons, sets}
 use lib.Dec.{ltb}
 use borrow.Author.Tests.{lt-ltb, le-ltb, ltb-true}
 use native.Mathlib.Omega.{arith}
@@ -69,6 +69,17 @@ module _ (word : ℕ → List ℕ) (all : Buffer) (items : List ℕ) (o : Buffer
   pub items-end : all ≡ putAll o (joined word (drop i items)) → length items ≤ i → all ≡ o
   unfolding joined putAll
   items-end e h = e ∙ ap (λ (l : List ℕ). putAll o (joined word l)) (drop-of-length-le items h)
+
+-- ---- a buffer that has room holds the text behind what was full
+
+pub put-room : (out : List ℕ) (n : ℕ) (text : List ℕ) → n + length text ≤ length out → putAll (out, n) text ≡ (sets out n text, n + length text)
+unfolding putAll
+put-room out n [] h = let e : n ≡ n + 0 = omega arith in ap (λ (k : ℕ). (out, k)) e
+put-room out n (x ∷ xs) h =
+    let l : length (set out n x) ≡ length out = length-set out n x in
+    let e : suc n + length xs ≡ n + suc (length xs) = omega arith in
+    ap (λ (b : Buffer). putAll b xs) (put-behind out n x (omega arith) ∙ ap (λ (k : ℕ). (set out n x, k)) (add-one n))
+    ∙ put-room (set out n x) (suc n) xs (omega arith) ∙ ap (λ (k : ℕ). (sets (set out n x) (suc n) xs, k)) e
 
 -- ---- the buffer keeps its length, and no more than that is full
 
