@@ -25,7 +25,7 @@ use Rattle.aco_walk.specs.declared.Step.{Step as Answered}
 use Rattle.aco_walk.proofs.Walked.{colours-in-turn, given-name}
 use Rattle.listing.specs.Buffer.{Buffer, putAll}
 use Rattle.listing.specs.Text.{ascii, lines, refusal}
-use Rattle.listing.proofs.Putting.{put-append}
+use Rattle.listing.proofs.Putting.{lines-turn, lines-none}
 use Rattle.aco_list.specs.Listing.{heading, colourLine, line, listing, followed, given}
 
 -- ---- what the calls give
@@ -87,26 +87,25 @@ pub lines-start : (f : Step Entry) (o : Buffer) (n : ℕ) {p at : ℕ} → p ≡
 lines-start f o n {p} {at} e = let z : n ≡ n - 0 = omega arith in ap₂ (λ (k q : ℕ). putAll o (lines line 0 (given f k q))) z (sym e)
 
 pub lines-end : (f : Step Entry) (o : Buffer) (n i at : ℕ) {all : Buffer} → n ≤ i → all ≡ putAll o (lines line i (given f (n - i) at)) → all ≡ o
-unfolding given lines putAll
-lines-end f o n i at h e = let z : n - i ≡ 0 = omega arith in e ∙ ap (λ (k : ℕ). putAll o (lines line i (given f k at))) z
+unfolding given
+lines-end f o n i at {all} h e = let z : n - i ≡ 0 = omega arith in lines-none line all o i (e ∙ ap (λ (k : ℕ). putAll o (lines line i (given f k at))) z)
 
 module _ (f : Step Entry) (all o : Buffer) (n i at : ℕ) (h : i < n) (all-is : all ≡ putAll o (lines line i (given f (n - i) at))) where
   left-is : n - i ≡ suc (n - (i + 1))
   left-is = omega arith
 
   pub line-turn : {p : Buffer} {e : Entry} {q : ℕ} → f at ≡ (gives e, q) → p ≡ putAll o (line i e) → all ≡ putAll p (lines line (i + 1) (given f (n - (i + 1)) q))
-  unfolding given lines
-  line-turn {p} {e} {q} g x =
-      all-is ∙ ap (λ (k : ℕ). putAll o (lines line i (given f k at))) left-is
-      ∙ ap (λ (w : Call Entry × ℕ). putAll o (lines line i (followed (w .0) (w .1) (λ r. given f (n - (i + 1)) r)))) g
-      ∙ put-append o (line i e) (lines line (i + 1) (given f (n - (i + 1)) q)) ∙ ap (λ (b : Buffer). putAll b (lines line (i + 1) (given f (n - (i + 1)) q))) (sym x)
+  unfolding given
+  line-turn {e = e} {q = q} g x =
+      lines-turn line all o i e (given f (n - (i + 1)) q)
+      (all-is ∙ ap (λ (k : ℕ). putAll o (lines line i (given f k at))) left-is ∙ ap (λ (w : Call Entry × ℕ). putAll o (lines line i (followed (w .0) (w .1) (λ r. given f (n - (i + 1)) r)))) g) x
 
   stops : (c : Call Entry) → f at .0 ≡ c → followed c (f at .1) (λ r. given f (n - (i + 1)) r) ≡ [] → all ≡ o
-  unfolding given lines putAll
+  unfolding given
   stops c g x =
-      all-is ∙ ap (λ (k : ℕ). putAll o (lines line i (given f k at))) left-is
-      ∙ ap (λ (a : Call Entry). putAll o (lines line i (followed a (f at .1) (λ r. given f (n - (i + 1)) r)))) g
-      ∙ ap (λ (l : List Entry). putAll o (lines line i l)) x
+      lines-none line all o i
+      (all-is ∙ ap (λ (k : ℕ). putAll o (lines line i (given f k at))) left-is
+      ∙ ap (λ (a : Call Entry). putAll o (lines line i (followed a (f at .1) (λ r. given f (n - (i + 1)) r)))) g ∙ ap (λ (l : List Entry). putAll o (lines line i l)) x)
 
   pub line-over : {c : Colour} {q : ℕ} → handed (f at) ≡ (c, over, q) → all ≡ o
   line-over e = stops over (told-over (f at) e) refl

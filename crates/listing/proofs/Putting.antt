@@ -12,6 +12,7 @@ use native.Mathlib.Numerals.{add-one}
 use Rattle.fields.specs.Reader.{pick}
 use Rattle.fields.specs.Numbers.{joined}
 use Rattle.listing.specs.Buffer.{Buffer, putOne, putAll}
+use Rattle.listing.specs.Text.{lines}
 
 -- ---- one byte
 
@@ -69,6 +70,16 @@ module _ (word : ℕ → List ℕ) (all : Buffer) (items : List ℕ) (o : Buffer
   pub items-end : all ≡ putAll o (joined word (drop i items)) → length items ≤ i → all ≡ o
   unfolding joined putAll
   items-end e h = e ∙ ap (λ (l : List ℕ). putAll o (joined word l)) (drop-of-length-le items h)
+
+-- the same of numbered lines
+module _ {A : Type 0} (line : ℕ → A → List ℕ) (all o : Buffer) (i : ℕ) where
+  pub lines-turn : (a : A) (more : List A) {p : Buffer} → all ≡ putAll o (lines line i (a ∷ more)) → p ≡ putAll o (line i a) → all ≡ putAll p (lines line (i + 1) more)
+  unfolding lines
+  lines-turn a more e f = e ∙ put-append o (line i a) (lines line (i + 1) more) ∙ ap (λ (b : Buffer). putAll b (lines line (i + 1) more)) (sym f)
+
+  pub lines-none : all ≡ putAll o (lines line i []) → all ≡ o
+  unfolding lines putAll
+  lines-none e = e
 
 -- ---- a buffer that has room holds the text behind what was full
 
