@@ -1,14 +1,18 @@
 // Lists the ACB file on standard input: its header, its shown texts, a line a record, a line a page,
 // `end`; or the refusal.
 ghost use mathlib.Core.Path.{_≡_};
-ghost use Prim.Native.Nat.{_≤_, _<_};
+ghost use mathlib.Core.List.{List, _++_};
+ghost use Prim.Native.Nat.{ℕ, _≤_, _<_};
 ghost use lib.ListN.{length, take, drop};
 ghost use Rattle.fields.specs.Numbers.{joined};
+ghost use Rattle.acb.specs.Reading.{Entry, acb};
 ghost use Rattle.acb.specs.Answer.{toldText, toldHeader, toldTag};
 ghost use Rattle.acb_show.specs.Answer.{toldPage};
 ghost use Rattle.listing.specs.Buffer.{putAll};
-ghost use Rattle.listing.specs.Text.{word};
-ghost use Rattle.acb_list.specs.Listing.{ending, numbers, heading, texts, record-text};
+ghost use Rattle.acb_show.specs.Pages.{dummiesIn};
+ghost use Rattle.acb_read.specs.Table.{row as Table·row};
+ghost use Rattle.listing.specs.Text.{word, lines};
+ghost use Rattle.acb_list.specs.Listing.{ending, numbers, heading, texts, record-text, line, pages, listing};
 ghost use Rattle.acb_list.specs.Listing.{text as Listing·text, page as Listing·page};
 use acb::Answer;
 use acb::Header;
@@ -137,6 +141,7 @@ fn put_records(
     components: usize,
 ) -> usize
     requires { ⌜ components ≤ 4 ⌝ }
+    ensures { λ r. ⌜ ((es : List Entry) (rest : List ℕ) → now (table .entry) ≡ joined Table·row es ++ rest → count ≡ length es → (now (out .exit), r) ≡ putAll (now (out .entry), n) (lines (line (now (file .entry)) components) 0 es)) ⌝ }
 {
     let mut at = n;
     let mut i: usize = 0;
@@ -172,14 +177,9 @@ fn put_page(out: &mut [u8], n: usize, page: usize, shown: Page) -> usize
 }
 
 // The pages that exist: one for each `size` records, and one for those that are left.
-fn put_pages(
-    out: &mut [u8],
-    n: usize,
-    table: &[u32],
-    count: usize,
-    size: u16,
-    offset: u16,
-) -> usize {
+fn put_pages(out: &mut [u8], n: usize, table: &[u32], count: usize, size: u16, offset: u16) -> usize
+    ensures { λ r. ⌜ (now (out .exit), r) ≡ putAll (now (out .entry), n) (pages count size offset (dummiesIn (now (table .entry)) count)) ⌝ }
+{
     let mut at = n;
     if size == 0 {
         return at;
@@ -199,7 +199,9 @@ fn put_pages(
 }
 
 // The table has room for 5,041 records, more than the longest input holds.
-fn put_listing(out: &mut [u8], file: &[u8]) -> usize {
+fn put_listing(out: &mut [u8], file: &[u8]) -> usize
+    ensures { λ r. ⌜ (now (out .exit), r) ≡ putAll (now (out .entry), 0) (listing (now (file .entry)) (acb (now (file .entry)))) ⌝ }
+{
     let mut table = [0u32; 60492];
     match acb_read::read(file, &mut table) {
         Answer::Refused { number, place } => put_refusal(out, number, place),
