@@ -1,6 +1,6 @@
 -- What is listed of an ACB file: docs/LISTINGS.md.
 use Prim.Native.Nat.{ℕ, zero, suc, _+_, _-_, _*_}
-use mathlib.Core.List.{List, [], _∷_, _++_}
+use mathlib.Core.List.{List, [], _++_}
 use mathlib.Core.Bool.{Bool}
 use lib.ListN.{length, getD, take, drop}
 use lib.Dec.{leb, eqb}

@@ -5,16 +5,16 @@ use mathlib.Core.List.{List, [], _∷_, _++_}
 use mathlib.Core.Bool.{Bool, true, false}
 use lib.ListN.{length}
 use native.Mathlib.Omega.{arith}
-use Rattle.fields.specs.Numbers.{be, joined, nums, At, Bytes}
+use Rattle.fields.specs.Numbers.{be, joined, nums, Bytes}
 use Rattle.fields.specs.Reader.{Res, ok, refuse, then, pick}
 use Rattle.fields.specs.Store.{part}
 use Rattle.fields.specs.Text.{Name, name, front}
 use Rattle.fields.proofs.Inverse.{then-inv, name-inv, front-nums, ok-value}
 use Rattle.fields.proofs.Places.{at-take, bes-nums, length-bes, length-nums}
 use Rattle.colour.specs.declared.space.Colour.{Colour}
-use Rattle.aco.specs.Reading.{colour, Entry, Contents, unnamed, black, aco}
-use Rattle.aco.specs.Answer.{Verdict, accepted, refused as refusedFile, verdict}
-use Rattle.walk.specs.Walk.{Call, gives, over, refused, Step, placeAfter, call, inTurn, step}
+use Rattle.aco.specs.Reading.{colour, Entry, Contents, unnamed, aco}
+use Rattle.aco.specs.Answer.{accepted, refused as refusedFile, verdict}
+use Rattle.walk.specs.Walk.{Call, gives, over, refused, Step, placeAfter, call, inTurn}
 use Rattle.walk.specs.Names.{namePart}
 use Rattle.walk.proofs.Calls.{step-read}
 use Rattle.aco_walk.specs.Walking.{isPlain, firstPlace, titled, labelled, swatchFrom, walk}

@@ -1,5 +1,5 @@
 -- A line for each call of a walk over blocks, and all of them for an accepted file. Assumes nothing.
-use Prim.Native.Nat.{ℕ, zero, suc, _+_, _-_, _≤_, _<_}
+use Prim.Native.Nat.{ℕ, suc, _+_, _-_, _≤_, _<_}
 use mathlib.Core.Path.{_≡_, refl, sym, ap, ap₂, _∙_}
 use mathlib.Core.List.{List, [], _∷_, _++_}
 use lib.ListN.{length, take}
@@ -17,7 +17,7 @@ use Rattle.ase.specs.Reading.{Entry, ase}
 use Rattle.ase.specs.Answer.{accepted, refused as refusedFile, verdict}
 use Rattle.ase_read.specs.Answer.{Shown}
 use Rattle.ase_walk.specs.Walking.{firstPlace, blockWalk}
-use Rattle.ase_walk.specs.Answer.{toldBlock, toldBlockStep, handing, handed}
+use Rattle.ase_walk.specs.Answer.{toldBlock, handing, handed}
 use Rattle.ase_walk.specs.declared.Block.{Block}
 use Rattle.ase_walk.specs.declared.Block.the-variants as vb
 use Rattle.ase_walk.proofs.Walked.{blocks-in-turn}

@@ -1,7 +1,7 @@
 -- The listings of P11 and P12 of docs/RULES.md, as they stand in docs/LISTINGS.md, and of the empty file. Assumes nothing.
 use Prim.Native.Nat.{ℕ}
 use mathlib.Core.Path.{_≡_, refl}
-use mathlib.Core.List.{List, [], _∷_, _++_}
+use mathlib.Core.List.{List, [], _∷_}
 use Rattle.fields.specs.Numbers.{num, nums, be, joined}
 use Rattle.fields.specs.Reader.{field, body, each, ended}
 use Rattle.descriptor.specs.Reading as d

@@ -1,7 +1,5 @@
 use borrow.Author.Needs.{needs}
-use native.Mathlib.Omega.{arith}
-use mathlib.Core.Path.{_≡_, sym, ap, _∙_}
-use lib.ListN.{length}
+use mathlib.Core.Path.{sym, ap, _∙_}
 use Rattle.descriptor_read.specs.Answer.{told}
 use Rattle.descriptor_read.specs.declared.Answer.{Answer}
 use Rattle.listing.specs.Buffer.{putAll}

@@ -3,7 +3,7 @@ use native.Mathlib.Omega.{arith}
 use Prim.Native.Nat.{ℕ, _-_, _*_, _≤_}
 use mathlib.Core.List.{List, _++_}
 use lib.ListN.{length, drop}
-use mathlib.Core.Path.{_≡_, refl, sym, ap, _∙_}
+use mathlib.Core.Path.{_≡_, refl, sym}
 use Rattle.fields.specs.Numbers.{joined}
 use Rattle.descriptor.specs.Reading.{Row}
 use Rattle.descriptor_read.specs.Table.{numbers}

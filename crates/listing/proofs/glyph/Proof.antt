@@ -1,5 +1,4 @@
 use mathlib.Core.Path.{sym}
-use native.Mathlib.Omega.{arith}
 use borrow.Author.Needs.{needs}
 use Rattle.listing.proofs.Wording.{digit-low, digit-high}
 use Rattle.listing.proofs.glyph.Statement.{statement}
