@@ -1,8 +1,19 @@
 // Lists the ACB file on standard input: its header, its shown texts, a line a record, a line a page,
 // `end`; or the refusal.
 ghost use mathlib.Core.Path.{_≡_};
-ghost use Prim.Native.Nat.{_≤_, _<_};
-ghost use lib.ListN.{length};
+ghost use mathlib.Core.List.{List, _++_};
+ghost use Prim.Native.Nat.{ℕ, _≤_, _<_};
+ghost use lib.ListN.{length, take, drop};
+ghost use Rattle.fields.specs.Numbers.{joined};
+ghost use Rattle.acb.specs.Reading.{Entry, acb};
+ghost use Rattle.acb_judge.specs.Answer.{toldText, toldHeader, toldTag};
+ghost use Rattle.acb_show.specs.Answer.{toldPage};
+ghost use Rattle.listing.specs.Buffer.{putAll};
+ghost use Rattle.acb_show.specs.Pages.{dummiesIn};
+ghost use Rattle.acb_read.specs.Table.{row as Table·row};
+ghost use Rattle.listing.specs.Text.{word, lines};
+ghost use Rattle.acb_list.specs.Listing.{ending, numbers, heading, texts, record-text, line, pages, listing};
+ghost use Rattle.acb_list.specs.Listing.{text as Listing·text, page as Listing·page};
 use acb::WIDTH;
 use acb_judge::Answer;
 use acb_judge::Header;
@@ -15,13 +26,16 @@ use listing::put_name;
 use listing::put_number;
 use listing::put_refusal;
 use listing::put_text;
+use listing::put_word;
 use listing::take_input;
 use walk::name_part;
 
 // The longest input that is listed.
 const TAKEN: usize = 65536;
 
-fn put_tag(out: &mut [u8], n: usize, tag: Tag) -> usize {
+fn put_tag(out: &mut [u8], n: usize, tag: Tag) -> usize
+    ensures { λ r. ⌜ (now (out .exit), r) ≡ putAll (now (out .entry), n) (ending (toldTag tag)) ⌝ }
+{
     match tag {
         Tag::None => put_text(out, n, b"none\n"),
         Tag::Spot => put_text(out, n, b"spot\n"),
@@ -29,20 +43,18 @@ fn put_tag(out: &mut [u8], n: usize, tag: Tag) -> usize {
     }
 }
 
-// A space, and the number.
-fn put_word(out: &mut [u8], n: usize, v: u64) -> usize {
-    let at = put(out, n, b' ');
-    put_number(out, at, v)
-}
-
 // Page size, page offset and identifier.
-fn put_numbers(out: &mut [u8], n: usize, header: Header) -> usize {
+fn put_numbers(out: &mut [u8], n: usize, header: Header) -> usize
+    ensures { λ r. ⌜ (now (out .exit), r) ≡ putAll (now (out .entry), n) (numbers (toldHeader header)) ⌝ }
+{
     let mut at = put_word(out, n, header.size as u64);
     at = put_word(out, at, header.offset as u64);
     put_word(out, at, header.identifier as u64)
 }
 
-fn put_heading(out: &mut [u8], header: Header, tag: Tag, count: usize) -> usize {
+fn put_heading(out: &mut [u8], header: Header, tag: Tag, count: usize) -> usize
+    ensures { λ r. ⌜ (now (out .exit), r) ≡ putAll (now (out .entry), 0) (heading (toldHeader header) (toldTag tag) count) ⌝ }
+{
     let mut at = put_text(out, 0, b"ACB");
     at = put_word(out, at, count as u64);
     at = put_word(out, at, header.space as u64);
@@ -52,7 +64,9 @@ fn put_heading(out: &mut [u8], header: Header, tag: Tag, count: usize) -> usize 
 }
 
 // A header string as it is shown, behind a label.
-fn put_shown(out: &mut [u8], n: usize, label: &[u8], file: &[u8], text: Text) -> usize {
+fn put_shown(out: &mut [u8], n: usize, label: &[u8], file: &[u8], text: Text) -> usize
+    ensures { λ r. ⌜ (now (out .exit), r) ≡ putAll (now (out .entry), n) (Listing·text (now (file .entry)) (now (label .entry)) (toldText text)) ⌝ }
+{
     let mut at = put_text(out, n, label);
     at = put_name(
         out,
@@ -62,7 +76,9 @@ fn put_shown(out: &mut [u8], n: usize, label: &[u8], file: &[u8], text: Text) ->
     put(out, at, b'\n')
 }
 
-fn put_texts(out: &mut [u8], n: usize, file: &[u8], header: Header) -> usize {
+fn put_texts(out: &mut [u8], n: usize, file: &[u8], header: Header) -> usize
+    ensures { λ r. ⌜ (now (out .exit), r) ≡ putAll (now (out .entry), n) (texts (now (file .entry)) (toldHeader header .texts)) ⌝ }
+{
     let title = header.title;
     let prefix = header.prefix;
     let suffix = header.suffix;
@@ -73,13 +89,16 @@ fn put_texts(out: &mut [u8], n: usize, file: &[u8], header: Header) -> usize {
     put_shown(out, at, b"description ", file, description)
 }
 
-fn number(x: u32) -> u64 {
+fn number(x: u32) -> u64
+    ensures { λ r. ⌜ r ≡ x ⌝ }
+{
     x as u64
 }
 
 // The components of a record, which are number 8 of its row and those behind it.
 fn put_components(out: &mut [u8], n: usize, row: &[u32], components: usize) -> usize
     requires { ⌜ (12 ≤ length (now row)) × (components ≤ 4) ⌝ }
+    ensures { λ r. ⌜ (now (out .exit), r) ≡ putAll (now (out .entry), n) (joined word (take components (drop 8 (now (row .entry))))) ⌝ }
 {
     let mut at = n;
     let mut k: usize = 0;
@@ -100,6 +119,7 @@ fn wide(x: u32) -> usize
 // listed as three units would be.
 fn put_record(out: &mut [u8], n: usize, file: &[u8], row: &[u32], components: usize) -> usize
     requires { ⌜ (12 ≤ length (now row)) × (components ≤ 4) ⌝ }
+    ensures { λ r. ⌜ (now (out .exit), r) ≡ putAll (now (out .entry), n) (record-text (now (file .entry)) components (now (row .entry))) ⌝ }
 {
     let place = wide(row[0]);
     let units = row[1];
@@ -121,6 +141,7 @@ fn put_records(
     components: usize,
 ) -> usize
     requires { ⌜ components ≤ 4 ⌝ }
+    ensures { λ r. ⌜ ((es : List Entry) (rest : List ℕ) → now (table .entry) ≡ joined Table·row es ++ rest → count ≡ length es → (now (out .exit), r) ≡ putAll (now (out .entry), n) (lines (line (now (file .entry)) components) 0 es)) ⌝ }
 {
     let mut at = n;
     let mut i: usize = 0;
@@ -138,7 +159,9 @@ fn put_records(
 }
 
 // A page's number, and the record that it shows, or `-` where it shows none.
-fn put_page(out: &mut [u8], n: usize, page: usize, shown: Page) -> usize {
+fn put_page(out: &mut [u8], n: usize, page: usize, shown: Page) -> usize
+    ensures { λ r. ⌜ (now (out .exit), r) ≡ putAll (now (out .entry), n) (Listing·page page (toldPage shown)) ⌝ }
+{
     let mut at = put_text(out, n, b"page");
     at = put_word(out, at, page as u64);
     match shown {
@@ -154,14 +177,9 @@ fn put_page(out: &mut [u8], n: usize, page: usize, shown: Page) -> usize {
 }
 
 // The pages that exist: one for each `size` records, and one for those that are left.
-fn put_pages(
-    out: &mut [u8],
-    n: usize,
-    table: &[u32],
-    count: usize,
-    size: u16,
-    offset: u16,
-) -> usize {
+fn put_pages(out: &mut [u8], n: usize, table: &[u32], count: usize, size: u16, offset: u16) -> usize
+    ensures { λ r. ⌜ (now (out .exit), r) ≡ putAll (now (out .entry), n) (pages count size offset (dummiesIn (now (table .entry)) count)) ⌝ }
+{
     let mut at = n;
     if size == 0 {
         return at;
@@ -181,7 +199,9 @@ fn put_pages(
 }
 
 // The table has room for 5,041 records, more than the longest input holds.
-fn put_listing(out: &mut [u8], file: &[u8]) -> usize {
+fn put_listing(out: &mut [u8], file: &[u8]) -> usize
+    ensures { λ r. ⌜ (now (out .exit), r) ≡ putAll (now (out .entry), 0) (listing (now (file .entry)) (acb (now (file .entry)))) ⌝ }
+{
     let mut table = [0u32; 60492];
     match acb_read::read(file, &mut table) {
         Answer::Refused { number, place } => put_refusal(out, number, place),

@@ -1,4 +1,11 @@
 // Lists the ACO file on standard input: its header, a line a colour, `end`; or the refusal.
+ghost use mathlib.Core.Path.{_≡_};
+ghost use Rattle.fields.specs.Numbers.{joined};
+ghost use Rattle.aco.specs.Reading.{aco};
+ghost use Rattle.aco_walk.specs.Walking.{firstPlace, walk};
+ghost use Rattle.listing.specs.Buffer.{putAll};
+ghost use Rattle.listing.specs.Text.{word, lines};
+ghost use Rattle.aco_list.specs.Listing.{colourLine, line, heading, listing, given};
 use aco_judge::Answer;
 use aco_walk::Given;
 use colour::Colour;
@@ -8,34 +15,48 @@ use listing::put_name;
 use listing::put_number;
 use listing::put_refusal;
 use listing::put_text;
+use listing::put_word;
 use listing::take_input;
 use walk::name_part;
 
 // The longest input that is listed.
 const TAKEN: usize = 65536;
 
-fn wide(x: u16) -> u64 {
+fn wide(x: u16) -> u64
+    ensures { λ r. ⌜ r ≡ x ⌝ }
+{
     x as u64
 }
 
-// A colour's line: its number, space, samples and name.
-fn put_colour(out: &mut [u8], n: usize, i: usize, colour: Colour, name: &[u8]) -> usize {
-    let mut at = put_number(out, n, i as u64);
-    at = put(out, at, b' ');
-    at = put_number(out, at, wide(colour.space));
+fn put_samples(out: &mut [u8], n: usize, samples: [u16; 4]) -> usize
+    ensures { λ r. ⌜ (now (out .exit), r) ≡ putAll (now (out .entry), n) (joined word samples) ⌝ }
+{
+    let mut at = n;
     let mut k: usize = 0;
     while k < 4 {
-        at = put(out, at, b' ');
-        at = put_number(out, at, wide(colour.samples[k]));
+        at = put_word(out, at, wide(samples[k]));
         k += 1;
     }
+    at
+}
+
+// A colour's line: its number, space, samples and name.
+fn put_colour(out: &mut [u8], n: usize, i: usize, colour: Colour, name: &[u8]) -> usize
+    ensures { λ r. ⌜ (now (out .exit), r) ≡ putAll (now (out .entry), n) (colourLine i colour (now (name .entry))) ⌝ }
+{
+    let samples = colour.samples;
+    let mut at = put_number(out, n, i as u64);
+    at = put_word(out, at, wide(colour.space));
+    at = put_samples(out, at, samples);
     at = put(out, at, b' ');
     at = put_name(out, at, name);
     put(out, at, b'\n')
 }
 
 // The colours of an accepted file, one a step.
-fn put_colours(out: &mut [u8], n: usize, file: &[u8], colours: usize) -> usize {
+fn put_colours(out: &mut [u8], n: usize, file: &[u8], colours: usize) -> usize
+    ensures { λ r. ⌜ (now (out .exit), r) ≡ putAll (now (out .entry), n) (lines line 0 (given (walk (now (file .entry))) colours (firstPlace (now (file .entry))))) ⌝ }
+{
     let mut at = n;
     let mut i: usize = 0;
     let mut p = aco_walk::first_at(file);
@@ -63,16 +84,20 @@ fn put_colours(out: &mut [u8], n: usize, file: &[u8], colours: usize) -> usize {
     at
 }
 
-fn put_header(out: &mut [u8], colours: usize, lists: usize) -> usize {
-    let word = put_text(out, 0, b"ACO ");
-    let at = put_number(out, word, colours as u64);
+fn put_heading(out: &mut [u8], colours: usize, lists: usize) -> usize
+    ensures { λ r. ⌜ (now (out .exit), r) ≡ putAll (now (out .entry), 0) (heading colours lists) ⌝ }
+{
+    let mut at = put_text(out, 0, b"ACO");
+    at = put_word(out, at, colours as u64);
     if lists == 1 {
         return put_text(out, at, b" plain\n");
     }
     put_text(out, at, b" names\n")
 }
 
-fn put_listing(out: &mut [u8], file: &[u8]) -> usize {
+fn put_listing(out: &mut [u8], file: &[u8]) -> usize
+    ensures { λ r. ⌜ (now (out .exit), r) ≡ putAll (now (out .entry), 0) (listing (aco (now (file .entry)))) ⌝ }
+{
     match aco_judge::judge(file) {
         Answer::Refused { number, place } => put_refusal(out, number, place),
         Answer::Differ {
@@ -81,7 +106,7 @@ fn put_listing(out: &mut [u8], file: &[u8]) -> usize {
             field: _,
         } => put_refusal(out, 7, place),
         Answer::Accepted { colours, lists } => {
-            let head = put_header(out, colours, lists);
+            let head = put_heading(out, colours, lists);
             let end = put_colours(out, head, file, colours);
             put_text(out, end, b"end\n")
         }

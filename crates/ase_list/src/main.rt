@@ -1,5 +1,15 @@
 // Lists the ASE file on standard input: its header, a line a block, `end`; or the refusal.
+ghost use mathlib.Core.Path.{_≡_};
 ghost use Prim.Native.Nat.{_≤_};
+ghost use lib.ListN.{take};
+ghost use Rattle.fields.specs.Numbers.{joined};
+ghost use Rattle.ase.specs.Reading.{ase};
+ghost use Rattle.ase_walk.specs.Walking.{firstPlace, blockWalk};
+ghost use Rattle.ase_walk.specs.Answer.{toldBlock};
+ghost use Rattle.listing.specs.Buffer.{putAll};
+ghost use Rattle.listing.specs.Text.{lines};
+ghost use Rattle.ase_list.specs.Listing.{channel, shade, answer, answerLine, answers, listing};
+ghost use Rattle.ase_list.specs.Listing.{model as Listing·model, type as Listing·type};
 use ase_judge::Answer;
 use ase_walk::Block;
 use colour::Channels;
@@ -11,13 +21,16 @@ use listing::put_name;
 use listing::put_number;
 use listing::put_refusal;
 use listing::put_text;
+use listing::put_word;
 use listing::take_input;
 use walk::name_part;
 
 // The longest input that is listed.
 const TAKEN: usize = 65536;
 
-fn put_model(out: &mut [u8], n: usize, model: Model) -> usize {
+fn put_model(out: &mut [u8], n: usize, model: Model) -> usize
+    ensures { λ r. ⌜ (now (out .exit), r) ≡ putAll (now (out .entry), n) (Listing·model model) ⌝ }
+{
     match model {
         Model::Rgb => put_text(out, n, b"RGB"),
         Model::Cmyk => put_text(out, n, b"CMYK"),
@@ -29,6 +42,7 @@ fn put_model(out: &mut [u8], n: usize, model: Model) -> usize {
 // The first channels of a colour, as many as its model has.
 fn put_channels(out: &mut [u8], n: usize, bits: [u32; 4], channels: u16) -> usize
     requires { ⌜ channels ≤ 4 ⌝ }
+    ensures { λ r. ⌜ (now (out .exit), r) ≡ putAll (now (out .entry), n) (joined channel (take channels bits)) ⌝ }
 {
     let mut at = n;
     let mut k: usize = 0;
@@ -40,7 +54,9 @@ fn put_channels(out: &mut [u8], n: usize, bits: [u32; 4], channels: u16) -> usiz
     at
 }
 
-fn put_type(out: &mut [u8], n: usize, kind: u16) -> usize {
+fn put_type(out: &mut [u8], n: usize, kind: u16) -> usize
+    ensures { λ r. ⌜ (now (out .exit), r) ≡ putAll (now (out .entry), n) (Listing·type kind) ⌝ }
+{
     if kind == 0 {
         return put_text(out, n, b" global ");
     }
@@ -51,7 +67,9 @@ fn put_type(out: &mut [u8], n: usize, kind: u16) -> usize {
 }
 
 // A colour: its model, channels, type and name.
-fn put_colour(out: &mut [u8], n: usize, colour: Channels, kind: u16, name: &[u8]) -> usize {
+fn put_colour(out: &mut [u8], n: usize, colour: Channels, kind: u16, name: &[u8]) -> usize
+    ensures { λ r. ⌜ (now (out .exit), r) ≡ putAll (now (out .entry), n) (shade colour kind (now (name .entry))) ⌝ }
+{
     let model = colour.model();
     let mut at = put_model(out, n, model);
     at = put_channels(out, at, colour.bits(), model.traits().channels);
@@ -60,7 +78,9 @@ fn put_colour(out: &mut [u8], n: usize, colour: Channels, kind: u16, name: &[u8]
 }
 
 // What stands in a block's line after its number.
-fn put_block(out: &mut [u8], n: usize, file: &[u8], block: Block) -> usize {
+fn put_block(out: &mut [u8], n: usize, file: &[u8], block: Block) -> usize
+    ensures { λ r. ⌜ (now (out .exit), r) ≡ putAll (now (out .entry), n) (answer (now (file .entry)) (toldBlock block)) ⌝ }
+{
     match block {
         Block::Group { place, units } => {
             let at = put_text(out, n, b" group ");
@@ -85,7 +105,9 @@ fn put_block(out: &mut [u8], n: usize, file: &[u8], block: Block) -> usize {
 }
 
 // The blocks of an accepted file, one a step.
-fn put_blocks(out: &mut [u8], n: usize, file: &[u8], blocks: usize) -> usize {
+fn put_blocks(out: &mut [u8], n: usize, file: &[u8], blocks: usize) -> usize
+    ensures { λ r. ⌜ (now (out .exit), r) ≡ putAll (now (out .entry), n) (lines (answerLine (now (file .entry))) 0 (answers (blockWalk (now (file .entry))) blocks (firstPlace (now (file .entry))))) ⌝ }
+{
     let mut at = n;
     let mut i: usize = 0;
     let mut p = ase_walk::first_at(file);
@@ -101,12 +123,14 @@ fn put_blocks(out: &mut [u8], n: usize, file: &[u8], blocks: usize) -> usize {
     at
 }
 
-fn put_listing(out: &mut [u8], file: &[u8]) -> usize {
+fn put_listing(out: &mut [u8], file: &[u8]) -> usize
+    ensures { λ r. ⌜ (now (out .exit), r) ≡ putAll (now (out .entry), 0) (listing (now (file .entry)) (ase (now (file .entry)))) ⌝ }
+{
     match ase_judge::judge(file) {
         Answer::Refused { number, place } => put_refusal(out, number, place),
         Answer::Accepted { blocks, colours: _ } => {
-            let mut at = put_text(out, 0, b"ASE ");
-            at = put_number(out, at, blocks as u64);
+            let mut at = put_text(out, 0, b"ASE");
+            at = put_word(out, at, blocks as u64);
             at = put(out, at, b'\n');
             at = put_blocks(out, at, file, blocks);
             put_text(out, at, b"end\n")

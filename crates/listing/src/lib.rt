@@ -1,17 +1,22 @@
 // What every listing program needs: text in a buffer that is written out when full, refusals, and
-// input that is too long.
+// input that is too long. The contracts say what a buffer holds: of what C's `read` and `write` do
+// outside the program nothing is assumed, so nothing is said.
 ghost use mathlib.Core.Path.{_≡_};
-ghost use Prim.Native.Nat.{_≤_, _<_};
+ghost use Prim.Native.Nat.{_%_};
 ghost use lib.Dec.{leb};
 ghost use lib.ListN.{length};
+ghost use Rattle.io.specs.Counts.{Counts};
+ghost use Rattle.fields.specs.Numbers.{joined};
 ghost use Rattle.fields.specs.Reader.{pick};
+ghost use Rattle.listing.specs.Buffer.{putOne, putAll};
+ghost use Rattle.listing.specs.Text.{decimal, word, digit, hex, name, bits, refusal};
 use libc::STDIN_FILENO;
 use libc::STDOUT_FILENO;
 
 // Puts a byte into the buffer, of which n are full, and answers how many are full then. A full
 // buffer is written out first.
 pub fn put(out: &mut [u8], n: usize, b: u8) -> usize
-    ensures { λ r. ⌜ r ≤ length (now (out .entry)) ⌝ }
+    ensures { λ r. ⌜ (now (out .exit), r) ≡ putOne (now (out .entry), n) b ⌝ }
 {
     if n < out.len() {
         out[n] = b;
@@ -25,9 +30,9 @@ pub fn put(out: &mut [u8], n: usize, b: u8) -> usize
     0
 }
 
+// Puts a text, and answers as `put` does; so does each function that puts.
 pub fn put_text(out: &mut [u8], n: usize, text: &[u8]) -> usize
-    ensures { λ r. ⌜ (n ≤ length (now (out .entry)) → r ≤ length (now (out .entry))) ⌝ }
-    ensures { λ r. ⌜ (0 < length (now (text .entry)) → r ≤ length (now (out .entry))) ⌝ }
+    ensures { λ r. ⌜ (now (out .exit), r) ≡ putAll (now (out .entry), n) (now (text .entry)) ⌝ }
 {
     let mut at = n;
     let mut i: usize = 0;
@@ -38,22 +43,34 @@ pub fn put_text(out: &mut [u8], n: usize, text: &[u8]) -> usize
     at
 }
 
+// A number in decimal.
 pub fn put_number(out: &mut [u8], n: usize, v: u64) -> usize
-    ensures { λ r. ⌜ r ≤ length (now (out .entry)) ⌝ }
+    ensures { λ r. ⌜ (now (out .exit), r) ≡ putAll (now (out .entry), n) (decimal v) ⌝ }
 {
     let mut digits = [0u8; 20];
     let k = io::decimal(v, &mut digits);
     put_text(out, n, &digits[..k])
 }
 
-fn glyph(d: u8) -> u8 {
+// A space, and a number in decimal.
+pub fn put_word(out: &mut [u8], n: usize, v: u64) -> usize
+    ensures { λ r. ⌜ (now (out .exit), r) ≡ putAll (now (out .entry), n) (word v) ⌝ }
+{
+    let at = put(out, n, b' ');
+    put_number(out, at, v)
+}
+
+// The last hexadecimal digit of a number.
+fn glyph(d: u8) -> u8
+    ensures { λ r. ⌜ r ≡ digit (d % 16) ⌝ }
+{
     let x = d % 16;
     if x < 10 { b'0' + x } else { b'A' - 10 + x }
 }
 
 // Bytes, two capital hexadecimal digits each.
 fn put_bytes(out: &mut [u8], n: usize, bytes: &[u8]) -> usize
-    ensures { λ r. ⌜ (0 < length (now (bytes .entry)) → r ≤ length (now (out .entry))) ⌝ }
+    ensures { λ r. ⌜ (now (out .exit), r) ≡ putAll (now (out .entry), n) (joined hex (now (bytes .entry))) ⌝ }
 {
     let mut at = n;
     let mut i: usize = 0;
@@ -68,7 +85,7 @@ fn put_bytes(out: &mut [u8], n: usize, bytes: &[u8]) -> usize
 
 // The units of a name, four capital hexadecimal digits each, or `-` for none.
 pub fn put_name(out: &mut [u8], n: usize, units: &[u8]) -> usize
-    ensures { λ r. ⌜ r ≤ length (now (out .entry)) ⌝ }
+    ensures { λ r. ⌜ (now (out .exit), r) ≡ putAll (now (out .entry), n) (name (now (units .entry))) ⌝ }
 {
     if units.len() == 0 {
         return put(out, n, b'-');
@@ -78,7 +95,7 @@ pub fn put_name(out: &mut [u8], n: usize, units: &[u8]) -> usize
 
 // The bits of a number, eight capital hexadecimal digits.
 pub fn put_bits(out: &mut [u8], n: usize, v: u32) -> usize
-    ensures { λ r. ⌜ r ≤ length (now (out .entry)) ⌝ }
+    ensures { λ r. ⌜ (now (out .exit), r) ≡ putAll (now (out .entry), n) (bits v) ⌝ }
 {
     let mut bytes = [0u8; 4];
     fields::put_u32(&mut bytes, 0, v);
@@ -87,12 +104,12 @@ pub fn put_bits(out: &mut [u8], n: usize, v: u32) -> usize
 
 // The line of a refused file, in a buffer of which nothing is full.
 pub fn put_refusal(out: &mut [u8], number: u32, place: usize) -> usize
-    ensures { λ r. ⌜ r ≤ length (now (out .entry)) ⌝ }
+    ensures { λ r. ⌜ (now (out .exit), r) ≡ putAll (now (out .entry), 0) (refusal number place) ⌝ }
 {
-    let mut at = put_text(out, 0, b"refused ");
-    at = put_number(out, at, number as u64);
-    at = put_text(out, at, b" at ");
-    at = put_number(out, at, place as u64);
+    let mut at = put_text(out, 0, b"refused");
+    at = put_word(out, at, number as u64);
+    at = put_text(out, at, b" at");
+    at = put_word(out, at, place as u64);
     put(out, at, b'\n')
 }
 
@@ -106,9 +123,10 @@ fn pass_rest() {
     }
 }
 
-// Takes standard input to its end: as much as the buffer holds, and passes over the rest.
+// Takes standard input to its end: as much as the buffer holds, and passes over the rest. It
+// answers how many bytes at the buffer's start are the input's; which they are is not said.
 pub fn take_input(input: &mut [u8]) -> usize
-    ensures { λ r. ⌜ r ≤ length (now (input .entry)) ⌝ }
+    ensures { λ r. ⌜ Counts r (now (input .exit)) ⌝ }
 {
     let n = io::read_full(STDIN_FILENO, input);
     if n < input.len() {

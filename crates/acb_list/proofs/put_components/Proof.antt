@@ -1,18 +1,24 @@
 use borrow.Author.Needs.{needs}
-use Prim.Native.Nat.{_+_, _-_, _≤_}
-use lib.ListN.{length}
-use mathlib.Core.Path.{_≡_}
+use native.Mathlib.Omega.{arith}
+use Prim.Native.Nat.{ℕ, _-_, _≤_}
+use lib.ListN.{length, take, drop, length-drop}
+use lib.Seq.{getD-take, getD-drop, length-take-le}
+use mathlib.Core.Path.{_≡_, refl, sym, ap, _∙_}
+use Rattle.fields.specs.Numbers.{joined}
+use Rattle.listing.specs.Buffer.{putAll}
+use Rattle.listing.specs.Text.{word}
+use Rattle.listing.proofs.Putting.{items-turn, items-end}
 use Rattle.acb_list.proofs.put_components.Statement.{statement}
 use Rattle.acb_list.proofs.put_components.Tie as tie
 
 abbrev Inv-loop : tie.InvT-loop
-Inv-loop out₀ n row components at₀ k₀ out at k = (k ≤ components) × (length out ≡ length out₀)
+Inv-loop out₀ n row components at₀ k₀ out at k = (k ≤ components) × (length out ≡ length out₀) × (putAll (out₀, n) (joined word (take components (drop 8 row))) ≡ putAll (out, at) (joined word (drop k (take components (drop 8 row)))))
 
 abbrev μ-loop : tie.MeasureT-loop
 μ-loop out₀ n row components at₀ k₀ out at k = components - k
 
 loop-holds : tie.Need-loop-holds Inv-loop μ-loop
-loop-holds c = search needs
+loop-holds c = (omega arith, refl, refl)
 
 add-number : tie.Need-add-number Inv-loop μ-loop
 add-number c = search needs
@@ -36,13 +42,27 @@ loop-less : tie.Need-loop-less Inv-loop μ-loop
 loop-less c = search needs
 
 loop-again : tie.Need-loop-again Inv-loop μ-loop
-loop-again c = search needs
+loop-again c =
+    let w = c .before .before .before .before .before .before .before in
+    let s = w .before .before .before in
+    let a = s .args in
+    let l = w .loop in
+    let h = c .before .before .before .before .before .before .loop-test .taken in
+    let some : length (take (a .components) (drop 8 (a .row .now))) ≡ a .components = length-take-le (a .components) (drop 8 (a .row .now)) (omega (arith, s .pre, length-drop 8 (a .row .now))) in
+    let same = getD-take (a .components) (drop 8 (a .row .now)) (l .k) 0 h ∙ getD-drop 8 (a .row .now) (l .k) 0 in
+    let x = c .before .before .put-word .ensures ∙ ap (λ (v : ℕ). putAll (l .out, l .at) (word v)) (c .before .before .before .number .ensures ∙ sym same) in
+    (omega arith, search needs, items-turn word _ (take (a .components) (drop 8 (a .row .now))) (l .out, l .at) (l .k) (l .inv .2) (omega arith) x)
 
 same-length : tie.Need-same-length Inv-loop μ-loop
 same-length c = search needs
 
 returns : tie.Need-returns Inv-loop μ-loop
-returns c = search needs
+returns c =
+    let s = c .before .before .before .before in
+    let a = s .args in
+    let l = c .before .loop in
+    let some : length (take (a .components) (drop 8 (a .row .now))) ≡ a .components = length-take-le (a .components) (drop 8 (a .row .now)) (omega (arith, s .pre, length-drop 8 (a .row .now))) in
+    sym (items-end word _ (take (a .components) (drop 8 (a .row .now))) (l .out, l .at) (l .k) (l .inv .2) (omega (arith, c .loop-test .left)))
 
 pub put-components-spec : {M : Type 1} → statement M
 put-components-spec =

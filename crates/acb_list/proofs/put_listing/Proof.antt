@@ -1,6 +1,15 @@
-use native.Mathlib.Omega.{arith}
-use Rattle.acb_judge.proofs.Judging.{components-most}
 use borrow.Author.Needs.{needs}
+use native.Mathlib.Omega.{arith}
+use Prim.Native.Nat.{ℕ}
+use mathlib.Core.Path.{sym, ap, _∙_}
+use Rattle.acb_judge.specs.Answer.{told}
+use Rattle.acb_judge.specs.declared.Answer.{Answer}
+use Rattle.acb_judge.proofs.Judging.{components-most}
+use Rattle.listing.specs.Buffer.{putAll}
+use Rattle.listing.specs.Text.{lines}
+use Rattle.listing.proofs.Putting.{put-both}
+use Rattle.acb_list.specs.Listing.{line}
+use Rattle.acb_list.proofs.Listed.{listed-refused, listed-accepted}
 use Rattle.acb_list.proofs.put_listing.Statement.{statement}
 use Rattle.acb_list.proofs.put_listing.Tie as tie
 
@@ -52,13 +61,29 @@ same-length : tie.Need-same-length
 same-length c = search needs
 
 returns : tie.Need-returns
-returns c = search needs
+returns c =
+    let j = c .before .before .before .before .before .before .before .before in
+    let a = j .before .before .before .before .args in
+    c .before .before .put-refusal .ensures
+    ∙ ap (putAll (a .out .now, 0)) (listed-refused (a .file .now) _ _ (search needs) (ap (λ (x : Answer). (told x, j .read .last .1 .0)) (sym (c .before .before .before .before .before .number .given .1)) ∙ j .read .ensures))
 
 same-length-2 : tie.Need-same-length-2
 same-length-2 c = search needs
 
 returns-2 : tie.Need-returns-2
-returns-2 c = search needs
+returns-2 c =
+    let pages = c .before .before .before .before .before .before .before in
+    let records = pages .before .before .before .before .before in
+    let texts = records .before .before .before .before .before in
+    let headed = texts .before .before .before .before in
+    let comps = headed .before .before in
+    let v = comps .before .before in
+    let j = v .before .before .before in
+    let a = j .before .before .before .before .args in
+    let x = listed-accepted (a .file .now) _ _ (search needs) (ap (λ (x : Answer). (told x, j .read .last .1 .0)) (sym (v .header .given .1)) ∙ j .read .ensures) in
+    let lined = records .put-records .ensures (x .0) (x .1) (x .2) (x .3) ∙ ap (λ (m : ℕ). putAll (texts .put-texts .last .0, texts .put-texts .result) (lines (line (a .file .now) m) 0 (x .0))) (comps .components-of .ensures) in
+    put-both _ _ _ (put-both _ _ _ (put-both _ _ _ (put-both _ _ _ (headed .put-heading .ensures) (texts .put-texts .ensures)) lined) (pages .put-pages .ensures)) (c .before .before .put-text .ensures)
+    ∙ ap (putAll (a .out .now, 0)) (x .4)
 
 pub put-listing-spec : {M : Type 1} → statement M
 put-listing-spec =

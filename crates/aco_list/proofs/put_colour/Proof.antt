@@ -1,91 +1,57 @@
-use Prim.Native.Nat.{_-_, _≤_}
-use lib.ListN.{length}
-use mathlib.Core.Path.{_≡_}
 use borrow.Author.Needs.{needs}
+use Prim.Native.Nat.{ℕ}
+use mathlib.Core.Path.{ap, _∙_}
+use Rattle.listing.specs.Buffer.{putAll}
+use Rattle.listing.specs.Text.{word}
+use Rattle.listing.proofs.Putting.{put-both, put-last}
 use Rattle.aco_list.proofs.put_colour.Statement.{statement}
 use Rattle.aco_list.proofs.put_colour.Tie as tie
 
-abbrev Inv-loop : tie.InvT-loop
-Inv-loop out₀ n i name colour at₀ k₀ out at k = (k ≤ 4) × (length out ≡ length out₀)
-
-abbrev μ-loop : tie.MeasureT-loop
-μ-loop out₀ n i name colour at₀ k₀ out at k = 4 - k
-
-put-number-requires : tie.Need-put-number-requires Inv-loop μ-loop
+put-number-requires : tie.Need-put-number-requires
 put-number-requires c κs = search needs
 
-put-requires : tie.Need-put-requires Inv-loop μ-loop
-put-requires c κs = search needs
-
-wide-requires : tie.Need-wide-requires Inv-loop μ-loop
+wide-requires : tie.Need-wide-requires
 wide-requires c κs = search needs
 
-put-number-requires-2 : tie.Need-put-number-requires-2 Inv-loop μ-loop
-put-number-requires-2 c κs = search needs
+put-word-requires : tie.Need-put-word-requires
+put-word-requires c κs = search needs
 
-loop-holds : tie.Need-loop-holds Inv-loop μ-loop
-loop-holds c = search needs
+put-samples-requires : tie.Need-put-samples-requires
+put-samples-requires c κs = search needs
 
-put-requires-2 : tie.Need-put-requires-2 Inv-loop μ-loop
-put-requires-2 c κs = search needs
+put-requires : tie.Need-put-requires
+put-requires c κs = search needs
 
-mul-wide : tie.Need-mul-wide Inv-loop μ-loop
-mul-wide c = search needs
-
-element-copy-out-wide : tie.Need-element-copy-out-wide Inv-loop μ-loop
-element-copy-out-wide c = search needs
-
-wide-requires-2 : tie.Need-wide-requires-2 Inv-loop μ-loop
-wide-requires-2 c κs = search needs
-
-put-number-requires-3 : tie.Need-put-number-requires-3 Inv-loop μ-loop
-put-number-requires-3 c κs = search needs
-
-add-k : tie.Need-add-k Inv-loop μ-loop
-add-k c = search needs
-
-loop-less : tie.Need-loop-less Inv-loop μ-loop
-loop-less c = search needs
-
-loop-again : tie.Need-loop-again Inv-loop μ-loop
-loop-again c = search needs
-
-put-requires-3 : tie.Need-put-requires-3 Inv-loop μ-loop
-put-requires-3 c κs = search needs
-
-put-name-requires : tie.Need-put-name-requires Inv-loop μ-loop
+put-name-requires : tie.Need-put-name-requires
 put-name-requires c κs = search needs
 
-put-requires-4 : tie.Need-put-requires-4 Inv-loop μ-loop
-put-requires-4 c κs = search needs
+put-requires-2 : tie.Need-put-requires-2
+put-requires-2 c κs = search needs
 
-same-length : tie.Need-same-length Inv-loop μ-loop
+same-length : tie.Need-same-length
 same-length c = search needs
 
-returns : tie.Need-returns Inv-loop μ-loop
-returns c = search needs
+returns : tie.Need-returns
+returns c =
+    let named = c .before .before .before .before .before .before in
+    let gap = named .before .before .before .before in
+    let sampled = gap .before .before .before .before in
+    let spaced = sampled .before .before .before .before in
+    let numbered = spaced .before .before .before .before .before in
+    let space = spaced .put-word .ensures ∙ ap (λ (v : ℕ). putAll (numbered .put-number .last .0, numbered .put-number .result) (word v)) (spaced .before .wide .ensures) in
+    let colour = put-both _ _ _ (put-both _ _ _ (numbered .put-number .ensures) space) (sampled .put-samples .ensures) in
+    put-last _ _ _ (put-both _ _ _ (put-last _ _ _ colour (gap .put .ensures)) (named .put-name .ensures)) (c .before .before .put2 .ensures)
 
 pub put-colour-spec : {M : Type 1} → statement M
 put-colour-spec =
     tie.close
     (tie.spec
-    Inv-loop
-    μ-loop
     put-number-requires
-    put-requires
     wide-requires
-    put-number-requires-2
-    loop-holds
-    put-requires-2
-    mul-wide
-    element-copy-out-wide
-    wide-requires-2
-    put-number-requires-3
-    add-k
-    loop-less
-    loop-again
-    put-requires-3
+    put-word-requires
+    put-samples-requires
+    put-requires
     put-name-requires
-    put-requires-4
+    put-requires-2
     same-length
     returns)

@@ -1,20 +1,8 @@
-use Prim.Native.Nat.{_≤_}
-use mathlib.Core.Path.{_≡_, ap}
-use native.Mathlib.Omega.{arith}
-use Rattle.colour.specs.Models.{traitsOf}
-use Rattle.colour.specs.declared.model.Traits.{Traits}
-use Rattle.colour.specs.declared.model.Model.{Model}
-use Rattle.colour.specs.declared.model.Model.the-variants.{Rgb, Cmyk, Lab, Gray}
 use borrow.Author.Needs.{needs}
+use native.Mathlib.Omega.{arith}
+use Rattle.ase_list.proofs.Listed.{few, put-shade}
 use Rattle.ase_list.proofs.put_colour.Statement.{statement}
 use Rattle.ase_list.proofs.put_colour.Tie as tie
-
--- no model has more channels than bits are kept
-few : (t : Traits) (m : Model) → t ≡ traitsOf m → t .channels ≤ 4
-few t Rgb e = omega (arith, ap (λ (x : Traits). x .channels) e)
-few t Cmyk e = omega (arith, ap (λ (x : Traits). x .channels) e)
-few t Lab e = omega (arith, ap (λ (x : Traits). x .channels) e)
-few t Gray e = omega (arith, ap (λ (x : Traits). x .channels) e)
 
 model-requires : tie.Need-model-requires
 model-requires c κs = search needs
@@ -29,8 +17,7 @@ traits-requires : tie.Need-traits-requires
 traits-requires c κs = search needs
 
 put-channels-requires : tie.Need-put-channels-requires
-put-channels-requires c κs =
-    omega (arith, few (c .traits .result) (c .before .before .before .before .before .before .before .model .result) (c .traits .ensures))
+put-channels-requires c κs = omega (arith, few (c .traits .result) (c .before .before .before .before .before .before .before .model .result) (c .traits .ensures))
 
 put-type-requires : tie.Need-put-type-requires
 put-type-requires c κs = search needs
@@ -42,7 +29,12 @@ same-length : tie.Need-same-length
 same-length c = search needs
 
 returns : tie.Need-returns
-returns c = search needs
+returns c =
+    let t = c .before .before .before .before .before .before in
+    let h = t .before .before .before .before in
+    let m = h .before .before .before .before .before .before in
+    let a = m .before .before .before .before .before .args in
+    put-shade (a .out .now, a .n) (m .before .before .model .result) (h .before .traits .result) (h .before .before .bits .result) (a .colour) (a .kind) (a .name .now) (m .before .before .model .ensures) (h .before .traits .ensures) (h .before .before .bits .ensures) (m .put-model .ensures) (h .put-channels .ensures) (t .put-type .ensures) (c .before .before .put-name .ensures)
 
 pub put-colour-spec : {M : Type 1} → statement M
 put-colour-spec =

@@ -1,13 +1,23 @@
-use lib.Seq.{length-take-le}
-use native.Mathlib.Omega.{arith}
-use mathlib.Core.Path.{sym}
 use borrow.Author.Needs.{needs}
-use Prim.Native.Nat.{_≤_}
+use native.Mathlib.Omega.{arith}
+use borrow.Author.Tests.{eqb-true, eqb-false}
+use mathlib.Core.Logic.{⊎-elim}
+use Prim.Native.Nat.{ℕ, _≤_}
+use mathlib.Core.List.{List}
+use lib.ListN.{take}
+use lib.Seq.{length-take-le}
+use mathlib.Core.Path.{_≡_, refl, sym, ap, ap₂, _∙_}
+use Rattle.fields.specs.Numbers.{be}
+use Rattle.fields.proofs.Places.{length-be}
+use Rattle.listing.specs.Buffer.{putAll}
+use Rattle.listing.proofs.Wording.{stored-whole}
+use Rattle.descriptor_list.specs.Listing.{kept}
+use Rattle.descriptor_list.proofs.Listed.{kept-space, kept-all}
 use Rattle.descriptor_list.proofs.put_kind.Statement.{statement}
 use Rattle.descriptor_list.proofs.put_kind.Tie as tie
 
 abbrev Inv-loop : tie.InvT-loop
-Inv-loop out n kind tag k₀ k = k ≤ 4
+Inv-loop out n kind tag k₀ k = (k ≤ 4) × (kept tag 4 ≡ kept tag k)
 
 abbrev μ-loop : tie.MeasureT-loop
 μ-loop out n kind tag k₀ k = k
@@ -19,7 +29,7 @@ put-u32-requires : tie.Need-put-u32-requires Inv-loop μ-loop
 put-u32-requires c κs = search needs
 
 loop-holds : tie.Need-loop-holds Inv-loop μ-loop
-loop-holds c = search needs
+loop-holds c = (omega arith, refl)
 
 sub-if1 : tie.Need-sub-if1 Inv-loop μ-loop
 sub-if1 c = search needs
@@ -34,14 +44,16 @@ loop-less : tie.Need-loop-less Inv-loop μ-loop
 loop-less c = search needs
 
 loop-again : tie.Need-loop-again Inv-loop μ-loop
-loop-again c = search needs
+loop-again c =
+    let l = c .before .before .loop in
+    (omega arith, l .inv .1 ∙ kept-space (c .before .before .before .before .put-u32 .last .0) (l .k) (c .before .loop-test .taken) (eqb-true _ _ (c .if1 .taken)))
 
 array-share-prefix-tag : tie.Need-array-share-prefix-tag Inv-loop μ-loop
 array-share-prefix-tag c = search needs
 
 slice-aggregate-put-text : tie.Need-slice-aggregate-put-text Inv-loop μ-loop
 slice-aggregate-put-text c =
-    sym (length-take-le (c .before .before .before .loop .k) _ (omega (arith, c .before .before .before .before .before .put-u32 .kept .0, c .before .before .before .loop .inv)))
+    sym (length-take-le (c .before .before .before .loop .k) _ (omega (arith, c .before .before .before .before .before .put-u32 .kept .0, c .before .before .before .loop .inv .0)))
 
 put-text-requires : tie.Need-put-text-requires Inv-loop μ-loop
 put-text-requires c κs = search needs
@@ -50,7 +62,14 @@ same-length : tie.Need-same-length Inv-loop μ-loop
 same-length c = search needs
 
 returns : tie.Need-returns Inv-loop μ-loop
-returns c = search needs
+returns c =
+    let l = c .before .before .before .before .before .before .loop in
+    let u = c .before .before .before .before .before .before .before .before .put-u32 in
+    let a = c .before .before .before .before .before .before .before .before .before .before .before .args in
+    let last : kept (u .last .0) (l .k) ≡ l .k =
+    ⊎-elim (λ w. kept-all (u .last .0) (l .k) (λ h e. eqb-false _ _ (w .1 .left) e)) (λ w. kept-all (u .last .0) (l .k) (λ h e. omega (arith, w .left))) (c .before .before .before .before .before .loop-test .came) in
+    let tag = u .ensures ∙ stored-whole _ (be 4 (a .kind)) (length-be 4 (a .kind)) in
+    c .before .before .put-text .ensures ∙ ap₂ (λ (k : ℕ) (t : List ℕ). putAll (a .out .now, a .n) (take k t)) (sym (l .inv .1 ∙ last) ∙ ap (λ (t : List ℕ). kept t 4) tag) tag
 
 pub put-kind-spec : {M : Type 1} → statement M
 put-kind-spec =

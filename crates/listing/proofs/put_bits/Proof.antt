@@ -1,5 +1,12 @@
-use native.Mathlib.Omega.{arith}
+use Prim.Native.Nat.{ℕ}
+use mathlib.Core.List.{List}
+use mathlib.Core.Path.{ap, _∙_}
 use borrow.Author.Needs.{needs}
+use Rattle.fields.specs.Numbers.{be, joined}
+use Rattle.fields.proofs.Places.{length-be}
+use Rattle.listing.specs.Buffer.{putAll}
+use Rattle.listing.specs.Text.{hex}
+use Rattle.listing.proofs.Wording.{stored-whole}
 use Rattle.listing.proofs.put_bits.Statement.{statement}
 use Rattle.listing.proofs.put_bits.Tie as tie
 
@@ -19,7 +26,9 @@ same-length : tie.Need-same-length
 same-length c = search needs
 
 returns : tie.Need-returns
-returns c = c .before .before .put-bytes .ensures (omega arith)
+returns c =
+    let a = c .before .before .before .before .before .before .before .before .before .args in
+    c .before .before .put-bytes .ensures ∙ ap (λ (l : List ℕ). putAll (a .out .now, a .n) (joined hex l)) (c .before .before .before .before .before .before .put-u32 .ensures ∙ stored-whole _ (be 4 (a .v)) (length-be 4 (a .v)))
 
 pub put-bits-spec : {M : Type 1} → statement M
 put-bits-spec =

@@ -1,5 +1,9 @@
+use Prim.Native.Nat.{_<_}
+use mathlib.Core.Path.{ap, _∙_}
 use native.Mathlib.Omega.{arith}
 use borrow.Author.Needs.{needs}
+use Rattle.listing.specs.Buffer.{putAll}
+use Rattle.listing.proofs.Wording.{fewest-decimal}
 use Rattle.listing.proofs.put_number.Statement.{statement}
 use Rattle.listing.proofs.put_number.Tie as tie
 
@@ -21,7 +25,9 @@ same-length c = search needs
 returns : tie.Need-returns
 returns c =
     let d = c .before .before .before .before .before .decimal in
-    c .before .before .put-text .ensures .1 (omega (arith, d .ensures .0 .1, d .ensures .1 .0))
+    let a = c .before .before .before .before .before .before .before .before .args in
+    let small : a .v < 100000000000000000000 = omega arith in
+    c .before .before .put-text .ensures ∙ ap (putAll (a .out .now, a .n)) (d .ensures .1 .1 ∙ fewest-decimal 19 (a .v) (d .result) small (d .ensures .1 .0))
 
 pub put-number-spec : {M : Type 1} → statement M
 put-number-spec =

@@ -1,0 +1,114 @@
+-- A line for each call of a walk over blocks, and all of them for an accepted file. Assumes nothing.
+use Prim.Native.Nat.{ℕ, suc, _+_, _-_, _≤_, _<_}
+use mathlib.Core.Path.{_≡_, refl, sym, ap, ap₂, _∙_}
+use mathlib.Core.List.{List, [], _∷_, _++_}
+use lib.ListN.{length, take}
+use native.Mathlib.Omega.{arith}
+use Rattle.fields.specs.Numbers.{joined}
+use Rattle.fields.specs.Reader.{Res, ok, refuse}
+use Rattle.colour.specs.Models.{traitsOf, modelOf, channelsOf}
+use Rattle.colour.specs.Channels.{bitsOf, modelIn}
+use Rattle.colour.specs.declared.model.Traits.{Traits}
+use Rattle.colour.specs.declared.model.Model.{Model}
+use Rattle.colour.specs.declared.model.Model.the-variants.{Rgb, Cmyk, Lab, Gray}
+use Rattle.colour.specs.declared.channel.Channels.{Channels}
+use Rattle.colour.specs.declared.channel.Channels.the-variants as vc
+use Rattle.ase.specs.Reading.{Entry, ase}
+use Rattle.ase_judge.specs.Answer.{accepted, refused as refusedFile, verdict}
+use Rattle.ase_read.specs.Answer.{Shown}
+use Rattle.ase_walk.specs.Walking.{firstPlace, blockWalk}
+use Rattle.ase_walk.specs.Answer.{toldBlock, handing, handed}
+use Rattle.ase_walk.specs.declared.Block.{Block}
+use Rattle.ase_walk.specs.declared.Block.the-variants as vb
+use Rattle.ase_walk.proofs.Walked.{blocks-in-turn}
+use Rattle.walk.specs.Walk.{Call, gives, over, refused, Step, placeAfter, call, inTurn}
+use Rattle.walk.specs.Names.{namePart}
+use Rattle.listing.specs.Buffer.{Buffer, putAll}
+use Rattle.listing.specs.Text.{ascii, name, lines, refusal}
+use Rattle.listing.proofs.Putting.{put-both, lines-turn, lines-none}
+use Rattle.ase_list.specs.Listing.{heading, model, tagged, channel, type, line, listing, shade, answer, answerLine, answers}
+
+-- ---- a colour
+
+-- no model has more channels than bits are kept
+pub few : (t : Traits) (m : Model) → t ≡ traitsOf m → t .channels ≤ 4
+few t Rgb e = omega (arith, ap (λ (x : Traits). x .channels) e)
+few t Cmyk e = omega (arith, ap (λ (x : Traits). x .channels) e)
+few t Lab e = omega (arith, ap (λ (x : Traits). x .channels) e)
+few t Gray e = omega (arith, ap (λ (x : Traits). x .channels) e)
+
+pub put-shade : (o : Buffer) (m : Model) (t : Traits) (bs : List ℕ) (c : Channels) (k : ℕ) (b : List ℕ) {p q r x : Buffer} → m ≡ modelIn c → t ≡ traitsOf m → bs ≡ bitsOf c
+    → p ≡ putAll o (model m) → q ≡ putAll p (joined channel (take (t .channels) bs)) → r ≡ putAll q (type k) → x ≡ putAll r (name b) → x ≡ putAll o (shade c k b)
+put-shade o m t bs c k b d e f g h i j =
+    put-both _ _ _ (put-both _ _ _ (put-both _ _ _ g h) i) j
+    ∙ ap₂ (λ (m : Model) (l : List ℕ). putAll o (model m ++ joined channel l ++ type k ++ name b)) d (ap₂ (λ (t : Traits) (l : List ℕ). take (t .channels) l) (e ∙ ap traitsOf d) f)
+
+-- the same by its model's tag
+shade-is : (c : Channels) (k : ℕ) (b : List ℕ) → shade c k b ≡ tagged (modelOf (traitsOf (modelIn c) .tag)) ++ joined channel (take (channelsOf (traitsOf (modelIn c) .tag)) (bitsOf c)) ++ type k ++ name b
+unfolding modelOf channelsOf
+shade-is (vc.Rgb x y z) k b = refl
+shade-is (vc.Cmyk x y z w) k b = refl
+shade-is (vc.Lab x y z) k b = refl
+shade-is (vc.Gray x) k b = refl
+
+-- ---- a block
+
+module _ (s : List ℕ) (o : Buffer) (b : Block) where
+  pub put-group : {place u : ℕ} {nm : List ℕ} {p q : Buffer} → nm ≡ namePart s place u → b ≡ vb.Group place u → p ≡ putAll o (ascii " group ") → q ≡ putAll p (name nm) → q ≡ putAll o (answer s (toldBlock b))
+  put-group n e f g =
+      put-both _ _ _ f g ∙ ap (λ (l : List ℕ). putAll o (ascii " group " ++ name l)) n ∙ ap (λ (b : Block). putAll o (answer s (toldBlock b))) (sym e)
+
+  pub put-shown : {place u : ℕ} {c : Channels} {k : ℕ} {nm : List ℕ} {p q : Buffer} → nm ≡ namePart s place u → b ≡ vb.Colour place u c k → p ≡ putAll o (ascii " colour ") → q ≡ putAll p (shade c k nm) → q ≡ putAll o (answer s (toldBlock b))
+  put-shown {place} {u} {c} {k} n e f g =
+      put-both _ _ _ f g ∙ ap (λ (l : List ℕ). putAll o (ascii " colour " ++ shade c k l)) n ∙ ap (λ (l : List ℕ). putAll o (ascii " colour " ++ l)) (shade-is c k (namePart s place u))
+      ∙ ap (λ (b : Block). putAll o (answer s (toldBlock b))) (sym e)
+
+-- ---- the loop
+
+handed-next : (w : Call Entry × ℕ) → handed w .1 ≡ w .1
+handed-next w = go (w .0) (w .1)
+  where
+    go : (a : Call Entry) (q : ℕ) → handing a q .1 ≡ q
+    go (gives e) q = refl
+    go over q = refl
+    go (refused x p) q = refl
+
+module _ (s : List ℕ) (f : Step Entry) (all o : Buffer) (n i at : ℕ) where
+  pub answers-start : {p : ℕ} → p ≡ at → all ≡ putAll o (lines (answerLine s) 0 (answers f n at)) → all ≡ putAll o (lines (answerLine s) 0 (answers f (n - 0) p))
+  answers-start {p} e g = let z : n ≡ n - 0 = omega arith in g ∙ ap₂ (λ (k q : ℕ). putAll o (lines (answerLine s) 0 (answers f k q))) z (sym e)
+
+  pub answers-turn : (a : Call Shown) (q : ℕ) {p : Buffer} → i < n → all ≡ putAll o (lines (answerLine s) i (answers f (n - i) at)) → (a, q) ≡ handed (f at) → p ≡ putAll o (answerLine s i a) → all ≡ putAll p (lines (answerLine s) (i + 1) (answers f (n - (i + 1)) q))
+  unfolding answers
+  answers-turn a q {p} h e g x =
+      let z : n - i ≡ suc (n - (i + 1)) = omega arith in
+      let next : f at .1 ≡ q = sym (ap (λ (w : Call Shown × ℕ). w .1) g ∙ handed-next (f at)) in
+      let first : handed (f at) .0 ≡ a = ap (λ (w : Call Shown × ℕ). w .0) (sym g) in
+      lines-turn (answerLine s) all o i a (answers f (n - (i + 1)) q)
+      (e ∙ ap (λ (k : ℕ). putAll o (lines (answerLine s) i (answers f k at))) z ∙ ap₂ (λ (c : Call Shown) (r : ℕ). putAll o (lines (answerLine s) i (c ∷ answers f (n - (i + 1)) r))) first next) x
+
+  pub answers-end : n ≤ i → all ≡ putAll o (lines (answerLine s) i (answers f (n - i) at)) → all ≡ o
+  unfolding answers
+  answers-end h e = let z : n - i ≡ 0 = omega arith in lines-none (answerLine s) all o i (e ∙ ap (λ (k : ℕ). putAll o (lines (answerLine s) i (answers f k at))) z)
+
+-- ---- the whole listing
+
+answers-lines : (s : List ℕ) (f : Step Entry) (es : List Entry) (at i : ℕ) → ((k : ℕ) → call f at k ≡ inTurn es k) → lines (answerLine s) i (answers f (length es) at) ≡ lines (line s) i es
+unfolding answers lines placeAfter inTurn
+answers-lines s f [] at i h = refl
+answers-lines s f (e ∷ more) at i h =
+    ap (λ (c : Call Entry). answerLine s i (handing c (f at .1) .0) ++ lines (answerLine s) (i + 1) (answers f (length more) (f at .1))) (h 0)
+    ∙ ap (λ (l : List ℕ). line s i e ++ l) (answers-lines s f more (f at .1) (i + 1) (λ k. h (suc k)))
+
+pub listed-refused : (s : List ℕ) (m : Res (List Entry)) {x p : ℕ} → refusedFile x p ≡ verdict m → refusal x p ≡ listing s m
+listed-refused s (ok c q) e = let z : _≡_ {A = ℕ} 0 1 = cc in absurd (omega arith)
+listed-refused s (refuse y k r f) {x = x} {p = p} e = let a : x ≡ y = cc in let b : p ≡ k = cc in ap₂ refusal a b
+
+pub listed-accepted : (s : List ℕ) {n l : ℕ} → accepted n l ≡ verdict (ase s) → heading n ++ lines (answerLine s) 0 (answers (blockWalk s) n (firstPlace s)) ++ ascii "end\n" ≡ listing s (ase s)
+listed-accepted s {n} {l} e = go (ase s) refl e
+  where
+    go : (m : Res (List Entry)) → ase s ≡ m → accepted n l ≡ verdict m → heading n ++ lines (answerLine s) 0 (answers (blockWalk s) n (firstPlace s)) ++ ascii "end\n" ≡ listing s m
+    go (ok es q) g h =
+        let a : n ≡ length es = cc in
+        ap (λ (n : ℕ). heading n ++ lines (answerLine s) 0 (answers (blockWalk s) n (firstPlace s)) ++ ascii "end\n") a
+        ∙ ap (λ (x : List ℕ). heading (length es) ++ x ++ ascii "end\n") (answers-lines s (blockWalk s) es (firstPlace s) 0 (blocks-in-turn s g))
+    go (refuse x p r f) g h = let z : _≡_ {A = ℕ} 0 1 = cc in absurd (omega arith)

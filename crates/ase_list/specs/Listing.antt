@@ -1,0 +1,77 @@
+-- What is listed of an ASE file: docs/LISTINGS.md.
+use Prim.Native.Nat.{ℕ, zero, suc}
+use mathlib.Core.List.{List, [], _∷_, _++_}
+use lib.ListN.{length, take}
+use lib.Dec.{eqb}
+use Rattle.fields.specs.Reader.{Res, ok, refuse, pick}
+use Rattle.fields.specs.Numbers.{joined}
+use Rattle.colour.specs.Models.{traitsOf, modelOf, channelsOf}
+use Rattle.colour.specs.Channels.{bitsOf, modelIn}
+use Rattle.colour.specs.declared.model.Model.{Model}
+use Rattle.colour.specs.declared.model.Model.the-variants.{Rgb, Cmyk, Lab, Gray}
+use Rattle.colour.specs.declared.model.Known.{Known}
+use Rattle.colour.specs.declared.model.Known.the-variants.{Is, Unknown}
+use Rattle.colour.specs.declared.channel.Channels.{Channels}
+use Rattle.ase.specs.Reading.{Entry}
+use Rattle.ase_read.specs.Answer.{Shown, group, close, colour, refusal as missing, entryShown}
+use Rattle.ase_walk.specs.Answer.{handed}
+use Rattle.walk.specs.Walk.{Call, gives, over, refused, Step}
+use Rattle.walk.specs.Names.{namePart}
+use Rattle.listing.specs.Text.{ascii, decimal, word, bits, name, lines, refusal}
+
+abbrev pub heading : ℕ → List ℕ
+heading count = ascii "ASE" ++ word count ++ ascii "\n"
+
+-- ---- a colour
+
+abbrev pub model : Model → List ℕ
+model Rgb = ascii "RGB"
+model Cmyk = ascii "CMYK"
+model Lab = ascii "LAB"
+model Gray = ascii "Gray"
+
+-- the model with a tag
+abbrev pub tagged : Known → List ℕ
+tagged (Is m) = model m
+tagged Unknown = []
+
+abbrev pub channel : ℕ → List ℕ
+channel b = ascii " " ++ bits b
+
+abbrev pub type : ℕ → List ℕ
+type k = pick (eqb k 0) (ascii " global ") (pick (eqb k 1) (ascii " spot ") (ascii " normal "))
+
+-- ---- a block, as it is handed out: a name by its place in the file s and its number of units, and four channels, of which the model has the first
+
+abbrev pub block : List ℕ → Shown → List ℕ
+block s (group p u) = ascii " group " ++ name (namePart s p u)
+block s close = ascii " close"
+block s (colour p u t bs k) = ascii " colour " ++ (tagged (modelOf t) ++ joined channel (take (channelsOf t) bs) ++ type k ++ name (namePart s p u))
+block s (missing x p) = []
+
+abbrev pub line : List ℕ → ℕ → Entry → List ℕ
+line s i e = decimal i ++ block s (entryShown e) ++ ascii "\n"
+
+-- the listing of a file s, by what reading it gives
+abbrev pub listing : List ℕ → Res (List Entry) → List ℕ
+listing s (ok es q) = heading (length es) ++ lines (line s) 0 es ++ ascii "end\n"
+listing s (refuse x p r f) = refusal x p
+
+-- ---- the calls of a walk
+
+-- a colour by value, whose name has the bytes b
+abbrev pub shade : Channels → ℕ → List ℕ → List ℕ
+shade c k b = model (modelIn c) ++ joined channel (take (traitsOf (modelIn c) .channels) (bitsOf c)) ++ type k ++ name b
+
+abbrev pub answer : List ℕ → Call Shown → List ℕ
+answer s (gives b) = block s b
+answer s over = []
+answer s (refused x p) = []
+
+abbrev pub answerLine : List ℕ → ℕ → Call Shown → List ℕ
+answerLine s i a = decimal i ++ answer s a ++ ascii "\n"
+
+-- what the first n calls from a place answer
+unfoldable pub answers : Step Entry → ℕ → ℕ → List (Call Shown)
+answers f zero at = []
+answers f (suc n) at = handed (f at) .0 ∷ answers f n (f at .1)

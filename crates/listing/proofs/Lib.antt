@@ -1,0 +1,3 @@
+-- Laws of the definitions of specs/, for this crate's proofs and its callers'.
+pub mod Putting
+pub mod Wording
