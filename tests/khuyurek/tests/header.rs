@@ -157,12 +157,17 @@ fn without_comments(text: &str) -> String {
     lines.collect::<Vec<_>>().join("\n")
 }
 
-/// What the library's source exports.
+/// The structs of a source file.
+fn structs_of(path: &str) -> Structs {
+    rust_structs(&without_comments(&source(path)), &Structs::new())
+}
+
+/// What the library's source exports; a struct of its root is known in its modules.
 fn exported() -> Functions {
-    let sources = sources("crates/khuyurek/src", "rt");
+    let root = structs_of("crates/khuyurek/src/lib.rt");
     let mut functions = Functions::new();
-    for text in &sources {
-        let structs = rust_structs(text, &Structs::new());
+    for text in &sources("crates/khuyurek/src", "rt") {
+        let structs = rust_structs(text, &root);
         for after in text.split("pub extern \"C\" fn ").skip(1) {
             // What an answer promises, or its body, follows its type.
             let end = after.find("ensures").expect("each says what it answers");
@@ -174,10 +179,7 @@ fn exported() -> Functions {
 
 /// What `proved` declares; a struct of its root is known in its modules.
 fn declared() -> Functions {
-    let root = rust_structs(
-        &without_comments(&source("tests/proved/src/lib.rs")),
-        &Structs::new(),
-    );
+    let root = structs_of("tests/proved/src/lib.rs");
     let mut functions = Functions::new();
     for text in sources("tests/proved/src", "rs") {
         let structs = rust_structs(&text, &root);
