@@ -90,11 +90,11 @@ fn put_numbers(
     table[to + 11] = l;
 }
 
-// Stores the numbers of the record of n components at `at`: all is loaded and only then stored,
-// which compilers join.
-fn put_row(file: &[u8], at: usize, n: usize, table: &mut [u32], to: usize)
+// Stores the numbers of the record of n components at `at`, and answers the place behind it: all is
+// loaded and only then stored, which compilers join.
+fn put_row(file: &[u8], at: usize, n: usize, table: &mut [u32], to: usize) -> usize
     requires { ⌜ (3 ≤ n) × (nextRecord n (now file) at ≤ length (now file)) × (length (now file) ≤ limit) × (to + 12 ≤ length (now table)) ⌝ }
-    ensures { λ _. ⌜ now (table .exit) ≡ sets (now (table .entry)) to (rawRow n (now (file .entry)) at) ⌝ }
+    ensures { λ r. ⌜ (r ≡ nextRecord n (now (file .entry)) at) × (now (table .exit) ≡ sets (now (table .entry)) to (rawRow n (now (file .entry)) at)) ⌝ }
 {
     let units = fields::u32_or_zero(file, at);
     let code = at + 4 + 2 * (units as usize);
@@ -124,6 +124,7 @@ fn put_row(file: &[u8], at: usize, n: usize, table: &mut [u32], to: usize)
         k,
         l,
     );
+    code + 6 + n
 }
 
 // Stores the records of an accepted file.
@@ -134,8 +135,7 @@ fn fill(file: &[u8], count: usize, first: usize, n: usize, table: &mut [u32])
     let mut i: usize = 0;
     let mut at = first;
     while i < count {
-        put_row(file, at, n, table, WIDTH * i);
-        at = record_end(file, at, n);
+        at = put_row(file, at, n, table, WIDTH * i);
         i += 1;
     }
 }

@@ -40,9 +40,6 @@ put-row-requires c κs =
     let st = tn .before .before .before .before in
     (h .least, h .inside, h .short, omega (arith, tn .loop-test .taken, tn .before .loop .inv .2, st .pre .1))
 
-record-end-requires : tie.Need-record-end-requires Inv-loop μ-loop
-record-end-requires c κs = let h = known (c .before .before .before .before) in (h .inside, h .short)
-
 add-i : tie.Need-add-i Inv-loop μ-loop
 add-i c = search needs
 
@@ -51,16 +48,16 @@ loop-less c = search needs
 
 loop-again : tie.Need-loop-again Inv-loop μ-loop
 loop-again c =
-    let pr = c .before .before .before in
+    let pr = c .before .before in
     let tn = pr .before .before in
     let l = tn .before .loop in
     let st = tn .before .before .before .before in
     let s = st .args .file .now in
     let k = known tn in (
       omega (arith, tn .loop-test .taken),
-      fill-turn (entriesOf (acb s)) _ (l .table) (l .i) (l .inv .1) (omega (arith, tn .loop-test .taken, length-entries s (λ j. omega (arith, tn .before .before .before .shared-slice-known .given j)) (st .args .count) (st .args .first) (st .args .n) (st .pre .0))) _ _ (k .is-row) refl (pr .put-row .ensures),
+      fill-turn (entriesOf (acb s)) _ (l .table) (l .i) (l .inv .1) (omega (arith, tn .loop-test .taken, length-entries s (λ j. omega (arith, tn .before .before .before .shared-slice-known .given j)) (st .args .count) (st .args .first) (st .args .n) (st .pre .0))) _ _ (k .is-row) refl (pr .put-row .ensures .1),
       pr .put-row .kept .1 .1 .1 .0 ∙ l .inv .2,
-      c .record-end .ensures ∙ k .next,
+      pr .put-row .ensures .0 ∙ k .next,
     )
 
 same-length : tie.Need-same-length Inv-loop μ-loop
@@ -82,7 +79,6 @@ fill-spec =
     loop-holds
     mul-put-row
     put-row-requires
-    record-end-requires
     add-i
     loop-less
     loop-again

@@ -1,4 +1,4 @@
-use Prim.Native.Nat.{ℕ}
+use Prim.Native.Nat.{ℕ, _+_, _*_}
 use mathlib.Core.List.{List}
 use mathlib.Core.Path.{_≡_, ap, _∙_}
 use lib.Seq.{sets}
@@ -154,6 +154,12 @@ cast-put-numbers c = search needs
 put-numbers-requires : tie.Need-put-numbers-requires
 put-numbers-requires c κs = search needs
 
+add-result : tie.Need-add-result
+add-result c = search needs
+
+add-result-2 : tie.Need-add-result-2
+add-result-2 c = search needs
+
 same-length : tie.Need-same-length
 same-length c = search needs
 
@@ -162,11 +168,13 @@ returns c =
     let e = c .before .before .before .before in
     let call = e .before .before .before .before .before .before .before .before .before .before .before .before .before .before .before .before .before .before .before in
     let st = call .before .before .before in
-    let u : call .u32-or-zero .result ≡ num 4 (st .args .file .now) (st .args .at) = call .u32-or-zero .ensures ∙ loaded 4 (st .args .file .now) (st .args .at) (omega (arith, st .pre .1)) in
-    c .before .before .put-numbers .ensures
-    ∙ ap (λ (xs : List ℕ). sets (st .args .table .now) (st .args .to) xs)
-    (row-loaded (st .args .n) (st .args .file .now) (st .args .at) _ _ _ _ _ _ _ _ _ _ _ u
-    (e .before .before .before .before .before .before .before .before .before .before .before .before .before .before .before .before .before .wide .ensures .0) (e .before .before .before .before .before .before .before .before .before .before .before .before .before .before .before .wide2 .ensures .0) (e .before .before .before .before .before .before .before .before .before .before .before .before .before .wide3 .ensures .0) (e .before .before .before .before .before .before .before .before .before .before .before .wide4 .ensures .0) (e .before .before .before .before .before .before .before .before .before .wide5 .ensures .0) (e .before .before .before .before .before .before .before .wide6 .ensures .0) (e .before .before .before .before .before .wide7 .ensures .0) (e .before .before .before .wide8 .ensures .0) (e .before .wide9 .ensures .0) (e .fourth-at .ensures))
+    let u : call .u32-or-zero .result ≡ num 4 (st .args .file .now) (st .args .at) = call .u32-or-zero .ensures ∙ loaded 4 (st .args .file .now) (st .args .at) (omega (arith, st .pre .1)) in (
+      ap (λ (k : ℕ). st .args .at + 4 + 2 * k + 6 + st .args .n) u,
+      c .before .before .put-numbers .ensures
+          ∙ ap (λ (xs : List ℕ). sets (st .args .table .now) (st .args .to) xs)
+          (row-loaded (st .args .n) (st .args .file .now) (st .args .at) _ _ _ _ _ _ _ _ _ _ _ u
+          (e .before .before .before .before .before .before .before .before .before .before .before .before .before .before .before .before .before .wide .ensures .0) (e .before .before .before .before .before .before .before .before .before .before .before .before .before .before .before .wide2 .ensures .0) (e .before .before .before .before .before .before .before .before .before .before .before .before .before .wide3 .ensures .0) (e .before .before .before .before .before .before .before .before .before .before .before .wide4 .ensures .0) (e .before .before .before .before .before .before .before .before .before .wide5 .ensures .0) (e .before .before .before .before .before .before .before .wide6 .ensures .0) (e .before .before .before .before .before .wide7 .ensures .0) (e .before .before .before .wide8 .ensures .0) (e .before .wide9 .ensures .0) (e .fourth-at .ensures)),
+    )
 
 pub put-row-spec : {M : Type 1} → statement M
 put-row-spec =
@@ -207,5 +215,7 @@ put-row-spec =
     add-put-numbers
     cast-put-numbers
     put-numbers-requires
+    add-result
+    add-result-2
     same-length
     returns)
