@@ -1,24 +1,22 @@
 -- Books that fit their fields have no fault exactly where the grammar allows them, and the reader finds their first. Assumes nothing.
-use Prim.Native.Nat.{ℕ, _+_, _^_, _≤_, _<_}
-use mathlib.Core.Path.{_≡_, refl, sym, ap, ap₂, _∙_, subst}
-use mathlib.Core.List.{List, _++_, map}
+use Prim.Native.Nat.{ℕ, _+_, _^_, _<_}
+use mathlib.Core.Path.{_≡_, refl, sym, ap, _∙_, subst}
+use mathlib.Core.List.{List, _++_}
 use mathlib.Core.Bool.{Bool, true, false}
-use lib.Dec.{leb, ltb}
+use lib.Dec.{ltb}
 use lib.ListN.{length}
 use borrow.Author.Tests.{ltb-true, lt-ltb}
 use Rattle.fields.specs.Numbers.{be, joined, At, Bytes, All}
-use Rattle.fields.specs.Reader.{Res, ok, refuse, then, pick, field, unless, judged, each, numberOf}
-use Rattle.fields.specs.Text.{Name}
-use Rattle.fields.specs.Faults.{firstOf}
+use Rattle.fields.specs.Reader.{Res, ok, refuse, then, pick, field, unless, judged, numberOf}
 use Rattle.fields.proofs.Laws.{judged-bad, judged-ok}
 use Rattle.fields.proofs.Places.{at-left, at-right}
 use Rattle.fields.proofs.Tells.{first-inv, pick-none}
 use Rattle.fields.proofs.Sequence.{field-exact}
 use native.Mathlib.Omega.{arith}
-use Rattle.acb.specs.Grammar.{Book, Space, Swatch, stringBytes, Allowed}
-use Rattle.acb.specs.Reading.{isSpace, componentsOf, pageSize, space, Numbers, opening, strings, numbers, header, book}
+use Rattle.acb.specs.Grammar.{Book, Swatch, stringBytes, Allowed}
+use Rattle.acb.specs.Reading.{isSpace, componentsOf, pageSize, space, Numbers, numbers, header, book}
 use Rattle.acb.specs.Faults.{bookFault, BookFits}
-use Rattle.acb.proofs.Laws.{space-is, space-components, space-small, is-space, opening-exact, strings-exact, numberBytes, Top, topBytes}
+use Rattle.acb.proofs.Laws.{space-is, space-components, space-small, is-space, opening-exact, strings-exact, numberBytes, topBytes}
 use Rattle.acb.proofs.Whole.{numbersOf, topIn}
 
 -- ---- no fault, so allowed; allowed, so no fault

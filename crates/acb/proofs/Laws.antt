@@ -8,7 +8,7 @@ use lib.ListN.{length, length-append}
 use borrow.Author.Tests.{eqb-true, ltb-true, lt-ltb}
 use native.Mathlib.Omega.{arith}
 use Rattle.fields.specs.Numbers.{be, joined, At, Bytes, All}
-use Rattle.fields.specs.Reader.{Res, Reader, ok, then, pick, field, body, fine, unless, judged, give, _>>=_, each}
+use Rattle.fields.specs.Reader.{Reader, ok, pick, field, body, fine, unless, judged, give, _>>=_, each}
 use Rattle.fields.specs.Text.{Name}
 use Rattle.fields.specs.Algebra.{Exact}
 use Rattle.fields.proofs.Places.{at-in, at-left, at-right, at-next}

@@ -1,23 +1,23 @@
 -- A whole file: the grammar's bytes are read, and what was read is the grammar's bytes. Assumes nothing.
 use Prim.Native.Nat.{ℕ, _+_, _^_, _≤_, _<_}
 use mathlib.Core.Path.{_≡_, refl, sym, ap, ap₂, _∙_, subst}
-use mathlib.Core.List.{List, [], _∷_, _++_, map, append-assoc, append-nil}
+use mathlib.Core.List.{List, [], _++_, map, append-assoc}
 use mathlib.Core.Bool.{Bool, true, false}
 use lib.Dec.{leb, eqb}
 use lib.ListN.{length, length-append}
-use borrow.Author.Tests.{eqb-true, eqb-false, eq-eqb, ne-eqb, le-leb, leb-true}
+use borrow.Author.Tests.{eqb-true, eq-eqb, ne-eqb, le-leb, leb-true}
 use native.Mathlib.Omega.{arith}
 use native.Mathlib.Nat.{add-zero}
 use Rattle.fields.specs.Numbers.{be, joined, At, Bytes, All}
-use Rattle.fields.specs.Reader.{Res, ok, pick, then, unless, judged, each, ended}
+use Rattle.fields.specs.Reader.{ok, pick, then, unless, judged, each, ended}
 use Rattle.fields.specs.Text.{Name}
 use Rattle.fields.specs.Algebra.{Exact}
-use Rattle.fields.proofs.Places.{length-be, at-in, at-next, at-left, at-right, at-after, at-all, at-whole, bytes-nil, bytes-append, bytes-be, bytes-joined}
-use Rattle.fields.proofs.Inverse.{then-inv, pick-inv, unless-fine, ended-inv, ok-value, ok-place, clash}
-use Rattle.fields.proofs.Exact.{all-map, judged-exact, each-exact, length-map}
+use Rattle.fields.proofs.Places.{length-be, at-in, at-next, at-left, at-right, at-all, at-whole, bytes-nil, bytes-append, bytes-be, bytes-joined}
+use Rattle.fields.proofs.Inverse.{then-inv, pick-inv, unless-fine, ended-inv, ok-value, ok-place}
+use Rattle.fields.proofs.Exact.{judged-exact, each-exact}
 use Rattle.acb.specs.Grammar.{Colour, Tag, none, spot, process, Book, Space, Swatch, stringBytes, colourBytes, tagBytes, headBytes, fileBytes, Allowed, File, file}
 use Rattle.acb.specs.Reading.{Entry, colour, colourOf, componentsOf, Numbers, Header, header, isTag, tagOf, closing, Contents, book, acb, bookOf}
-use Rattle.acb.proofs.Laws.{space-components, colour-exact, Counted, numberBytes, Top, topOf, Headed, topBytes, header-exact}
+use Rattle.acb.proofs.Laws.{space-components, colour-exact, numberBytes, Top, topOf, Headed, topBytes, header-exact}
 
 -- ---- the header of a book
 

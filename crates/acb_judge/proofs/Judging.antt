@@ -1,23 +1,23 @@
 -- Which way the readers of Reading go, on plain values. Assumes nothing.
 use Prim.Native.Nat.{ℕ, zero, suc, _+_, _-_, _*_, _≤_, _<_}
-use mathlib.Core.Path.{_≡_, refl, sym, ap, ap₂, _∙_, subst}
+use mathlib.Core.Path.{_≡_, refl, sym, ap, ap₂, _∙_}
 use mathlib.Core.List.{List, [], _∷_, map}
 use mathlib.Core.Bool.{Bool, true, false}
 use lib.ListN.{length}
-use lib.Dec.{leb, ltb, eqb}
+use lib.Dec.{leb, eqb}
 use borrow.Author.Tests.{le-leb, lt-leb, leb-true, leb-false, eq-eqb, ne-eqb}
 use native.Mathlib.Omega.{arith}
 use native.Mathlib.Nat.{add-zero}
 use Rattle.fields.specs.Numbers.{num}
-use Rattle.fields.specs.Reader.{Res, ok, refuse, then, pick, rule, field, body, done, mapRes, each, ended, judged, unless, limit}
+use Rattle.fields.specs.Reader.{Res, ok, refuse, then, pick, field, body, done, mapRes, each, ended, judged, unless, limit}
 use Rattle.fields.specs.Text.{Name, place}
-use Rattle.fields.proofs.Laws.{field-in, field-short, field-next, body-in, body-short, judged-short, judged-bad, judged-ok, then-done}
+use Rattle.fields.proofs.Laws.{field-in, field-short, body-in, body-short, judged-short, judged-bad, judged-ok, then-done}
 use Rattle.fields.proofs.Places.{length-nums}
 use Rattle.fields.proofs.Inverse.{body-inv, field-inv, each-length, ok-value, ok-place, clash}
 use Rattle.acb.specs.Grammar.{Tag, none, spot, process}
-use Rattle.acb.specs.Reading.{string, Entry, colour, isTag, tagOf, componentsOf, Numbers, Header, opening, strings, numbers, header, closing, Contents, book, acb}
-use Rattle.acb_judge.specs.Parts.{two, headerFrom, rest, Found, tagged, unknown, knownTag}
-use Rattle.acb_judge.specs.Answer.{lies, Shown, shown, Verdict, accepted, refused, verdict, verdictFrom, headed}
+use Rattle.acb.specs.Reading.{string, Entry, colour, isTag, tagOf, componentsOf, Numbers, Header, opening, strings, numbers, header, closing, book, acb}
+use Rattle.acb_judge.specs.Parts.{two, headerFrom, rest, tagged, unknown, knownTag}
+use Rattle.acb_judge.specs.Answer.{lies, Shown, shown, accepted, refused, verdict, verdictFrom, headed}
 
 -- ---- a string
 

@@ -1,11 +1,11 @@
 -- What `read`, `record_at` and `name_at` answer, on plain values. Assumes nothing.
 use Prim.Native.Nat.{ℕ, _+_, _*_, _-_, _≤_, _<_}
-use mathlib.Core.Path.{_≡_, refl, sym, ap, ap₂, _∙_, subst}
+use mathlib.Core.Path.{_≡_, refl, sym, ap, ap₂, _∙_}
 use mathlib.Core.List.{List, [], _∷_, _++_}
 use mathlib.Core.Bool.{Bool, true, false}
 use lib.ListN.{length, getD, drop}
 use lib.Seq.{sets, sets-eq}
-use lib.Dec.{leb, ltb}
+use lib.Dec.{ltb}
 use borrow.Author.Tests.{le-leb, lt-leb, lt-ltb, le-ltb, ltb-true}
 use native.Mathlib.Omega.{arith}
 use Rattle.fields.specs.Numbers.{num, joined, Bytes}
@@ -16,8 +16,8 @@ use Rattle.acb.specs.Grammar.{Tag}
 use Rattle.acb.specs.Reading.{Entry, componentsOf, Contents, acb}
 use Rattle.acb_judge.specs.Answer.{Shown as Heading, Verdict, accepted, refused, verdict}
 use Rattle.acb_read.specs.Table.{row, filled, Found, found, missing, blank, recordAt, nameBytesIn}
-use Rattle.acb_read.specs.Raw.{nextRecord, recordPlace, rawRow, entriesOf, Accepted}
-use Rattle.acb_read.specs.Answer.{Where, lies, refusal, Shown, shown}
+use Rattle.acb_read.specs.Raw.{recordPlace, rawRow, entriesOf, Accepted}
+use Rattle.acb_read.specs.Answer.{lies, refusal, Shown, shown}
 use Rattle.acb_read.proofs.Records.{loaded}
 use Rattle.acb_read.proofs.Filling.{Here, here, entryAt}
 

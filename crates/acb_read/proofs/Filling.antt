@@ -1,24 +1,21 @@
 -- Filling a table with the records of an accepted file, on plain values. Assumes nothing.
-use Prim.Native.Nat.{ℕ, zero, suc, _+_, _*_, _-_, _≤_, _<_}
+use Prim.Native.Nat.{ℕ, zero, suc, _+_, _-_, _≤_, _<_}
 use mathlib.Core.Path.{_≡_, refl, sym, ap, ap₂, _∙_, subst}
-use mathlib.Core.List.{List, [], _∷_, _++_}
-use mathlib.Core.Bool.{Bool, true, false}
-use lib.ListN.{length, getD, drop, drop-of-length-le}
-use lib.Seq.{sets, drop-cons}
-use lib.Dec.{leb, eqb}
+use mathlib.Core.List.{List}
+use lib.ListN.{length, getD}
+use lib.Dec.{leb}
 use borrow.Author.Tests.{leb-true}
 use native.Mathlib.Omega.{arith}
 use native.Mathlib.Numerals.{add-one}
 use native.Mathlib.Nat.{add-zero}
-use Rattle.fields.specs.Numbers.{num, joined, Bytes}
-use Rattle.fields.specs.Reader.{ok, pick, each, limit}
+use Rattle.fields.specs.Numbers.{num, Bytes}
+use Rattle.fields.specs.Reader.{ok, each, limit}
 use Rattle.fields.proofs.Places.{at-in}
 use Rattle.fields.proofs.Inverse.{ok-value, then-inv, pick-inv, each-inv, each-length}
-use Rattle.fields.proofs.Stores.{sets-append}
-use Rattle.acb.specs.Reading.{Entry, colour, componentsOf, Header, header, Contents, closing, book, acb}
+use Rattle.acb.specs.Reading.{Entry, colour, componentsOf, header, Contents, closing, book, acb}
 use Rattle.acb.proofs.Laws.{components-some, topBytes, topOf, header-exact}
 use Rattle.acb_read.specs.Table.{row, blank}
-use Rattle.acb_read.specs.Raw.{codeAt, nextRecord, recordPlace, rawRow, entriesOf, Accepted}
+use Rattle.acb_read.specs.Raw.{nextRecord, recordPlace, rawRow, entriesOf, Accepted}
 use Rattle.acb_read.proofs.Records.{Recorded, recorded}
 
 -- ---- places of records
@@ -142,20 +139,3 @@ here s bytes count p n a i h at e = subst (Here s n p i) (sym e) (go (record-is 
           units = ap (λ (y : Entry). length (y .name .units)) w ∙ b .units;
           is-row = ap row w ∙ b .is-row;
         }
-
--- ---- a turn of the loop that stores rows: what is left to store, stored over what there is, is the whole
-
-module _ (es : List Entry) (all t : List ℕ) (i : ℕ) (inv : all ≡ sets t (12 * i) (joined row (drop i es))) where
-  pub fill-turn : i < length es → (t′ xs : List ℕ) → row (getD es i blank) ≡ xs → length xs ≡ 12 → t′ ≡ sets t (12 * i) xs → all ≡ sets t′ (12 * (i + 1)) (joined row (drop (i + 1) es))
-  unfolding joined
-  fill-turn h t′ xs e twelve w =
-      let p : 12 * i + length xs ≡ 12 * (i + 1) = omega arith in
-      inv ∙ ap (λ (l : List Entry). sets t (12 * i) (joined row l)) (drop-cons es i blank h)
-      ∙ ap (λ (l : List ℕ). sets t (12 * i) (l ++ joined row (drop (suc i) es))) e
-      ∙ sets-append xs (joined row (drop (suc i) es)) t (12 * i)
-      ∙ ap₂ (λ (k m : ℕ). sets (sets t (12 * i) xs) k (joined row (drop m es))) p (sym (add-one i))
-      ∙ ap (λ (o : List ℕ). sets o (12 * (i + 1)) (joined row (drop (i + 1) es))) (sym w)
-
-  pub fill-end : length es ≤ i → all ≡ t
-  unfolding joined
-  fill-end h = inv ∙ ap (λ (l : List Entry). sets t (12 * i) (joined row l)) (drop-of-length-le es h)

@@ -1,6 +1,6 @@
 -- What each answer of the code says.
 use Prim.Native.Nat.{ℕ}
-use mathlib.Core.List.{List, [], _∷_}
+use mathlib.Core.List.{List, []}
 use lib.ListN.{length}
 use Rattle.acb_read.specs.Table.{sixOf, fourOf, Found, found, missing}
 use Rattle.acb_read.specs.declared.NamePlace.{NamePlace}

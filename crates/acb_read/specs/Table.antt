@@ -7,7 +7,7 @@ use Rattle.fields.specs.Numbers.{joined}
 use Rattle.fields.specs.Reader.{Res, ok, refuse, pick}
 use Rattle.fields.specs.Store.{part}
 use Rattle.acb.specs.Reading.{Entry, Contents}
-use Rattle.acb_judge.specs.Answer.{Verdict, accepted, refused, verdict}
+use Rattle.acb_judge.specs.Answer.{Verdict, refused, verdict}
 
 -- ---- the table
 

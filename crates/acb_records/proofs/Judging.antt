@@ -3,19 +3,19 @@ use Rattle.fields.proofs.Counted.{counted-end, counted-start, counted-turn}
 use Prim.Native.Nat.{ℕ, zero, suc, _+_, _*_, _-_, _/_, _≤_, _<_}
 use mathlib.Core.Path.{_≡_, refl, sym, ap, _∙_, subst}
 use mathlib.Core.List.{List, [], _∷_}
-use mathlib.Core.Bool.{Bool, true, false}
-use lib.Dec.{leb, ltb, eqb}
+use mathlib.Core.Bool.{Bool}
+use lib.Dec.{leb, ltb}
 use lib.ListN.{length, getD, take}
 use borrow.Author.Tests.{eq-eqb, ne-eqb, le-leb, lt-leb, leb-true, lt-ltb, le-ltb}
 use native.Mathlib.Omega.{arith}
-use native.Mathlib.Nat.{add-zero, sub-zero, lt-of-not-le}
+use native.Mathlib.Nat.{add-zero, lt-of-not-le}
 use native.Mathlib.Decide.{ℕ-discrete, decLe}
 use Rattle.fields.specs.Reader.{pick, numberOf}
 use Rattle.fields.specs.Faults.{firstOf, faults}
 use Rattle.fields.proofs.Laws.{body-in, body-short}
 use Rattle.fields.proofs.Tells.{first-inv, pick-none}
 use Rattle.fields.proofs.Firsts.{hit, pass}
-use Rattle.acb.specs.Reading.{isSpace, componentsOf}
+use Rattle.acb.specs.Reading.{isSpace}
 use Rattle.acb_judge.specs.Answer.{Shown}
 use Rattle.acb_records.specs.Writing.{Given, givenAt, givens, componentsIn, sizes, stringSize, sizeIn, textFault, byteFault, headFault, colourFault}
 use Rattle.acb_records.specs.Parts.{noRecord, recordIn, start, RecordFits, RecordsFit}

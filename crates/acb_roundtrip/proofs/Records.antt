@@ -1,9 +1,9 @@
 -- The records of an accepted file, from a table to a writer. Assumes nothing.
 use Prim.Native.Nat.{ℕ, zero, suc, _+_, _*_, _/_, _^_, _≤_, _<_}
 use mathlib.Core.Path.{_≡_, refl, sym, ap, ap₂, _∙_, subst}
-use mathlib.Core.List.{List, [], _∷_, _++_, map, append-assoc}
+use mathlib.Core.List.{List, [], _∷_, _++_, map}
 use lib.Dec.{leb}
-use lib.ListN.{length, getD, take, length-append}
+use lib.ListN.{length, getD, take}
 use lib.Seq.{getD-append-add}
 use native.Mathlib.Omega.{arith}
 use native.Mathlib.Nat.{add-zero}
@@ -14,19 +14,20 @@ use Rattle.fields.proofs.Places.{length-nums}
 use Rattle.fields.proofs.Inverse.{then-inv, pick-inv, body-inv, ok-value, each-none, each-inv}
 use Rattle.fields.proofs.Exact.{all-map, all-both, length-map}
 use Rattle.fields.proofs.Firsts.{all-image, all-source}
+use Rattle.fields.proofs.Rows.{rows-back, length-rows, all-fit}
 use Rattle.acb.specs.Grammar.{Colour, Book, String, Swatch, Allowed, File, file}
 use Rattle.acb.specs.Reading.{string, Entry, colour, componentsOf, Header, strings, numbers, opening, header, closing, Contents, book, acb, colourOf, bookOf}
 use Rattle.acb_judge.specs.Answer.{lies, shown}
 use Rattle.acb.proofs.Laws.{components-some, space-components, space-small}
 use Rattle.acb.proofs.RoundTrip.{accepted-allowed}
 use Rattle.acb_read.specs.Table.{sixOf, fourOf, row}
-use Rattle.acb_records.specs.Writing.{Given, givenAt, givens, given, unitsIn, colourIn, bookIn}
+use Rattle.acb_records.specs.Writing.{givenAt, givens, given, unitsIn, colourIn, bookIn}
 use Rattle.acb_roundtrip.specs.Tie.{taken, tabled, TextFitting, Fitting, BookFitting}
 
 -- ---- a run made of rows gives the records
 
-row-back : (p : List ℕ) (k : ℕ) (e : Entry) (more : List ℕ) → length p ≡ 12 * k → givenAt (p ++ (row e ++ more)) k ≡ taken e
-row-back p k e more l =
+row-back : (p : List ℕ) (k : ℕ) (e : Entry) (more : List ℕ) → length p ≡ 12 * k → Unit {0} → givenAt (p ++ (row e ++ more)) k ≡ taken e
+row-back p k e more l u =
     let y : List ℕ = row e ++ more in
     let s : List ℕ = p ++ y in
     let at : (i : ℕ) → getD s (12 * k + i) 0 ≡ getD y i 0 = λ i. ap (λ (n : ℕ). getD s (n + i) 0) (sym l) ∙ getD-append-add p y i 0 in
@@ -37,26 +38,10 @@ row-back p k e more l =
       components = at 8 i ∷ at 9 i ∷ at 10 i ∷ at 11 i ∷ [];
     }
 
-length-row : (e : Entry) → length (row e) ≡ 12
-length-row e = refl
-
-rows-back : (p : List ℕ) (k : ℕ) (es : List Entry) → length p ≡ 12 * k → givens (p ++ joined row es) (length es) k ≡ map taken es
-unfolding counted joined
-rows-back p k [] l = refl
-rows-back p k (e ∷ es) l =
-    let len : length (p ++ row e) ≡ 12 * (k + 1) = omega (arith, length-append p (row e), length-row e) in
-    ap₂ (λ (x : Given) (xs : List Given). x ∷ xs) (row-back p k e (joined row es) l)
-    (ap (λ (r : List ℕ). givens r (length es) (k + 1)) (sym (append-assoc p (row e) (joined row es))) ∙ rows-back (p ++ row e) (k + 1) es len)
-
-length-rows : (es : List Entry) → length (joined row es) ≡ 12 * length es
-unfolding joined
-length-rows [] = refl
-length-rows (e ∷ es) = omega (arith, length-append (row e) (joined row es), length-row e, length-rows es)
-
 pub given-rows : (es : List Entry) → given (joined row es) ≡ tabled es
 given-rows es =
-    let n : length (joined row es) / 12 ≡ length es = omega (arith, length-rows es) in
-    ap (λ (k : ℕ). givens (joined row es) k 0) n ∙ rows-back [] 0 es refl
+    let n : length (joined row es) / 12 ≡ length es = omega (arith, length-rows 12 row givenAt taken (λ e. Unit {0}) (λ e u. refl) row-back es (all-fit 0 es)) in
+    ap (λ (k : ℕ). givens (joined row es) k 0) n ∙ rows-back 12 row givenAt taken (λ e. Unit {0}) (λ e u. refl) row-back es (all-fit 0 es)
 
 -- ---- the strings and names of an accepted file lie in it
 

@@ -1,5 +1,5 @@
 -- What is promised of ACO files: reading and the grammar agree, and what an accepted file holds and where. Assumes nothing.
-use Prim.Native.Nat.{ℕ, zero, _+_, _*_, _-_, _^_, _≤_, _<_}
+use Prim.Native.Nat.{ℕ, _+_, _*_, _-_, _^_, _≤_, _<_}
 use mathlib.Core.Path.{_≡_, refl, sym, ap, _∙_, subst}
 use mathlib.Core.List.{List, map}
 use mathlib.Core.Bool.{Bool, true, false}

@@ -1,8 +1,8 @@
 -- ACO files as byte strings, joined from swatches: what may stand in a file. Nothing here reads.
 -- The spaces and the limits are written here by themselves, from docs/RULES.md, and not taken from the reader's.
-use Prim.Native.Nat.{ℕ, _+_, _≤_, _<_}
+use Prim.Native.Nat.{ℕ, _+_, _≤_}
 use mathlib.Core.Path.{_≡_}
-use mathlib.Core.List.{List, [], _∷_, _++_}
+use mathlib.Core.List.{List, [], _++_}
 use lib.ListN.{length}
 use Rattle.fields.specs.Numbers.{be, joined, All}
 use Rattle.fields.specs.Text.{nameBytes, Named}

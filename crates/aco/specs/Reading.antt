@@ -1,10 +1,9 @@
 -- ACO files as they are read: what each field must be, and which fault is found first.
-use Prim.Native.Nat.{ℕ, zero, suc, _+_, _*_}
-use mathlib.Core.List.{List, [], _∷_, _++_, map}
-use mathlib.Core.Bool.{Bool, true, false}
+use Prim.Native.Nat.{ℕ}
+use mathlib.Core.List.{List, [], _∷_, map}
 use lib.Dec.{leb, eqb}
 use lib.ListN.{length, getD}
-use Rattle.fields.specs.Reader.{Res, ok, refuse, Reader, then, pick, field, rule, Judged, fine, fault, unless, judged, give, _>>=_, each, ended, limit}
+use Rattle.fields.specs.Reader.{Res, ok, refuse, Reader, pick, field, Judged, fine, fault, unless, judged, give, _>>=_, each, ended, limit}
 use Rattle.fields.specs.Text.{Name, name}
 use Rattle.colour.specs.declared.space.Colour.{Colour}
 use Rattle.colour.specs.Spaces.{known, allowed}

@@ -1,15 +1,15 @@
 -- Which way the readers of Reading go, on plain values. Assumes nothing.
-use Prim.Native.Nat.{ℕ, zero, suc, _+_, _-_, _*_, _≤_, _<_}
+use Prim.Native.Nat.{ℕ, _+_, _-_, _*_, _≤_, _<_}
 use mathlib.Core.Path.{_≡_, refl, sym, ap, _∙_}
-use mathlib.Core.List.{List, [], _∷_, map}
-use mathlib.Core.Bool.{Bool, true, false}
+use mathlib.Core.List.{List, [], _∷_}
+use mathlib.Core.Bool.{true, false}
 use lib.ListN.{length, getD, length-map}
 use lib.Dec.{leb, eqb}
 use borrow.Author.Tests.{le-leb, lt-leb, eq-eqb, ne-eqb}
 use native.Mathlib.Omega.{arith}
 use native.Mathlib.Nat.{add-zero}
 use Rattle.fields.specs.Numbers.{num}
-use Rattle.fields.specs.Reader.{Res, ok, refuse, Reader, then, pick, rule, field, done, mapRes, orZero, each, ended, judged, Judged, unless, fine, fault, limit}
+use Rattle.fields.specs.Reader.{Res, ok, refuse, Reader, then, pick, rule, field, done, orZero, each, judged, Judged, unless, fine, fault, limit}
 use Rattle.fields.specs.Text.{Name, name, place}
 use Rattle.fields.proofs.Laws.{field-in, judged-short, judged-bad, judged-ok, then-ok, done-refuse, done-const, ended-done, each-turn, turn-ok, turn-end, inner-ok}
 use Rattle.fields.proofs.Texts.{done-place}
@@ -19,7 +19,7 @@ use Rattle.colour.specs.Spaces.{known, allowed, sound}
 use Rattle.colour.proofs.Laws.{sound-inv}
 use Rattle.aco.specs.Reading.{most, space, sample, samples, colour, heading, fieldOf, twin, Entry, entry, Contents, black, second, unnamed, after, lists, aco}
 use Rattle.aco.specs.Raw.{rawColours, headed, afterHeading}
-use Rattle.aco_judge.specs.Answer.{Verdict, accepted, refused, verdict}
+use Rattle.aco_judge.specs.Answer.{accepted, refused, verdict}
 use Rattle.aco.proofs.Raw.{colours-raw, colours-inside, length-raw, fields-raw}
 
 -- ---- a colour

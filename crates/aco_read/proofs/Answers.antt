@@ -1,23 +1,21 @@
 -- What `read` and `record_at` answer, on plain values. Assumes nothing.
-use Prim.Native.Nat.{ℕ, zero, suc, _+_, _*_, _-_, _≤_, _<_}
+use Prim.Native.Nat.{ℕ, suc, _+_, _*_, _-_, _≤_, _<_}
 use mathlib.Core.Path.{_≡_, refl, sym, ap, ap₂, _∙_}
 use mathlib.Core.List.{List, [], _∷_, _++_}
 use mathlib.Core.Bool.{Bool, true, false}
 use lib.ListN.{length, getD, take, drop, length-append}
 use lib.Seq.{sets, sets-eq}
-use lib.Dec.{leb, ltb}
+use lib.Dec.{ltb}
 use borrow.Author.Tests.{le-leb, lt-leb, lt-ltb, le-ltb, ltb-true}
 use native.Mathlib.Omega.{arith}
 use native.Mathlib.Decide.{ℕ-discrete}
-use Rattle.fields.specs.Numbers.{num, joined}
+use Rattle.fields.specs.Numbers.{joined}
 use Rattle.fields.specs.Reader.{Res, ok, refuse, pick}
 use Rattle.colour.specs.declared.space.Colour.{Colour}
 use Rattle.aco.specs.Reading.{Entry, Contents, black, unnamed, aco}
-use Rattle.aco.specs.Raw.{rawColour}
-use Rattle.aco.specs.Places.{entryPlace}
 use Rattle.aco_judge.specs.Answer.{Verdict, accepted, refused, verdict}
 use Rattle.aco.proofs.RoundTrip.{lists-are}
-use Rattle.aco_read.specs.Table.{row, numbers, width, filled, Where, lies, refusal, swatchOf, noRecord, recordAt, nameBytesAt, recordsOf, Accepted}
+use Rattle.aco_read.specs.Table.{row, filled, Where, lies, refusal, swatchOf, noRecord, recordAt, nameBytesAt, recordsOf, Accepted}
 use Rattle.aco_read.proofs.Filling.{records-are, length-records, plain-in, plain-row, plain-swatch, named-in, named-colour, named-row, named-swatch}
 
 -- ---- from the verdict to what the file holds

@@ -2,27 +2,21 @@
 use Prim.Native.Nat.{ℕ, zero, suc, _+_, _*_, _-_, _≤_, _<_}
 use mathlib.Core.Path.{_≡_, refl, sym, ap, ap₂, _∙_, subst}
 use mathlib.Core.List.{List, [], _∷_, _++_}
-use mathlib.Core.Bool.{Bool, true, false}
-use lib.ListN.{length, getD, take, drop, length-append, drop-of-length-le}
-use lib.Seq.{sets, sets-eq, drop-cons, length-sets}
-use lib.Dec.{leb, ltb}
-use borrow.Author.Tests.{le-leb, lt-leb, leb-true, lt-ltb, le-ltb}
+use lib.ListN.{length, getD}
+use borrow.Author.Tests.{lt-ltb}
 use native.Mathlib.Omega.{arith}
 use native.Mathlib.Numerals.{add-one}
-use Rattle.fields.specs.Numbers.{num, nums, joined}
-use Rattle.fields.specs.Reader.{Res, ok, refuse, pick, field, orZero, limit}
+use Rattle.fields.specs.Numbers.{num, nums}
+use Rattle.fields.specs.Reader.{field, orZero, limit}
 use Rattle.fields.proofs.Laws.{field-in}
-use Rattle.fields.proofs.Places.{length-nums}
-use Rattle.fields.proofs.Inverse.{pick-inv}
-use Rattle.fields.proofs.Stores.{sets-append}
 use Rattle.colour.specs.declared.space.Colour.{Colour}
-use Rattle.aco.specs.Reading.{Entry, Contents, black, unnamed, lists, aco}
+use Rattle.aco.specs.Reading.{Entry, black, unnamed, lists, aco}
 use Rattle.aco.specs.Raw.{rawColour}
 use Rattle.aco.specs.Places.{entryPlace}
-use Rattle.aco_judge.specs.Answer.{Verdict, accepted, refused, verdict}
+use Rattle.aco_judge.specs.Answer.{accepted}
 use Rattle.aco.proofs.Inverse.{aco-inv}
 use Rattle.aco.proofs.RoundTrip.{records-count, one-list, one-record, Placed, records-place}
-use Rattle.aco_read.specs.Table.{row, numbers, width, filled, Where, lies, refusal, swatchOf, recordAt, recordsOf, Accepted}
+use Rattle.aco_read.specs.Table.{row, numbers, Where, lies, refusal, swatchOf, recordAt, recordsOf, Accepted}
 
 -- ---- a number and a colour as they are loaded
 
@@ -149,20 +143,3 @@ module _ (s : List ℕ) (l n : ℕ) (a : Accepted (aco s) l n) (two : l ≡ 2) (
             ap (recordAt i) (a .2) ∙ simp (lt-ltb _ _ g) (named-swatch s l n a two i h
             ∙ sym (ap₂ (λ (q u : ℕ). (rawColour s (4 + 10 * i), lies (q + 14) (u - 1))) e k));
       }
-
--- ---- a turn of the loop that stores rows: what is left to store, stored over what there is, is the whole
-
-module _ (rs : List Entry) (d : Entry) (all t : List ℕ) (i : ℕ) (inv : all ≡ sets t (7 * i) (joined row (drop i rs))) where
-  pub fill-turn : i < length rs → (t′ xs : List ℕ) → row (getD rs i d) ≡ xs → length xs ≡ 7 → t′ ≡ sets t (7 * i) xs → all ≡ sets t′ (7 * (i + 1)) (joined row (drop (i + 1) rs))
-  unfolding joined
-  fill-turn h t′ xs e seven w =
-      let p : 7 * i + length xs ≡ 7 * (i + 1) = omega arith in
-      inv ∙ ap (λ (l : List Entry). sets t (7 * i) (joined row l)) (drop-cons rs i d h)
-      ∙ ap (λ (l : List ℕ). sets t (7 * i) (l ++ joined row (drop (suc i) rs))) e
-      ∙ sets-append xs (joined row (drop (suc i) rs)) t (7 * i)
-      ∙ ap₂ (λ (k m : ℕ). sets (sets t (7 * i) xs) k (joined row (drop m rs))) p (sym (add-one i))
-      ∙ ap (λ (o : List ℕ). sets o (7 * (i + 1)) (joined row (drop (i + 1) rs))) (sym w)
-
-  pub fill-end : length rs ≤ i → all ≡ t
-  unfolding joined
-  fill-end h = inv ∙ ap (λ (l : List Entry). sets t (7 * i) (joined row l)) (drop-of-length-le rs h)

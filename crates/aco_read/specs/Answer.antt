@@ -1,5 +1,4 @@
 -- What each answer of the code says.
-use Prim.Native.Nat.{ℕ}
 use Rattle.aco_read.specs.Table.{Where, lies, refusal}
 use Rattle.colour.specs.declared.space.Colour.{Colour}
 use Rattle.aco_read.specs.declared.NamePlace.{NamePlace}

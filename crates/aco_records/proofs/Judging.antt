@@ -2,24 +2,24 @@
 use Rattle.fields.proofs.Counted.{counted-end, counted-start, counted-turn, length-counted, faults-clear}
 use Rattle.fields.specs.Numbers.{counted}
 use Prim.Native.Nat.{ℕ, zero, suc, _+_, _*_, _-_, _≤_, _<_}
-use mathlib.Core.Path.{_≡_, refl, sym, ap, _∙_, subst}
+use mathlib.Core.Path.{_≡_, sym, ap, subst}
 use mathlib.Core.List.{List, [], _∷_}
 use mathlib.Core.Bool.{Bool, true}
 use lib.ListN.{length, getD}
 use borrow.Author.Tests.{eq-eqb, ne-eqb, le-leb, lt-leb}
 use native.Mathlib.Omega.{arith}
-use native.Mathlib.Nat.{sub-zero, lt-of-not-le}
+use native.Mathlib.Nat.{lt-of-not-le}
 use native.Mathlib.Decide.{ℕ-discrete, decLe}
 use Rattle.fields.specs.Reader.{pick}
 use Rattle.fields.specs.Text.{text}
 use Rattle.fields.specs.Faults.{firstOf, faults, faultsFrom}
-use Rattle.fields.proofs.Tells.{first-none, first-zero, first-inv}
+use Rattle.fields.proofs.Tells.{first-zero}
 use Rattle.fields.proofs.Texts.{text-short}
 use Rattle.colour.specs.Spaces.{uses, known, allowed, sound}
 use Rattle.colour.proofs.Laws.{sound-inv}
 use Rattle.aco_records.specs.Writing.{Given, givenAt, givens, sizes, spaceFault, sampleFault, nameFault}
 use Rattle.aco_records.specs.Parts.{start, EntryFits, EntriesFit}
-use Rattle.fields.proofs.Firsts.{hit, name-number}
+use Rattle.fields.proofs.Firsts.{name-number}
 
 -- ---- the first of two faults
 

@@ -1,7 +1,7 @@
 -- The records of an accepted file, from a table to a writer. Assumes nothing.
 use Prim.Native.Nat.{ℕ, _+_, _*_, _/_, _^_, _≤_, _<_}
 use mathlib.Core.Path.{_≡_, refl, sym, ap, ap₂, _∙_, subst}
-use mathlib.Core.List.{List, [], _∷_, _++_, map, append-assoc}
+use mathlib.Core.List.{List, [], _∷_, _++_, map}
 use lib.ListN.{length, getD, length-append}
 use lib.Seq.{getD-append-add}
 use native.Mathlib.Omega.{arith}
@@ -10,6 +10,7 @@ use native.Mathlib.Decide.{ℕ-discrete}
 use Rattle.fields.specs.Numbers.{counted, num, nums, joined, Bytes, All}
 use Rattle.fields.specs.Reader.{ok}
 use Rattle.fields.proofs.Exact.{all-map, all-both, all-by}
+use Rattle.fields.proofs.Rows.{rows-back, length-rows}
 use Rattle.aco.specs.Grammar.{Swatch, Allowed, Palette, File, plain, named, entryBytes, listOne, listTwo, twoLists}
 use Rattle.aco.specs.Reading.{Entry, Contents, black, unnamed, aco, swatch}
 use Rattle.aco.specs.Faults.{Fits}
@@ -44,23 +45,13 @@ row-back p k e more l h =
 length-row : (e : Entry) → length (e .colour .samples) ≡ 4 → length (row e) ≡ 7
 length-row e h = omega (arith, length-append (e .colour .samples) (e .name .first ∷ length (e .name .units) ∷ []))
 
-rows-back : (p : List ℕ) (k i : ℕ) (rs : List Entry) → All (λ j e. length (e .colour .samples) ≡ 4) i rs → length p ≡ 7 * k → givens (p ++ joined row rs) (length rs) k ≡ map taken rs
-unfolding counted joined
-rows-back p k i [] h l = refl
-rows-back p k i (e ∷ rs) h l =
-    let len : length (p ++ row e) ≡ 7 * (k + 1) = omega (arith, length-append p (row e), length-row e (h .0)) in
-    ap₂ (λ (x : Given) (xs : List Given). x ∷ xs) (row-back p k e (joined row rs) l (h .0))
-    (ap (λ (r : List ℕ). givens r (length rs) (k + 1)) (sym (append-assoc p (row e) (joined row rs))) ∙ rows-back (p ++ row e) (k + 1) (i + 1) rs (h .1) len)
+abbrev Four : Entry → Type 0
+Four e = length (e .colour .samples) ≡ 4
 
-length-rows : (i : ℕ) (rs : List Entry) → All (λ j e. length (e .colour .samples) ≡ 4) i rs → length (joined row rs) ≡ 7 * length rs
-unfolding joined
-length-rows i [] h = refl
-length-rows i (e ∷ rs) h = omega (arith, length-append (row e) (joined row rs), length-row e (h .0), length-rows (i + 1) rs (h .1))
-
-pub given-rows : (rs : List Entry) → All (λ j e. length (e .colour .samples) ≡ 4) 0 rs → given (joined row rs) ≡ map taken rs
+pub given-rows : (rs : List Entry) → All (λ j. Four) 0 rs → given (joined row rs) ≡ map taken rs
 given-rows rs h =
-    let n : length (joined row rs) / 7 ≡ length rs = omega (arith, length-rows 0 rs h) in
-    ap (λ (k : ℕ). givens (joined row rs) k 0) n ∙ rows-back [] 0 0 rs h refl
+    let n : length (joined row rs) / 7 ≡ length rs = omega (arith, length-rows 7 row givenAt taken Four length-row row-back rs h) in
+    ap (λ (k : ℕ). givens (joined row rs) k 0) n ∙ rows-back 7 row givenAt taken Four length-row row-back rs h
 
 -- ---- the names of an accepted file lie in it
 

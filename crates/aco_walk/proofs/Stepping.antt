@@ -14,8 +14,7 @@ use Rattle.fields.proofs.Inverse.{clash, ok-value, ok-place, done-inv}
 use Rattle.colour.specs.declared.space.Colour.{Colour}
 use Rattle.colour.specs.Spaces.{known, allowed, sound}
 use Rattle.aco.specs.Reading.{colour, Entry, Contents, black, unnamed, aco}
-use Rattle.aco.specs.Raw.{rawColour}
-use Rattle.aco_judge.specs.Answer.{Verdict, accepted, refused, verdict}
+use Rattle.aco_judge.specs.Answer.{accepted, refused, verdict}
 use Rattle.aco.proofs.Raw.{Good, colour-inv}
 use Rattle.aco_judge.proofs.Judging.{colour-sound}
 use Rattle.aco_read.proofs.Filling.{five}

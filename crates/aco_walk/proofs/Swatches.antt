@@ -10,15 +10,15 @@ use borrow.Author.Tests.{le-leb, eq-eqb, ne-eqb, ltb-true, ltb-false}
 use native.Mathlib.Omega.{arith}
 use native.Mathlib.Nat.{add-zero}
 use Rattle.fields.specs.Numbers.{num, nums}
-use Rattle.fields.specs.Reader.{Res, ok, refuse, then, pick, Judged, fine, fault, each}
-use Rattle.fields.specs.Text.{Name, name}
+use Rattle.fields.specs.Reader.{ok, then, pick, Judged, fine, fault, each}
+use Rattle.fields.specs.Text.{name}
 use Rattle.fields.proofs.Laws.{field-in}
 use Rattle.fields.proofs.Places.{length-nums, getD-nums}
-use Rattle.fields.proofs.Inverse.{then-inv, done-inv, fields-inv, ok-value, ok-place}
+use Rattle.fields.proofs.Inverse.{then-inv, done-inv, fields-inv}
 use Rattle.colour.specs.declared.space.Colour.{Colour}
 use Rattle.colour.specs.Spaces.{uses, full, known, allowed, allAllowed, sound}
 use Rattle.aco.specs.Reading.{colour, fieldOf, twin, Entry, entry, black, unnamed}
-use Rattle.aco.specs.Raw.{rawColour, rawColours}
+use Rattle.aco.specs.Raw.{rawColour}
 use Rattle.aco.proofs.Raw.{Good, colour-inv, colours-good, getD-raw, field-raw}
 use Rattle.aco_judge.proofs.Judging.{colour-sound}
 use Rattle.aco.proofs.Inverse.{First, entry-inv}

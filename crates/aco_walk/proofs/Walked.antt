@@ -1,14 +1,14 @@
 -- What is promised of a walk over ACO swatches. Assumes nothing.
-use Prim.Native.Nat.{ℕ, zero, suc, _+_, _*_, _-_, _≤_, _<_}
+use Prim.Native.Nat.{ℕ, _+_, _*_, _-_, _≤_, _<_}
 use mathlib.Core.Path.{_≡_, refl, sym, ap, _∙_, subst}
-use mathlib.Core.List.{List, [], _∷_, map}
+use mathlib.Core.List.{List, [], map}
 use mathlib.Core.Bool.{Bool, true, false}
 use lib.Dec.{eqb}
 use lib.ListN.{length, getD}
 use denote.Ref.{now}
 use native.Mathlib.Omega.{arith}
-use Rattle.fields.specs.Numbers.{num, nums}
-use Rattle.fields.specs.Reader.{Res, ok, refuse, then, pick, field, fine, fault, each}
+use Rattle.fields.specs.Numbers.{nums}
+use Rattle.fields.specs.Reader.{Res, ok, refuse, then, pick, field, fine, fault}
 use Rattle.fields.specs.Store.{part}
 use Rattle.fields.specs.Text.{Name, name}
 use Rattle.fields.proofs.Inverse.{then-inv, name-inv, ok-value, ok-place}
@@ -20,7 +20,7 @@ use Rattle.aco.specs.Reading.{colour, Entry, entry, Contents, black, unnamed, a
 use Rattle.aco.proofs.Raw.{colour-inv}
 use Rattle.aco.proofs.Inverse.{First, Then, one, two, heading-inv, aco-inv}
 use Rattle.aco_read.specs.Table.{recordsOf}
-use Rattle.walk.specs.Walk.{Call, gives, over, refused, Step, after, call, inTurn, step}
+use Rattle.walk.specs.Walk.{Call, gives, over, refused, after, call, inTurn}
 use Rattle.walk.proofs.Calls.{Walks, calls-are, after-calls, each-walks, step-over, step-read, step-five, step-past, lost-stays}
 use Rattle.walk.specs.Names.{namePart}
 use Rattle.walk.proofs.Names.{part-is}

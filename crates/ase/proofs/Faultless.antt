@@ -1,8 +1,8 @@
 -- Blocks that fit their fields have no fault exactly where the grammar allows them. Assumes nothing.
 use Prim.Native.Nat.{ℕ, _-_, _^_, _<_}
-use mathlib.Core.Path.{_≡_, refl, sym, ap, _∙_}
+use mathlib.Core.Path.{_≡_, sym, ap, _∙_}
 use mathlib.Core.List.{List}
-use mathlib.Core.Bool.{Bool, true, false}
+use mathlib.Core.Bool.{Bool, true}
 use lib.Dec.{leb, ltb, eqb}
 use borrow.Author.Tests.{eqb-true, leb-true, le-leb, ltb-true, lt-ltb, eq-eqb}
 use native.Mathlib.Omega.{arith}

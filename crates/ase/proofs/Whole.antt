@@ -2,19 +2,17 @@
 use Prim.Native.Nat.{ℕ, _+_, _-_, _^_, _≤_, _<_}
 use mathlib.Core.Path.{_≡_, refl, sym, ap, ap₂, _∙_, subst}
 use mathlib.Core.List.{List, [], _∷_, _++_, map, append-assoc}
-use mathlib.Core.Bool.{Bool}
 use lib.Dec.{leb, eqb}
 use lib.ListN.{length, length-append}
 use borrow.Author.Tests.{eqb-true, eq-eqb, le-leb, leb-true}
 use native.Mathlib.Omega.{arith}
 use Rattle.fields.specs.Numbers.{be, joined, At, Bytes, All, AllIn}
-use Rattle.fields.specs.Reader.{Reader, ok, field, unless, judged, _>>=_, stateAfter, chain, ended}
+use Rattle.fields.specs.Reader.{ok, unless, judged, _>>=_, stateAfter, chain, ended}
 use Rattle.fields.specs.Text.{nameBytes}
 use Rattle.fields.specs.Algebra.{Exact}
-use Rattle.fields.proofs.Laws.{field-in}
-use Rattle.fields.proofs.Places.{length-be, at-in, at-next, at-left, at-after, at-all, at-whole, num-be, be-num, num-lt, bytes-nil, bytes-append, bytes-be, bytes-joined}
-use Rattle.fields.proofs.Inverse.{then-inv, rule-inv, pick-inv, unless-fine, field-inv, ended-inv, ok-value, ok-place}
-use Rattle.fields.proofs.Exact.{all-map, judged-exact, same-exact, one-exact, bind-exact}
+use Rattle.fields.proofs.Places.{length-be, at-in, at-next, at-left, at-after, at-all, at-whole, bytes-nil, bytes-append, bytes-be, bytes-joined}
+use Rattle.fields.proofs.Inverse.{then-inv, rule-inv, pick-inv, unless-fine, field-inv, judged-inv, ended-inv, ok-value, ok-place}
+use Rattle.fields.proofs.Exact.{all-map}
 use Rattle.fields.proofs.Sequence.{field-exact, mark-exact}
 use Rattle.fields.proofs.Chain.{in-map, in-both, all-in, in-all, chain-exact, state-map}
 use Rattle.ase.specs.Grammar.{Block, start, stop, colour, typeOf, payload, blockBytes, fileBytes, Allowed, Nested, File, file}
@@ -180,3 +178,16 @@ module _ (s : List ℕ) (bytes : Bytes s) where
   pub file-writes : (es : List Entry) (q : ℕ) → ase s ≡ ok es q → File (map blockOf es) s × (q ≡ length s)
   unfolding ase
   file-writes es q e = let i = pick-inv (leb (length s) 16777216) (palette s 0) 1 0 0 0 e in palette-writes (leb-true (length s) 16777216 (i .0)) es q (i .1)
+
+-- the heading ends at 12
+pub heading-inv : (s : List ℕ) {n q : ℕ} → heading s 0 ≡ ok n q → (q ≡ 12) × (12 ≤ length s)
+unfolding heading
+heading-inv s e =
+    let x = then-inv (judged 4 (λ x. unless (eqb x 0x4153_4546) 3) s 0) _ e in
+    let v = then-inv (judged 2 (λ v. unless (eqb v 1) 3) s (x .1)) _ (x .3) in
+    let w = then-inv (judged 2 (λ w. unless (eqb w 0) 3) s (v .1)) _ (v .3) in
+    let a = judged-inv 4 s 0 (λ x. unless (eqb x 0x4153_4546) 3) (x .2) in
+    let b = judged-inv 2 s (x .1) (λ v. unless (eqb v 1) 3) (v .2) in
+    let c = judged-inv 2 s (v .1) (λ w. unless (eqb w 0) 3) (w .2) in
+    let d = field-inv 4 s (w .1) (w .3) in
+    (omega arith, omega arith)

@@ -1,19 +1,18 @@
 -- Filling a table with the records of an accepted file, on plain values. Assumes nothing.
 use Prim.Native.Nat.{ℕ, zero, suc, _+_, _*_, _-_, _≤_, _<_}
 use mathlib.Core.Path.{_≡_, refl, sym, ap, ap₂, _∙_, subst}
-use mathlib.Core.List.{List, [], _∷_, _++_}
-use lib.ListN.{length, getD, take, drop, drop-of-length-le}
-use lib.Seq.{sets, drop-cons, length-take-le}
+use mathlib.Core.List.{List, [], _∷_}
+use lib.ListN.{length, getD, take}
+use lib.Seq.{length-take-le}
 use lib.Dec.{leb, eqb}
 use borrow.Author.Tests.{leb-true}
 use native.Mathlib.Omega.{arith}
 use native.Mathlib.Numerals.{add-one}
 use native.Mathlib.Nat.{add-zero}
-use Rattle.fields.specs.Numbers.{joined}
-use Rattle.fields.specs.Reader.{ok, pick, unless, judged, chain, stateAfter, limit}
-use Rattle.fields.proofs.Inverse.{ok-value, then-inv, rule-inv, pick-inv, field-inv, judged-inv, ended-inv}
+use Rattle.fields.specs.Reader.{ok, pick, unless, chain, stateAfter, limit}
+use Rattle.fields.proofs.Inverse.{ok-value, then-inv, rule-inv, pick-inv, ended-inv}
 use Rattle.fields.proofs.Chain.{chain-inv, chain-length}
-use Rattle.fields.proofs.Stores.{sets-append}
+use Rattle.ase.proofs.Whole.{heading-inv}
 use Rattle.ase.specs.Reading.{Entry, stopped, block, standingAfter, heading, blocks, palette, ase}
 use Rattle.ase_read.specs.Table.{row}
 use Rattle.ase_read.specs.Raw.{load, countAt, modelAt, rowIn, rawRow, nextBlock, blockPlace, entriesOf, Accepted}
@@ -63,18 +62,6 @@ blocks-place s (suc m) i d {es} {q} e (suc k) h =
 
 -- ---- the file
 
-heading-inv : (s : List ℕ) {n q : ℕ} → heading s 0 ≡ ok n q → q ≡ 12
-unfolding heading
-heading-inv s e =
-    let x = then-inv (judged 4 (λ x. unless (eqb x 0x4153_4546) 3) s 0) _ e in
-    let v = then-inv (judged 2 (λ v. unless (eqb v 1) 3) s (x .1)) _ (x .3) in
-    let w = then-inv (judged 2 (λ w. unless (eqb w 0) 3) s (v .1)) _ (v .3) in
-    let a = judged-inv 4 s 0 (λ x. unless (eqb x 0x4153_4546) 3) (x .2) in
-    let b = judged-inv 2 s (x .1) (λ v. unless (eqb v 1) 3) (v .2) in
-    let c = judged-inv 2 s (v .1) (λ w. unless (eqb w 0) 3) (w .2) in
-    let d = field-inv 4 s (w .1) (w .3) in
-    omega arith
-
 -- an accepted file is not too long, and its blocks stand behind the heading
 ase-inv : (s : List ℕ) {es : List Entry} {q : ℕ} → ase s ≡ ok es q → (length s ≤ limit) × (to : ℕ) × (chain standingAfter block (length es) 0 s (blockPlace s 0) ≡ ok es to)
 unfolding ase palette blocks
@@ -87,7 +74,7 @@ ase-inv s {es} {q} e =
     let z = ended-inv (b .0) s (b .1) (b .3) in
     let same : c .0 ≡ es = ok-value (r .1) ∙ z .1 in
     let n : h .0 ≡ length es = sym (chain-length standingAfter block s (h .0) 0 (h .1) (c .2)) ∙ ap length same in
-    let p : h .1 ≡ blockPlace s 0 = heading-inv s (h .2) ∙ sym (place-first s) in
+    let p : h .1 ≡ blockPlace s 0 = heading-inv s (h .2) .0 ∙ sym (place-first s) in
     (leb-true (length s) limit (i .0), c .1, ap₂ (λ (k a : ℕ). chain standingAfter block k 0 s a) (sym n) (sym p) ∙ c .2 ∙ ap (λ (l : List Entry). ok l (c .1)) same)
 
 module _ (s : List ℕ) (n : ℕ) (a : Accepted (ase s) n) where
@@ -145,20 +132,3 @@ here s n a i h p e = subst (Here s i) (sym e) (go (block-is s n a i h))
           sound = subst Sound (sym e) (b .ended .sound);
           named = subst (NameIn (nextBlock s (blockPlace s i))) (sym e) (subst (λ (q : ℕ). NameIn q (getD (a .0) i stopped)) l (b .ended .named));
         }
-
--- ---- a turn of the loop that stores rows: what is left to store, stored over what there is, is the whole
-
-module _ (es : List Entry) (all t : List ℕ) (i : ℕ) (inv : all ≡ sets t (9 * i) (joined row (drop i es))) where
-  pub fill-turn : i < length es → (t′ xs : List ℕ) → row (getD es i stopped) ≡ xs → length xs ≡ 9 → t′ ≡ sets t (9 * i) xs → all ≡ sets t′ (9 * (i + 1)) (joined row (drop (i + 1) es))
-  unfolding joined
-  fill-turn h t′ xs e nine w =
-      let p : 9 * i + length xs ≡ 9 * (i + 1) = omega arith in
-      inv ∙ ap (λ (l : List Entry). sets t (9 * i) (joined row l)) (drop-cons es i stopped h)
-      ∙ ap (λ (l : List ℕ). sets t (9 * i) (l ++ joined row (drop (suc i) es))) e
-      ∙ sets-append xs (joined row (drop (suc i) es)) t (9 * i)
-      ∙ ap₂ (λ (k m : ℕ). sets (sets t (9 * i) xs) k (joined row (drop m es))) p (sym (add-one i))
-      ∙ ap (λ (o : List ℕ). sets o (9 * (i + 1)) (joined row (drop (i + 1) es))) (sym w)
-
-  pub fill-end : length es ≤ i → all ≡ t
-  unfolding joined
-  fill-end h = inv ∙ ap (λ (l : List Entry). sets t (9 * i) (joined row l)) (drop-of-length-le es h)

@@ -9,7 +9,7 @@ use lib.ListN.{length}
 use lib.Ieee.{binary32, ofBits}
 use borrow.Author.Tests.{eq-eqb, ne-eqb, le-leb, lt-leb, leb-true, ltb-true, lt-ltb, le-ltb}
 use native.Mathlib.Omega.{arith}
-use native.Mathlib.Nat.{sub-zero, lt-of-not-le}
+use native.Mathlib.Nat.{lt-of-not-le}
 use native.Mathlib.Decide.{ℕ-discrete, decLe}
 use Rattle.fields.specs.Reader.{Res, pick, done, numberOf, stateAfter}
 use Rattle.fields.specs.Text.{text}

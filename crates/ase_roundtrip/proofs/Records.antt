@@ -1,10 +1,10 @@
 -- The records of an accepted file, from a table to a writer. Assumes nothing.
 use Prim.Native.Nat.{ℕ, zero, suc, _+_, _*_, _-_, _/_, _^_, _≤_, _<_}
 use mathlib.Core.Path.{_≡_, refl, sym, ap, ap₂, _∙_, subst}
-use mathlib.Core.List.{List, [], _∷_, _++_, map, append-assoc}
+use mathlib.Core.List.{List, [], _∷_, _++_, map}
 use mathlib.Core.Bool.{Bool, true, false}
 use lib.Dec.{leb, ltb, eqb}
-use lib.ListN.{length, getD, take, length-append}
+use lib.ListN.{length, getD, take}
 use lib.Seq.{getD-append-add, length-take-le, getD-take}
 use native.Mathlib.Omega.{arith}
 use native.Mathlib.Nat.{add-zero}
@@ -16,6 +16,7 @@ use Rattle.fields.proofs.Inverse.{then-inv, rule-inv, pick-inv, ok-value, Name-
 use Rattle.fields.proofs.Exact.{all-map, all-both}
 use Rattle.fields.proofs.Chain.{chain-none, chain-inv}
 use Rattle.colour.specs.Models.{channelsOf}
+use Rattle.fields.proofs.Rows.{rows-back, length-rows, all-fit}
 use Rattle.ase.specs.Grammar.{Block, start, colour, Allowed, File, file}
 use Rattle.ase.specs.Reading.{Entry, started, stopped, coloured, blockOf, group, model, channel, type, shade, within, deepest, content, block, standingAfter, heading, blocks, palette, ase}
 use Rattle.ase.specs.Faults.{BlockFits}
@@ -24,7 +25,7 @@ use Rattle.ase.proofs.Laws.{block-inv}
 use Rattle.ase.proofs.Faultless.{allowed-fits}
 use Rattle.ase.proofs.RoundTrip.{accepted-allowed}
 use Rattle.ase_read.specs.Table.{fourOf, row}
-use Rattle.ase_records.specs.Writing.{Given, givenAt, givens, given, blockIn}
+use Rattle.ase_records.specs.Writing.{givenAt, givens, given, blockIn}
 use Rattle.ase_roundtrip.specs.Tie.{taken, tabled, Fitting, a-start, an-end, a-colour}
 use Rattle.fields.proofs.Firsts.{all-image, all-source}
 use Rattle.ase_read.proofs.Answers.{row-length}
@@ -41,28 +42,15 @@ nine-back p k a b c d e f g h j more l =
     let at0 : getD s (9 * k) 0 ≡ a = ap (λ (n : ℕ). getD s n 0) (sym (add-zero (9 * k))) ∙ at 0 in
     λ i. record { block = at0 i; first = at 1 i; units = at 2 i; model = at 3 i; channels = at 4 i ∷ at 5 i ∷ at 6 i ∷ at 7 i ∷ []; type = at 8 i }
 
-row-back : (p : List ℕ) (k : ℕ) (e : Entry) (more : List ℕ) → length p ≡ 9 * k → givenAt (p ++ (row e ++ more)) k ≡ taken e
-row-back p k (started nm) more l = nine-back p k 0xC001 (nm .first) (length (nm .units)) 0 0 0 0 0 0 more l
-row-back p k stopped more l = nine-back p k 0xC002 0 0 0 0 0 0 0 0 more l
-row-back p k (coloured nm t bs c) more l = nine-back p k 0x0001 (nm .first) (length (nm .units)) t (getD bs 0 0) (getD bs 1 0) (getD bs 2 0) (getD bs 3 0) c more l
-
-rows-back : (p : List ℕ) (k : ℕ) (es : List Entry) → length p ≡ 9 * k → givens (p ++ joined row es) (length es) k ≡ map taken es
-unfolding counted joined
-rows-back p k [] l = refl
-rows-back p k (e ∷ es) l =
-    let len : length (p ++ row e) ≡ 9 * (k + 1) = omega (arith, length-append p (row e), row-length e) in
-    ap₂ (λ (x : Given) (xs : List Given). x ∷ xs) (row-back p k e (joined row es) l)
-    (ap (λ (r : List ℕ). givens r (length es) (k + 1)) (sym (append-assoc p (row e) (joined row es))) ∙ rows-back (p ++ row e) (k + 1) es len)
-
-length-rows : (es : List Entry) → length (joined row es) ≡ 9 * length es
-unfolding joined
-length-rows [] = refl
-length-rows (e ∷ es) = omega (arith, length-append (row e) (joined row es), row-length e, length-rows es)
+row-back : (p : List ℕ) (k : ℕ) (e : Entry) (more : List ℕ) → length p ≡ 9 * k → Unit {0} → givenAt (p ++ (row e ++ more)) k ≡ taken e
+row-back p k (started nm) more l u = nine-back p k 0xC001 (nm .first) (length (nm .units)) 0 0 0 0 0 0 more l
+row-back p k stopped more l u = nine-back p k 0xC002 0 0 0 0 0 0 0 0 more l
+row-back p k (coloured nm t bs c) more l u = nine-back p k 0x0001 (nm .first) (length (nm .units)) t (getD bs 0 0) (getD bs 1 0) (getD bs 2 0) (getD bs 3 0) c more l
 
 pub given-rows : (es : List Entry) → given (joined row es) ≡ tabled es
 given-rows es =
-    let n : length (joined row es) / 9 ≡ length es = omega (arith, length-rows es) in
-    ap (λ (k : ℕ). givens (joined row es) k 0) n ∙ rows-back [] 0 es refl
+    let n : length (joined row es) / 9 ≡ length es = omega (arith, length-rows 9 row givenAt taken (λ e. Unit {0}) (λ e u. row-length e) row-back es (all-fit 0 es)) in
+    ap (λ (k : ℕ). givens (joined row es) k 0) n ∙ rows-back 9 row givenAt taken (λ e. Unit {0}) (λ e u. row-length e) row-back es (all-fit 0 es)
 
 -- ---- the names of an accepted file lie in it
 

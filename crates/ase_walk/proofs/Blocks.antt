@@ -1,20 +1,19 @@
 -- What a walk knows of a block. Assumes nothing.
-use Prim.Native.Nat.{ℕ, zero, suc, _+_, _-_, _≤_, _<_}
-use mathlib.Core.Path.{_≡_, refl, sym, ap, _∙_, subst}
-use mathlib.Core.List.{List, [], _∷_}
+use Prim.Native.Nat.{ℕ, _+_, _-_, _≤_, _<_}
+use mathlib.Core.Path.{_≡_, sym, ap, _∙_}
+use mathlib.Core.List.{List}
 use mathlib.Core.Bool.{Bool, true, false}
 use lib.Dec.{leb, ltb, eqb}
 use lib.ListN.{length}
-use borrow.Author.Tests.{leb-true}
 use native.Mathlib.Omega.{arith}
 use Rattle.fields.specs.Numbers.{num}
-use Rattle.fields.specs.Reader.{Res, ok, refuse, Reader, pick, rule, unless, judged, chain, stateAfter, limit}
-use Rattle.fields.proofs.Inverse.{ok-value, then-inv, rule-inv, pick-inv, field-inv, judged-inv, ended-inv}
-use Rattle.fields.proofs.Chain.{chain-length}
+use Rattle.fields.specs.Reader.{Res, ok, pick, rule, unless, chain, stateAfter, limit}
+use Rattle.fields.proofs.Inverse.{then-inv, rule-inv, pick-inv, ended-inv}
+use Rattle.ase.proofs.Whole.{heading-inv}
 use Rattle.ase.specs.Reading.{Entry, stopped, group, shade, within, deepest, content, block, standingAfter, heading, blocks, palette, ase}
 use Rattle.ase.proofs.Laws.{block-in, block-inv}
-use Rattle.ase_read.proofs.Blocks.{Blocked, blocked}
-use Rattle.walk.specs.Walk.{Call, gives, step}
+use Rattle.ase_read.proofs.Blocks.{blocked}
+use Rattle.walk.specs.Walk.{gives}
 use Rattle.walk.proofs.Calls.{step-read}
 use Rattle.ase_walk.specs.Walking.{blockFrom, blockWalk}
 
@@ -50,18 +49,6 @@ pub walk-moves : (s : List ℕ) (at : ℕ) (e : Entry) (q : ℕ) → blockWalk s
 walk-moves s at e q x = let m = block-moves s at (step-read blockFrom s at x) in (omega arith, m .1)
 
 -- ---- an accepted file
-
-heading-inv : (s : List ℕ) {n q : ℕ} → heading s 0 ≡ ok n q → (q ≡ 12) × (12 ≤ length s)
-unfolding heading
-heading-inv s e =
-    let x = then-inv (judged 4 (λ x. unless (eqb x 0x4153_4546) 3) s 0) _ e in
-    let v = then-inv (judged 2 (λ v. unless (eqb v 1) 3) s (x .1)) _ (x .3) in
-    let w = then-inv (judged 2 (λ w. unless (eqb w 0) 3) s (v .1)) _ (v .3) in
-    let a = judged-inv 4 s 0 (λ x. unless (eqb x 0x4153_4546) 3) (x .2) in
-    let b = judged-inv 2 s (x .1) (λ v. unless (eqb v 1) 3) (v .2) in
-    let c = judged-inv 2 s (v .1) (λ w. unless (eqb w 0) 3) (w .2) in
-    let d = field-inv 4 s (w .1) (w .3) in
-    (omega arith, omega arith)
 
 -- its blocks stand one behind the other from the heading to the file's end
 pub accepted-chain : (s : List ℕ) {es : List Entry} {q : ℕ} → ase s ≡ ok es q → (12 ≤ length s) × (n : ℕ) × (chain standingAfter block n 0 s 12 ≡ ok es (length s))

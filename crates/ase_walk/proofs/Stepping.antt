@@ -1,26 +1,25 @@
 -- Which way the code of a step goes, on plain values. Assumes nothing.
-use Prim.Native.Nat.{ℕ, _+_, _-_, _≤_, _<_}
-use mathlib.Core.Path.{_≡_, refl, sym, ap, ap₂, _∙_, subst}
-use mathlib.Core.List.{List, [], _∷_}
+use Prim.Native.Nat.{ℕ, _-_, _≤_, _<_}
+use mathlib.Core.Path.{_≡_, refl, sym, ap, _∙_, subst}
+use mathlib.Core.List.{List, []}
 use mathlib.Core.Bool.{Bool, true, false, true≢false}
-use lib.Dec.{leb}
 use lib.ListN.{length, take}
 use lib.Seq.{length-take-le}
 use borrow.Author.Tests.{le-leb, lt-leb}
 use native.Mathlib.Omega.{arith}
 use Rattle.fields.specs.Reader.{Res, ok, refuse, pick, mapRes}
-use Rattle.ase.specs.Reading.{Entry, started, stopped, coloured, ase}
-use Rattle.ase_judge.specs.Answer.{Verdict, accepted, refused, verdict, passed}
+use Rattle.ase.specs.Reading.{Entry, started, stopped, coloured}
+use Rattle.ase_judge.specs.Answer.{accepted, refused, verdict, passed}
 use Rattle.ase_judge.proofs.Judging.{map-inv, map-refuse}
 use Rattle.ase_read.specs.Table.{row}
 use Rattle.ase_read.specs.Raw.{rowIn, rawRow}
 use Rattle.ase_read.specs.Answer.{Shown, entryShown}
-use Rattle.ase_read.proofs.Blocks.{Sound, Blocked, blocked}
+use Rattle.ase_read.proofs.Blocks.{Sound, blocked}
 use Rattle.walk.specs.Walk as w
-use Rattle.walk.proofs.Calls.{step-over, step-elsewhere, step-past, from-turn}
+use Rattle.walk.proofs.Calls.{step-over, step-elsewhere, from-turn}
 use Rattle.ase_walk.specs.Walking.{blockFrom, Stands, blockWalk, isColour, walk, firstPlace, lentOf, starts, refusal, startOf}
 use Rattle.ase_walk.specs.Answer.{passes, handing, handed}
-use Rattle.ase_walk.proofs.Blocks.{block-moves, walk-moves}
+use Rattle.ase_walk.proofs.Blocks.{walk-moves}
 use Rattle.ase_walk.proofs.Walked.{past-refused}
 
 -- ---- a block that stands

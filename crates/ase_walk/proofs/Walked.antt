@@ -1,8 +1,8 @@
 -- What is promised of a walk over ASE palettes. Assumes nothing.
 use Prim.Native.Nat.{ℕ, zero, suc, _+_, _*_, _-_, _≤_, _<_}
 use mathlib.Core.Path.{_≡_, refl, sym, ap, _∙_, subst}
-use mathlib.Core.List.{List, [], _∷_, map}
-use mathlib.Core.Bool.{Bool, true, false}
+use mathlib.Core.List.{List, [], _∷_}
+use mathlib.Core.Bool.{Bool, true}
 use lib.Dec.{leb}
 use lib.ListN.{length}
 use denote.Ref.{now}
@@ -17,8 +17,8 @@ use Rattle.ase.specs.Reading.{Entry, started, stopped, coloured, block, standin
 use Rattle.ase_judge.specs.Answer.{colours}
 use Rattle.ase_read.specs.Raw.{entriesOf}
 use Rattle.ase_read.specs.Answer.{Shown}
-use Rattle.ase_read.proofs.Blocks.{Blocked, blocked}
-use Rattle.walk.specs.Walk.{Call, gives, over, refused, Step, after, call, inTurn, step, sought, seek, only}
+use Rattle.ase_read.proofs.Blocks.{blocked}
+use Rattle.walk.specs.Walk.{Call, gives, over, refused, after, call, inTurn, step, sought, seek, only}
 use Rattle.walk.proofs.Calls.{Walks, call-stays, calls-are, after-calls, chain-walks, step-over, step-read, step-five, step-past, only-walks, seek-five}
 use Rattle.walk.specs.Names.{namePart}
 use Rattle.walk.proofs.Names.{part-is}

@@ -5,7 +5,6 @@ use lib.Dec.{eqb}
 use lib.Ieee.{binary64, ofBits}
 use Rattle.fields.specs.Numbers.{num}
 use Rattle.fields.specs.Reader.{pick}
-use Rattle.descriptor.specs.Reading.{Row}
 use Rattle.descriptor_read.specs.Values.{Found, found, missing}
 use Rattle.descriptor_read.specs.declared.Typed.{Typed}
 use Rattle.descriptor_read.specs.declared.Typed.the-variants as vt

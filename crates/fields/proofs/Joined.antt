@@ -1,6 +1,6 @@
 -- Values of one length each, one after the other in a run: value i by its number. Assumes nothing.
-use Prim.Native.Nat.{ℕ, zero, suc, _+_, _*_, _≤_, _<_}
-use mathlib.Core.Path.{_≡_, refl, sym, ap, _∙_}
+use Prim.Native.Nat.{ℕ, zero, suc, _+_, _*_, _<_}
+use mathlib.Core.Path.{_≡_, sym, ap, _∙_}
 use mathlib.Core.List.{List, [], _∷_, _++_, append-assoc}
 use lib.ListN.{length, getD, take, drop}
 use lib.Seq.{drop-drop, take-append-seam, drop-append-seam}
@@ -8,7 +8,6 @@ use native.Mathlib.Omega.{arith}
 use native.Mathlib.Nat.{mul-zero, mul-suc}
 use Rattle.fields.specs.Numbers.{joined}
 use Rattle.fields.specs.Store.{part}
-use Rattle.fields.proofs.Places.{length-joined}
 
 module _ {A : Type 0} (ser : A → List ℕ) (w : ℕ) (each : (a : A) → length (ser a) ≡ w) where
   -- value i stands at w * i

@@ -1,7 +1,7 @@
 -- Laws of readers that the proofs of the code cite. Assumes nothing.
 use Prim.Native.Nat.{ℕ, zero, suc, _+_, _*_, _-_, _^_, _≤_, _<_}
-use mathlib.Core.Path.{_≡_, refl, sym, ap, ap₂, _∙_}
-use mathlib.Core.List.{List, [], _∷_, _++_}
+use mathlib.Core.Path.{_≡_, refl, sym, ap, _∙_}
+use mathlib.Core.List.{List, _∷_}
 use mathlib.Core.Bool.{Bool, true, false}
 use lib.Dec.{leb, eqb}
 use lib.ListN.{length, getD}
@@ -9,7 +9,7 @@ use borrow.Author.Tests.{le-leb, lt-leb, leb-true}
 use native.Mathlib.Omega.{arith}
 use native.Mathlib.Nat.{add-zero, add-suc, sub-zero, mul-assoc, pow-suc}
 use Rattle.fields.specs.Numbers.{num, nums}
-use Rattle.fields.specs.Reader.{Res, Reader, ok, refuse, field, body, pick, then, rule, done, mapRes, each, ended, Judged, fine, fault, judged}
+use Rattle.fields.specs.Reader.{Res, Reader, ok, refuse, field, body, pick, then, done, each, ended, Judged, fine, fault, judged}
 
 -- ---- one field: it is there, or too short
 

@@ -16,3 +16,4 @@ pub mod Joined
 pub mod Storing
 pub mod Firsts
 pub mod Counted
+pub mod Rows

@@ -1,17 +1,17 @@
 -- Laws of text units and names that the proofs of the code cite. Assumes nothing.
 use Prim.Native.Nat.{ℕ, zero, suc, _+_, _*_, _-_, _≤_, _<_}
 use mathlib.Core.Path.{_≡_, refl, sym, ap, ap₂, _∙_}
-use mathlib.Core.List.{List, [], _∷_, _++_}
-use mathlib.Core.Bool.{Bool, true, false, not}
-use lib.Dec.{eqb, ltb}
+use mathlib.Core.List.{List, [], _∷_}
+use mathlib.Core.Bool.{Bool, true, false}
+use lib.Dec.{eqb}
 use lib.ListN.{length}
-use borrow.Author.Tests.{eq-eqb, ne-eqb, lt-ltb, le-ltb}
+use borrow.Author.Tests.{eq-eqb, ne-eqb, lt-ltb}
 use native.Mathlib.Omega.{arith}
 use native.Mathlib.Decide.{ℕ-discrete}
 use native.Mathlib.Nat.{add-zero, sub-zero}
 use Rattle.fields.specs.Numbers.{num, nums}
-use Rattle.fields.specs.Reader.{Res, ok, refuse, pick, then, rule, unless, field, body, judged, done, mapRes}
-use Rattle.fields.specs.Text.{isEmpty, anyZero, closed, front, Name, name, text, place}
+use Rattle.fields.specs.Reader.{Res, ok, refuse, pick, field, done}
+use Rattle.fields.specs.Text.{anyZero, closed, front, Name, name, text, place}
 use Rattle.fields.proofs.Laws.{body-in, body-short}
 use Rattle.fields.proofs.Places.{length-nums}
 

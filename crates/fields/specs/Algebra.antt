@@ -4,7 +4,7 @@ use mathlib.Core.Path.{_≡_}
 use mathlib.Core.List.{List}
 use lib.ListN.{length, getD}
 use Rattle.fields.specs.Numbers.{At}
-use Rattle.fields.specs.Reader.{Res, ok, refuse, Reader, numberOf}
+use Rattle.fields.specs.Reader.{ok, Reader, numberOf}
 
 -- t has what s has from `at` to q
 pub record Same (s t : List ℕ) (at q : ℕ) : Type 0 where

@@ -1,12 +1,11 @@
 -- Names: counted text units with a closing zero.
-use Prim.Native.Nat.{ℕ, zero, suc, _+_, _*_, _^_, _<_}
-use mathlib.Core.Path.{_≡_}
+use Prim.Native.Nat.{ℕ, zero, _+_, _^_, _<_}
 use mathlib.Core.List.{List, [], _∷_, _++_}
 use mathlib.Core.Bool.{Bool, true, false, not}
 use lib.ListN.{length}
 use lib.Dec.{eqb, ltb}
 use Rattle.fields.specs.Numbers.{be, joined, All}
-use Rattle.fields.specs.Reader.{Res, ok, refuse, Reader, then, pick, rule, unless, judged, body, mapRes}
+use Rattle.fields.specs.Reader.{Res, ok, Reader, then, pick, rule, unless, judged, body, mapRes}
 
 abbrev pub isEmpty : List ℕ → Bool
 isEmpty [] = true

@@ -1,6 +1,6 @@
 -- What each exported answer about a walk says: number 0 with a colour, or with done 1 and none; else the refusal. All that an answer does not have is 0.
 use Prim.Native.Nat.{ℕ}
-use mathlib.Core.List.{List, [], _∷_}
+use mathlib.Core.List.{[], _∷_}
 use Rattle.colour.specs.declared.space.Colour.{Colour}
 use Rattle.ase_read.specs.Answer as palette
 use Rattle.walk.specs.Walk.{Call, gives, over, refused}

@@ -1,7 +1,7 @@
 -- A walk: the items of a file handed out one a call, each from the place that the call before it left.
 use Prim.Native.Nat.{ℕ, zero, suc, _+_}
 use mathlib.Core.List.{List, [], _∷_}
-use mathlib.Core.Bool.{Bool, true, false}
+use mathlib.Core.Bool.{Bool}
 use lib.Dec.{eqb}
 use lib.ListN.{length}
 use Rattle.fields.specs.Reader.{Res, ok, refuse, Reader, pick}

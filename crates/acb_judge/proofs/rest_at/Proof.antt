@@ -1,12 +1,9 @@
-use Prim.Native.Nat.{ℕ, _≤_}
-use mathlib.Core.Path.{_≡_, sym, ap, _∙_, subst}
-use mathlib.Core.Bool.{Bool, true, false}
-use lib.Dec.{eqb}
+use Prim.Native.Nat.{ℕ}
+use mathlib.Core.Path.{sym, ap, _∙_}
 use native.Mathlib.Omega.{arith}
-use Rattle.fields.specs.Reader.{Res, ok, refuse, pick, done, each}
+use Rattle.fields.specs.Reader.{done, each}
 use Rattle.fields.specs.Answer.{toldStep}
-use Rattle.acb.specs.Reading.{colour, componentsOf}
-use Rattle.acb.specs.Grammar.{Tag}
+use Rattle.acb.specs.Reading.{colour}
 use Rattle.acb_judge.specs.Answer.{toldHeader, verdictFrom, toldClosing}
 use Rattle.acb_judge.proofs.Judging.{rest-no, rest-on, components-most}
 use borrow.Author.Needs.{needs}

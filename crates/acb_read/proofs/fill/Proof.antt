@@ -1,14 +1,15 @@
 use Prim.Native.Nat.{_-_, _*_, _≤_}
-use mathlib.Core.Path.{_≡_, refl, sym, ap, _∙_}
+use mathlib.Core.Path.{_≡_, refl, sym, _∙_}
 use lib.ListN.{length, drop}
 use lib.Seq.{sets}
 use native.Mathlib.Omega.{arith}
 use borrow.Author.Needs.{needs}
 use Rattle.fields.specs.Numbers.{joined}
 use Rattle.acb.specs.Reading.{acb}
-use Rattle.acb_read.specs.Table.{row}
+use Rattle.acb_read.specs.Table.{row, blank}
 use Rattle.acb_read.specs.Raw.{recordPlace, entriesOf}
-use Rattle.acb_read.proofs.Filling.{place-first, length-entries, count-small, Here, here, fill-turn, fill-end}
+use Rattle.acb_read.proofs.Filling.{place-first, length-entries, count-small, Here, here}
+use Rattle.fields.proofs.Rows.{fill-turn, fill-end}
 use Rattle.acb_read.proofs.fill.Statement.{statement}
 use Rattle.acb_read.proofs.fill.Tie as tie
 
@@ -55,7 +56,7 @@ loop-again c =
     let s = st .args .file .now in
     let k = known tn in (
       omega (arith, tn .loop-test .taken),
-      fill-turn (entriesOf (acb s)) _ (l .table) (l .i) (l .inv .1) (omega (arith, tn .loop-test .taken, length-entries s (λ j. omega (arith, tn .before .before .before .shared-slice-known .given j)) (st .args .count) (st .args .first) (st .args .n) (st .pre .0))) _ _ (k .is-row) refl (pr .put-row .ensures .1),
+      fill-turn 12 row (entriesOf (acb s)) _ (l .table) (l .i) (l .inv .1) blank (omega (arith, tn .loop-test .taken, length-entries s (λ j. omega (arith, tn .before .before .before .shared-slice-known .given j)) (st .args .count) (st .args .first) (st .args .n) (st .pre .0))) _ _ (k .is-row) refl (pr .put-row .ensures .1),
       pr .put-row .kept .1 .1 .1 .0 ∙ l .inv .2,
       pr .put-row .ensures .0 ∙ k .next,
     )
@@ -68,7 +69,7 @@ returns c =
     let l = c .before .loop in
     let st = c .before .before .before .before in
     let s = st .args .file .now in
-    sym (fill-end (entriesOf (acb s)) _ (l .table) (l .i) (l .inv .1) (omega (arith, c .loop-test .left, length-entries s (λ j. omega (arith, c .before .before .before .shared-slice-known .given j)) (st .args .count) (st .args .first) (st .args .n) (st .pre .0))))
+    sym (fill-end 12 row (entriesOf (acb s)) _ (l .table) (l .i) (l .inv .1) (omega (arith, c .loop-test .left, length-entries s (λ j. omega (arith, c .before .before .before .shared-slice-known .given j)) (st .args .count) (st .args .first) (st .args .n) (st .pre .0))))
 
 pub fill-spec : {M : Type 1} → statement M
 fill-spec =

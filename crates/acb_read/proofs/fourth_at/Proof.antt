@@ -1,8 +1,5 @@
-use Prim.Native.Nat.{ℕ}
-use mathlib.Core.Path.{sym, ap, _∙_}
-use lib.Dec.{eqb}
+use mathlib.Core.Path.{sym, _∙_}
 use borrow.Author.Tests.{ne-eqb}
-use Rattle.fields.specs.Reader.{pick}
 use borrow.Author.Needs.{needs}
 use Rattle.acb_read.proofs.fourth_at.Statement.{statement}
 use Rattle.acb_read.proofs.fourth_at.Tie as tie

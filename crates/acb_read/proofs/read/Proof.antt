@@ -1,5 +1,4 @@
 use mathlib.Core.Path.{sym, ap, _∙_, subst}
-use Prim.Native.Nat.{ℕ}
 use native.Mathlib.Omega.{arith}
 use Rattle.acb_judge.specs.Answer.{told}
 use Rattle.acb.specs.Reading.{acb}

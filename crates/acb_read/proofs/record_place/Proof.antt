@@ -3,7 +3,7 @@ use mathlib.Core.Path.{_≡_, sym, ap, _∙_}
 use native.Mathlib.Omega.{arith}
 use borrow.Author.Needs.{needs}
 use Rattle.acb_read.specs.Raw.{recordPlace}
-use Rattle.acb_read.proofs.Filling.{place-first, Here, here}
+use Rattle.acb_read.proofs.Filling.{place-first, here}
 use Rattle.acb_read.proofs.record_place.Statement.{statement}
 use Rattle.acb_read.proofs.record_place.Tie as tie
 

@@ -4,7 +4,6 @@ use native.Mathlib.Omega.{arith}
 use Prim.Native.Nat.{_-_, _≤_}
 use Rattle.fields.specs.Faults.{faults}
 use Rattle.acb_records.specs.Writing.{givenAt, givens, colourFault}
-use Rattle.acb_records.specs.Parts.{givenOf}
 use borrow.Author.Needs.{needs}
 use Rattle.acb_records.proofs.colours_fault.Statement.{statement}
 use Rattle.acb_records.proofs.colours_fault.Tie as tie

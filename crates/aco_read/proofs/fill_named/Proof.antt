@@ -9,7 +9,8 @@ use Rattle.fields.specs.Numbers.{joined}
 use Rattle.aco.specs.Reading.{aco, unnamed, black}
 use Rattle.aco.specs.Places.{entryPlace}
 use Rattle.aco_read.specs.Table.{row, recordsOf}
-use Rattle.aco_read.proofs.Filling.{named-colour, count-small, entry-first, length-records, Counted, counted-in, counted, fill-turn, fill-end}
+use Rattle.aco_read.proofs.Filling.{named-colour, count-small, entry-first, length-records, Counted, counted-in, counted}
+use Rattle.fields.proofs.Rows.{fill-turn, fill-end}
 use Rattle.aco_read.proofs.fill_named.Statement.{statement}
 use Rattle.aco_read.proofs.fill_named.Tie as tie
 
@@ -99,7 +100,7 @@ loop-again c =
     let s = st .args .file .now in
     let k = loaded u in (
       omega arith,
-      fill-turn (recordsOf (aco s)) (unnamed black) _ (l .table) (l .i) (l .inv .1) (omega (arith, length-records s 2 (st .args .n) (st .pre .0))) _ _ (k .is-row) refl (pr .put-row .ensures),
+      fill-turn 7 row (recordsOf (aco s)) _ (l .table) (l .i) (l .inv .1) (unnamed black) (omega (arith, length-records s 2 (st .args .n) (st .pre .0))) _ _ (k .is-row) refl (pr .put-row .ensures),
       pr .put-row .kept .1 .1 .0 ∙ l .inv .2,
       omega (arith, k .next),
     )
@@ -112,7 +113,7 @@ returns c =
     let l = c .before .loop in
     let st = c .before .before .before .before in
     let s = st .args .file .now in
-    sym (fill-end (recordsOf (aco s)) (unnamed black) _ (l .table) (l .i) (l .inv .1) (omega (arith, length-records s 2 (st .args .n) (st .pre .0))))
+    sym (fill-end 7 row (recordsOf (aco s)) _ (l .table) (l .i) (l .inv .1) (omega (arith, length-records s 2 (st .args .n) (st .pre .0))))
 
 pub fill-named-spec : {M : Type 1} → statement M
 fill-named-spec =

@@ -7,7 +7,8 @@ use lib.Seq.{sets}
 use Rattle.fields.specs.Numbers.{joined}
 use Rattle.aco.specs.Reading.{aco, unnamed, black}
 use Rattle.aco_read.specs.Table.{row, recordsOf}
-use Rattle.aco_read.proofs.Filling.{plain-in, plain-row, length-records, fill-turn, fill-end}
+use Rattle.aco_read.proofs.Filling.{plain-in, plain-row, length-records}
+use Rattle.fields.proofs.Rows.{fill-turn, fill-end}
 use Rattle.aco_read.proofs.fill_plain.Statement.{statement}
 use Rattle.aco_read.proofs.fill_plain.Tie as tie
 
@@ -51,7 +52,7 @@ loop-again c =
     let a = st .args in
     let s = a .file .now in (
       omega arith,
-      fill-turn (recordsOf (aco s)) (unnamed black) _ (l .table) (l .i) (l .inv .1) (omega (arith, length-records s 1 (a .n) (st .pre .0))) _ _
+      fill-turn 7 row (recordsOf (aco s)) _ (l .table) (l .i) (l .inv .1) (unnamed black) (omega (arith, length-records s 1 (a .n) (st .pre .0))) _ _
           (plain-row s 1 (a .n) (st .pre .0) refl (l .i) (tn .loop-test .taken)) refl (pr .put-row .ensures),
       pr .put-row .kept .1 .1 .0 ∙ l .inv .2,
     )
@@ -64,7 +65,7 @@ returns c =
     let l = c .before .loop in
     let st = c .before .before .before .before in
     let s = st .args .file .now in
-    sym (fill-end (recordsOf (aco s)) (unnamed black) _ (l .table) (l .i) (l .inv .1) (omega (arith, length-records s 1 (st .args .n) (st .pre .0))))
+    sym (fill-end 7 row (recordsOf (aco s)) _ (l .table) (l .i) (l .inv .1) (omega (arith, length-records s 1 (st .args .n) (st .pre .0))))
 
 pub fill-plain-spec : {M : Type 1} → statement M
 fill-plain-spec =

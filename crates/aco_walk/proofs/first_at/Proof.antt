@@ -1,4 +1,4 @@
-use mathlib.Core.Path.{_≡_, refl, sym, ap, _∙_}
+use mathlib.Core.Path.{sym, _∙_}
 use native.Mathlib.Omega.{arith}
 use Rattle.aco_walk.proofs.Stepping.{first-plain, first-named, first-none}
 use borrow.Author.Needs.{needs}

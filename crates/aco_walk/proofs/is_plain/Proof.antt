@@ -1,5 +1,3 @@
-use mathlib.Core.Path.{_≡_, refl, sym, ap, _∙_}
-use native.Mathlib.Omega.{arith}
 use Rattle.aco_walk.proofs.Stepping.{plain-is}
 use borrow.Author.Needs.{needs}
 use Rattle.aco_walk.proofs.is_plain.Statement.{statement}

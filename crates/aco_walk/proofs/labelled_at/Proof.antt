@@ -1,5 +1,4 @@
-use mathlib.Core.Path.{_≡_, refl, sym, ap, _∙_}
-use native.Mathlib.Omega.{arith}
+use mathlib.Core.Path.{sym, ap, _∙_}
 use Rattle.fields.specs.Answer.{toldName}
 use Rattle.aco_walk.proofs.Stepping.{labelled-plain, labelled-named, labelled-lost}
 use borrow.Author.Needs.{needs}

@@ -1,5 +1,4 @@
-use mathlib.Core.Path.{_≡_, refl, sym, ap, _∙_}
-use native.Mathlib.Omega.{arith}
+use mathlib.Core.Path.{ap}
 use Rattle.colour.specs.declared.space.Colour.{Colour}
 use Rattle.aco_walk.specs.Answer.{toldGiven}
 use borrow.Author.Needs.{needs}

@@ -1,5 +1,4 @@
-use mathlib.Core.Path.{_≡_, refl, sym, ap, _∙_}
-use native.Mathlib.Omega.{arith}
+use mathlib.Core.Path.{sym, ap, _∙_}
 use Rattle.aco_judge.specs.Answer.{told}
 use Rattle.aco_walk.proofs.Stepping.{start-refused, start-is}
 use borrow.Author.Needs.{needs}

@@ -1,6 +1,6 @@
 use borrow.Author.Tests.{not-true, not-false}
 use mathlib.Core.Bool.{Bool}
-use mathlib.Core.Path.{_≡_, refl, sym, ap, _∙_}
+use mathlib.Core.Path.{sym, ap, _∙_}
 use native.Mathlib.Omega.{arith}
 use Rattle.aco.proofs.Raw.{colour-inv}
 use Rattle.aco_walk.proofs.Stepping.{walk-over, walk-lost, walk-labelled, tested-reads}

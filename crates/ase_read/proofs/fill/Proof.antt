@@ -4,10 +4,11 @@ use lib.ListN.{length, drop}
 use lib.Seq.{sets}
 use native.Mathlib.Omega.{arith}
 use Rattle.fields.specs.Numbers.{joined}
-use Rattle.ase.specs.Reading.{ase}
+use Rattle.ase.specs.Reading.{stopped, ase}
 use Rattle.ase_read.specs.Table.{row}
 use Rattle.ase_read.specs.Raw.{rawRow, blockPlace, entriesOf}
-use Rattle.ase_read.proofs.Filling.{place-first, length-entries, count-small, Here, here, fill-turn, fill-end}
+use Rattle.ase_read.proofs.Filling.{place-first, length-entries, count-small, Here, here}
+use Rattle.fields.proofs.Rows.{fill-turn, fill-end}
 use borrow.Author.Needs.{needs}
 use Rattle.ase_read.proofs.fill.Statement.{statement}
 use Rattle.ase_read.proofs.fill.Tie as tie
@@ -61,7 +62,7 @@ loop-again c =
     let s = st .args .file .now in
     let k = known tn in (
       omega (arith, tn .loop-test .taken),
-      fill-turn (entriesOf (ase s)) _ (l .table) (l .i) (l .inv .1) (omega (arith, tn .loop-test .taken, length-entries s (st .args .n) (st .pre .0))) _ _
+      fill-turn 9 row (entriesOf (ase s)) _ (l .table) (l .i) (l .inv .1) stopped (omega (arith, tn .loop-test .taken, length-entries s (st .args .n) (st .pre .0))) _ _
           (k .is-row ∙ ap (rawRow s (l .at)) (sym (b .ensures))) refl (pr .put-row .ensures),
       pr .put-row .kept .1 .1 .1 .0 ∙ l .inv .2,
       b .ensures ∙ k .next,
@@ -75,7 +76,7 @@ returns c =
     let l = c .before .loop in
     let st = c .before .before .before .before in
     let s = st .args .file .now in
-    sym (fill-end (entriesOf (ase s)) _ (l .table) (l .i) (l .inv .1) (omega (arith, c .loop-test .left, length-entries s (st .args .n) (st .pre .0))))
+    sym (fill-end 9 row (entriesOf (ase s)) _ (l .table) (l .i) (l .inv .1) (omega (arith, c .loop-test .left, length-entries s (st .args .n) (st .pre .0))))
 
 pub fill-spec : {M : Type 1} → statement M
 fill-spec =

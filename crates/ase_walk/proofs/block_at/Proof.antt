@@ -1,5 +1,4 @@
-use mathlib.Core.Path.{_≡_, refl, sym, ap, _∙_}
-use native.Mathlib.Omega.{arith}
+use mathlib.Core.Path.{sym, ap, _∙_}
 use Rattle.ase_judge.specs.Answer.{toldPassed}
 use Rattle.ase_walk.proofs.Blocks.{block-moves}
 use Rattle.ase_walk.proofs.Stepping.{block-over, passed-stands, block-lost, block-shown}

@@ -1,4 +1,4 @@
-use mathlib.Core.Path.{_≡_, refl, sym, ap, _∙_}
+use mathlib.Core.Path.{sym, ap, _∙_}
 use native.Mathlib.Omega.{arith}
 use Rattle.ase_read.specs.Answer.{Shown}
 use Rattle.ase_read.proofs.Answers.{is-known, is-made, colour-is}

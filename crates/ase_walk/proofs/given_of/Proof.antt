@@ -1,5 +1,5 @@
 use mathlib.Core.Path.{sym, ap, _∙_}
-use mathlib.Core.Bool.{Bool, true≢false}
+use mathlib.Core.Bool.{true≢false}
 use Rattle.ase_walk.specs.Answer.{toldBlock, passes}
 use Rattle.ase_walk.specs.declared.Block.{Block}
 use borrow.Author.Needs.{needs}

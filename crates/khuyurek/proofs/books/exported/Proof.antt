@@ -1,4 +1,4 @@
-use mathlib.Core.Path.{sym, ap, _∙_}
+use mathlib.Core.Path.{sym, ap}
 use Rattle.khuyurek.specs.Acb.{answerOf}
 use Rattle.acb_judge.specs.Answer.{told}
 use borrow.Author.Needs.{needs}

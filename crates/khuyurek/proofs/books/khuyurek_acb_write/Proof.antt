@@ -1,10 +1,7 @@
-use Prim.Native.Nat.{ℕ}
-use mathlib.Core.List.{List}
-use mathlib.Core.Path.{_≡_, sym, ap, _∙_}
+use mathlib.Core.Path.{sym, ap, _∙_}
 use Rattle.acb_judge.specs.Answer.{Shown, toldKnown, toldTag}
 use Rattle.acb_judge.specs.Parts.{Found}
-use Rattle.acb_judge.specs.declared.Known.{Known}
-use Rattle.acb_records.specs.Writing.{given, needed, written}
+use Rattle.acb_records.specs.Writing.{given, written}
 use Rattle.khuyurek.specs.Exported.{wroteOf as sizedOf}
 use Rattle.khuyurek.specs.Acb.{wroteOf}
 use borrow.Author.Needs.{needs}
