@@ -3,3 +3,4 @@ pub mod Laws
 pub mod Whole
 pub mod Faultless
 pub mod RoundTrip
+pub mod Placed

@@ -6,3 +6,4 @@ pub mod Whole
 pub mod Written
 pub mod Faultless
 pub mod RoundTrip
+pub mod Placed

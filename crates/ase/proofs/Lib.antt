@@ -6,3 +6,4 @@ pub mod Whole
 pub mod Faultless
 pub mod Written
 pub mod RoundTrip
+pub mod Placed

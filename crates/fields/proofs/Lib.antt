@@ -7,6 +7,7 @@ pub mod Exact
 pub mod Tells
 pub mod Chain
 pub mod Sequence
+pub mod Placed
 pub mod Stores
 pub mod Writing
 pub mod Texts

@@ -5,5 +5,6 @@ pub mod Faults
 pub mod Store
 pub mod Writing
 pub mod Algebra
+pub mod Refusal
 pub mod Answer
 pub mod Sets
