@@ -119,11 +119,11 @@ module _ {s : List ℕ} where
   siblings-placed f g zero k at l = ends l
   siblings-placed f g (suc n) k at l = placed-then (f k s at) _ (g k at l) (λ rs q h. placed-then (siblings f n (k + length rs) s q) _ (siblings-placed f g n (k + length rs) q h) (λ qs e w. ends w))
 
-  children-placed : (f : ℕ → Reader (List Row)) → Members s f → (k at : ℕ) → at ≤ length s → Placed s (children f k s at)
+  pub children-placed : (f : ℕ → Reader (List Row)) → Members s f → (k at : ℕ) → at ≤ length s → Placed s (children f k s at)
   unfolding children
   children-placed f g k at l = placed-then (field 4 s at) _ (field-placed 4 at l) (λ n q h. siblings-placed f g n (k + 1) q h)
 
-  ref-placed : (d p : ℕ) → Members s (refItem d p)
+  pub ref-placed : (d p : ℕ) → Members s (refItem d p)
   unfolding refItem refValue
   ref-placed zero p k at l = fails ten l
   ref-placed (suc d) p k at l =
@@ -140,7 +140,7 @@ module _ {s : List ℕ} where
       (λ u e h. placed-then (judged 4 j s e) _ (judged-placed 4 j e (λ t. unless-tabled (eqb t 0x556e_466c) four) h)
       (λ t v g. headed-placed t d p at v (plain (column m) s v) (plain-placed (column m) (column-placed m) v g)))
 
-  array-placed : (d k at : ℕ) → at ≤ length s → Placed s (arrayOf d k s at)
+  pub array-placed : (d k at : ℕ) → at ≤ length s → Placed s (arrayOf d k s at)
   unfolding arrayOf
   array-placed d k at l =
       placed-then (field 4 s at) _ (field-placed 4 at l)
@@ -151,7 +151,7 @@ module _ {s : List ℕ} where
   keyed-placed f g zero p k at l = fails ten l
   keyed-placed f g (suc d) p k at l = placed-then (id s at) _ (id-placed s at l) (λ u e h. g p k at e l h)
 
-  object-placed : (f : ℕ → ℕ → ℕ → Reader (List Row)) → Items s f → (d k at : ℕ) → at ≤ length s → Placed s (objectOf f d k s at)
+  pub object-placed : (f : ℕ → ℕ → ℕ → Reader (List Row)) → Items s f → (d k at : ℕ) → at ≤ length s → Placed s (objectOf f d k s at)
   unfolding objectOf
   object-placed f g d k at l = placed-then (class s at) _ (class-placed s at l) (λ c e h. children-placed (keyed f d k) (keyed-placed f g d k) k e h)
 
@@ -162,7 +162,7 @@ module _ {s : List ℕ} where
   value-placed f g d k t reference e at l = children-placed (refItem d k) (ref-placed d k) k at l
   value-placed f g d k t array e at l = array-placed d k at l
 
-  item-placed : (d : ℕ) → Items s (item d)
+  pub item-placed : (d : ℕ) → Items s (item d)
   unfolding item
   item-placed zero p k first at o l = fails ten o
   item-placed (suc d) p k first at o l =

@@ -6,7 +6,7 @@ use lib.Dec.{eqb}
 use lib.ListN.{length, length-append}
 use native.Mathlib.Omega.{arith}
 use Rattle.fields.specs.Reader.{Res, Reader, field, Judged, unless, judged}
-use Rattle.descriptor.specs.Reading.{Known, is, unknown, known, Sort, leaf, list, object, reference, array, sortOf, formOf, id, class, Row, headed, plain, siblings, children, refValue, refItem, column, arrayPair, arrayOf, keyed, objectOf, valueOf, item, root}
+use Rattle.descriptor.specs.Reading.{Known, is, unknown, known, Sort, leaf, list, object, reference, array, sortOf, formOf, id, class, Row, headed, plain, siblings, children, refValue, refItem, referenceOf, column, arrayPair, arrayOf, keyed, listOf, objectOf, valueOf, item, root}
 use Rattle.descriptor.specs.Tiles.{Tiled, none, one, heads, sum, Fives, Ascending}
 use Rattle.descriptor.proofs.Ends.{Accepts, yes, no, accepts-then, weaker, Past, field-past, judged-past, id-past, class-past, column-past, leaf-takes, form-takes, ref-past}
 
@@ -218,6 +218,21 @@ module _ (s : List ℕ) where
   -- five bytes a row at least, and inside the file
   pub reach : {d p k lo : ℕ} {m : Res (List Row)} → Accepts (Rows s d p k lo) m → Accepts (Reach s lo) m
   reach h = weaker (λ rs q w. record { low = five-each (w .tiled); high = w .high }) h
+
+  kids-reach : {d k lo : ℕ} {m : Res (List Row)} (at : ℕ) → at ≤ lo → Accepts (Kids s d k lo) m → Accepts (Reach s at) m
+  kids-reach at l h = weaker (λ rs q w. record { low = omega (arith, w .low, five-each (w .tiled)); high = w .high }) h
+
+  pub list-reach : (d k at : ℕ) → d ≤ 32 → at ≤ length s → Accepts (Reach s at) (listOf (item d) k s at)
+  list-reach d k at l w = kids-reach at (omega arith) (children-kids (33 - d) k at at (λ j s q. item d k j q s q) (omega arith) w (λ j q x. item-rows d (omega arith) k j q q (omega arith) x))
+
+  pub object-reach : (d k at : ℕ) → d ≤ 32 → at ≤ length s → Accepts (Reach s at) (objectOf (item d) d k s at)
+  object-reach d k at l w = kids-reach at (omega arith) (object-kids d (item d) (item-rows d (omega arith)) k at w)
+
+  pub reference-reach : (d k at : ℕ) → d ≤ 32 → at ≤ length s → Accepts (Reach s at) (referenceOf d k s at)
+  reference-reach d k at l w = kids-reach at (omega arith) (children-kids (33 - d) k at at (refItem d k) (omega arith) w (λ j q x. ref-rows d k j q (omega arith) x))
+
+  pub array-reach : (d k at : ℕ) → d ≤ 32 → at ≤ length s → Accepts (Reach s at) (arrayOf d k s at)
+  array-reach d k at l w = kids-reach at (omega arith) (array-kids d k at (omega arith) w)
 
   -- ---- the root
 

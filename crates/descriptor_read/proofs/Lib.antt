@@ -1,6 +1,7 @@
 pub mod Table
 pub mod Steps
 pub mod Going
+pub mod Carried
 pub mod Whole
 pub mod Values
 pub mod Filled

@@ -22,6 +22,7 @@ ghost use Rattle.descriptor.specs.Leaves.{Leafed};
 ghost use Rattle.descriptor.specs.Reading.{id, class, children, refItem, referenceOf, arrayPair, arrayOf, item, objectOf, root, descriptor};
 ghost use Rattle.descriptor_read.specs.Table.{putRow, Done, Within, Below};
 ghost use Rattle.descriptor_read.specs.Cycle.{optional, memberOf, holderOf, valued, heldOf};
+ghost use Rattle.descriptor_read.specs.Carried.{Small, carried};
 ghost use Rattle.descriptor_read.specs.Answer.{verdict, told, closing};
 ghost use Rattle.descriptor_read.specs.Filled.{filled, rowsIn};
 ghost use Rattle.descriptor_read.specs.Values.{rowIn, extentOf, toldExtent, placeOf, toldValue, valueIn};
@@ -77,6 +78,44 @@ enum Extent {
 enum Walk {
     Next(usize, usize),
     Refused(u32, usize),
+}
+
+// ---- an answer in one number: a call that is not inlined hands a number back in a register, and an
+// answer through memory
+
+fn next_in(place: usize, row: usize) -> u64
+    requires { ⌜ (place < 0x1_0000_0000) × (row < 0x8000_0000) ⌝ }
+    ensures { λ r. ⌜ carried r ≡ Walk.Next place row ⌝ }
+{
+    (row as u64) * 0x1_0000_0000 + (place as u64)
+}
+
+fn refused_in(number: u32, place: usize) -> u64
+    requires { ⌜ (place < 0x1_0000_0000) × (number < 0x8000_0000) ⌝ }
+    ensures { λ r. ⌜ carried r ≡ Walk.Refused number place ⌝ }
+{
+    0x8000_0000_0000_0000 + (number as u64) * 0x1_0000_0000 + (place as u64)
+}
+
+fn carry(walk: Walk) -> u64
+    requires { ⌜ Small walk ⌝ }
+    ensures { λ r. ⌜ carried r ≡ walk ⌝ }
+{
+    match walk {
+        Walk::Next(place, row) => next_in(place, row),
+        Walk::Refused(number, place) => refused_in(number, place),
+    }
+}
+
+// The answer that a number carries.
+fn unpack(n: u64) -> Walk
+    ensures { λ r. ⌜ r ≡ carried n ⌝ }
+{
+    let low = (n % 0x1_0000_0000) as usize;
+    if 0x8000_0000_0000_0000 <= n {
+        return Walk::Refused(((n - 0x8000_0000_0000_0000) / 0x1_0000_0000) as u32, low);
+    }
+    Walk::Next(low, (n / 0x1_0000_0000) as usize)
 }
 
 // The row of a member that ends at `end`, with `left` levels below it, where the table has room for
@@ -279,14 +318,14 @@ fn held(
     left: usize,
     row: usize,
     at: usize,
-) -> Walk
+) -> u64
     requires { ⌜ Below (now file) left row at ⌝ }
-    ensures { λ r. ⌜ Done r only (now (table .entry)) (now (table .exit)) (row + 1) (heldOf columns left row (now (file .entry)) at) ⌝ }
+    ensures { λ r. ⌜ Done (carried r) only (now (table .entry)) (now (table .exit)) (row + 1) (heldOf columns left row (now (file .entry)) at) ⌝ }
 {
     if columns {
-        return array(file, table, only, left, row, at);
+        return carry(array(file, table, only, left, row, at));
     }
-    reference(file, table, only, left, row, at)
+    carry(reference(file, table, only, left, row, at))
 }
 
 // A class, where there is one.
@@ -353,10 +392,10 @@ fn value_of(
 {
     match descriptor::begin(file, kind, at) {
         Value::Ends(end) => Walk::Next(end, row + 1),
-        Value::List => list(file, table, only, false, left, row, at),
-        Value::Object => object(file, table, only, left, row, at),
-        Value::Reference => held(file, table, only, false, left, row, at),
-        Value::Array => held(file, table, only, true, left, row, at),
+        Value::List => unpack(list(file, table, only, false, left, row, at)),
+        Value::Object => unpack(object(file, table, only, left, row, at)),
+        Value::Reference => unpack(held(file, table, only, false, left, row, at)),
+        Value::Array => unpack(held(file, table, only, true, left, row, at)),
         Value::Unknown => Walk::Refused(4, at - 4),
         Value::Refused(x, p) => Walk::Refused(x, p),
     }
@@ -371,15 +410,15 @@ fn list(
     left: usize,
     row: usize,
     at: usize,
-) -> Walk
+) -> u64
     requires { ⌜ Below (now file) left row at ⌝ }
-    ensures { λ r. ⌜ Done r only (now (table .entry)) (now (table .exit)) (row + 1) (holderOf keyed left row (now (file .entry)) at) ⌝ }
+    ensures { λ r. ⌜ Done (carried r) only (now (table .entry)) (now (table .exit)) (row + 1) (holderOf keyed left row (now (file .entry)) at) ⌝ }
 {
     match class_if(file, keyed, at) {
-        Step::Refused(x, p) => Walk::Refused(x, p),
+        Step::Refused(x, p) => refused_in(x, p),
         Step::Next(count) => {
             let Number32::Is(n, from) = fields::u32_at(file, count) else {
-                return Walk::Refused(2, count);
+                return refused_in(2, count);
             };
             let mut next = from;
             let mut child = row + 1;
@@ -387,7 +426,7 @@ fn list(
             while i < n {
                 match pair(file, table, only, keyed, left, row, child, next) {
                     Walk::Refused(x, p) => {
-                        return Walk::Refused(x, p);
+                        return refused_in(x, p);
                     }
                     Walk::Next(q, k) => {
                         next = q;
@@ -396,15 +435,15 @@ fn list(
                 }
                 i += 1;
             }
-            Walk::Next(next, child)
+            next_in(next, child)
         }
     }
 }
 
 // An object, from its class on.
-fn object(file: &[u8], table: &mut [u32], only: usize, left: usize, row: usize, at: usize) -> Walk
+fn object(file: &[u8], table: &mut [u32], only: usize, left: usize, row: usize, at: usize) -> u64
     requires { ⌜ Below (now file) left row at ⌝ }
-    ensures { λ r. ⌜ Done r only (now (table .entry)) (now (table .exit)) (row + 1) (objectOf (item left) left row (now (file .entry)) at) ⌝ }
+    ensures { λ r. ⌜ Done (carried r) only (now (table .entry)) (now (table .exit)) (row + 1) (objectOf (item left) left row (now (file .entry)) at) ⌝ }
 {
     list(file, table, only, true, left, row, at)
 }
@@ -445,7 +484,7 @@ fn root(file: &[u8], table: &mut [u32], only: usize) -> Walk
     if version != 16 {
         return Walk::Refused(3, 0);
     }
-    match object(file, table, only, 32, 0, value) {
+    match unpack(object(file, table, only, 32, 0, value)) {
         Walk::Refused(x, p) => Walk::Refused(x, p),
         Walk::Next(end, rows) => {
             put_row(table, only, 0, descriptor::OBJECT, 0, 0, end, 32, value);

@@ -15,6 +15,7 @@ use Rattle.descriptor.proofs.Fields.{then-no, then-to}
 use Rattle.descriptor_read.specs.Cycle.{memberOf}
 use Rattle.descriptor_read.proofs.Steps as S
 use Rattle.descriptor_read.proofs.Going.{Going, going-start, going-length, turn, turn-no, all-done, done-no, done-eq, done-past, leaf-done, row-done, row-no}
+use Rattle.descriptor_read.proofs.Carried.{carry, taken, holder-cut, holder-small}
 use borrow.Fn.Kinds.{In}
 use borrow.Fn.PlainCycle.{Measures, is, falls, and}
 use Rattle.descriptor_read.proofs.item.Reads as item
@@ -37,6 +38,9 @@ use Rattle.descriptor_read.proofs.class_if.Reads as class-if-reads
 use Rattle.descriptor_read.proofs.key_if.Reads as key-if-reads
 use Rattle.descriptor_read.proofs.put_row.Reads as put-row-reads
 use Rattle.descriptor_read.proofs.held.Reads as held-reads
+use Rattle.descriptor_read.proofs.unpack.Reads as unpack-reads
+use Rattle.descriptor_read.proofs.next_in.Reads as next-in-reads
+use Rattle.descriptor_read.proofs.refused_in.Reads as refused-in-reads
 use Rattle.fields.proofs.u32_at.Reads as u32-at-reads
 use Rattle.descriptor_read.proofs.+item+list+object+pair+value_of.{statement}
 use Rattle.descriptor_read.proofs.+item+list+object+pair+value_of.Tie.{close}
@@ -157,7 +161,7 @@ item-returns-4 t c =
     done-eq (S.item-value (a .parent) (a .row) (a .first) (a .file .now) (a .at) (a .left) _ _ (c .before .before .before .before .before .before .before .before .before .before .before .before .before .before .before .if1 .left) e (omega arith)) (row-done _ (a .left - 1) (a .parent) (a .first) _ _ _ (c .before .before .before .before .before .before .before .before .before .value-of .ensures) (c .before .before .before .before .before .end .given .1) (c .before .before .put-row .ensures))
 
 abbrev list-cs : ℕ → list-lts.Claims
-list-cs t = (class-if-reads.Asked, class-if-reads.Learnt, u32-at-reads.Asked, u32-at-reads.Learnt, pair-below t, pair.Post)
+list-cs t = (class-if-reads.Asked, class-if-reads.Learnt, refused-in-reads.Asked, refused-in-reads.Learnt, u32-at-reads.Asked, u32-at-reads.Learnt, pair-below t, pair.Post, next-in-reads.Asked, next-in-reads.Learnt)
 
 abbrev list-Inv-loop : list-lts.InvT-loop
 list-Inv-loop file table₀ only keyed left row at count n from next₀ child₀ i₀ table next child i = Going (memberOf keyed left row) file only table₀ n (row + 1) from table next child i
@@ -183,11 +187,17 @@ list-enum-known-n t c = search needs
 list-enum-told : (t : ℕ) → list-lts.Need-enum-told (list-cs t) (list-at t) list.Post list-Inv-loop list-μ-loop
 list-enum-told t c = search needs
 
-list-returns : (t : ℕ) → list-lts.Need-returns (list-cs t) (list-at t) list.Post list-Inv-loop list-μ-loop
-list-returns t c =
+list-refused-in-requires-2 : (t : ℕ) → list-lts.Need-refused-in-requires-2 (list-cs t) (list-at t) list.Post list-Inv-loop list-μ-loop
+list-refused-in-requires-2 t c κs =
     let a = c .before .before .before .before .before .before .before .before .before .args in
     let cl = sym (c .before .before .before .before .before .before .class-if .ensures) ∙ ap toldStep (c .before .before .before .before .count .given .1) in
-    done-no (S.holder-is (a .left) (a .row) (a .file .now) (a .at) (a .keyed) cl ∙ S.children-short (memberOf (a .keyed) (a .left) (a .row)) (a .row) (a .file .now) _ (sym (ap (told32 _) (c .enum-told .given .1)) ∙ c .before .before .u32-at .ensures))
+    holder-cut (c .before .before .before .before .before .before .before .before .before .pre .1) (a .keyed) (S.holder-is (a .left) (a .row) (a .file .now) (a .at) (a .keyed) cl ∙ S.children-short (memberOf (a .keyed) (a .left) (a .row)) (a .row) (a .file .now) _ (sym (ap (told32 _) (c .enum-told .given .1)) ∙ c .before .before .u32-at .ensures))
+
+list-returns : (t : ℕ) → list-lts.Need-returns (list-cs t) (list-at t) list.Post list-Inv-loop list-μ-loop
+list-returns t c =
+    let a = c .before .before .before .before .before .before .before .before .before .before .args in
+    let cl = sym (c .before .before .before .before .before .before .before .class-if .ensures) ∙ ap toldStep (c .before .before .before .before .before .count .given .1) in
+    carry _ (c .refused-in2 .ensures) (done-no (S.holder-is (a .left) (a .row) (a .file .now) (a .at) (a .keyed) cl ∙ S.children-short (memberOf (a .keyed) (a .left) (a .row)) (a .row) (a .file .now) _ (sym (ap (told32 _) (c .before .enum-told .given .1)) ∙ c .before .before .before .u32-at .ensures)))
 
 list-add-child : (t : ℕ) → list-lts.Need-add-child (list-cs t) (list-at t) list.Post list-Inv-loop list-μ-loop
 list-add-child t c =
@@ -215,15 +225,22 @@ list-enum-known-x-2 t c = search needs
 
 list-same-length : (t : ℕ) → list-lts.Need-same-length (list-cs t) (list-at t) list.Post list-Inv-loop list-μ-loop
 list-same-length t c =
-    let a = c .before .before .before .before .before .before .before .before .before .before .before .before .before .before .before .before .before .before .before .args in
-    c .before .before .before .before .before .pair .kept .1 .0 ∙ going-length (memberOf (a .keyed) (a .left) (a .row)) (a .file .now) (a .only) (a .table .now) _ (a .row + 1) _ (c .before .before .before .before .before .before .before .before .loop .inv)
+    let a = c .before .before .before .before .before .before .before .before .before .before .before .before .before .before .before .before .before .before .before .before .args in
+    c .before .before .before .before .before .before .pair .kept .1 .0 ∙ going-length (memberOf (a .keyed) (a .left) (a .row)) (a .file .now) (a .only) (a .table .now) _ (a .row + 1) _ (c .before .before .before .before .before .before .before .before .before .loop .inv)
 
-list-returns-2 : (t : ℕ) → list-lts.Need-returns-2 (list-cs t) (list-at t) list.Post list-Inv-loop list-μ-loop
-list-returns-2 t c =
+list-refused-in-requires-3 : (t : ℕ) → list-lts.Need-refused-in-requires-3 (list-cs t) (list-at t) list.Post list-Inv-loop list-μ-loop
+list-refused-in-requires-3 t c κs =
     let a = c .before .before .before .before .before .before .before .before .before .before .before .before .before .before .before .before .before .before .before .args in
     let cl = sym (c .before .before .before .before .before .before .before .before .before .before .before .before .before .before .before .before .class-if .ensures) ∙ ap toldStep (c .before .before .before .before .before .before .before .before .before .before .before .before .before .before .count .given .1) in
     let w = turn-no (memberOf (a .keyed) (a .left) (a .row)) (a .file .now) (a .only) (a .table .now) _ (a .row + 1) _ (c .before .before .before .before .before .before .before .before .loop .inv) _ _ _ _ (c .before .before .before .before .before .before .before .loop-test .taken) (c .before .before .before .before .before .pair .ensures) (c .before .x2 .given .1) in
-    done-no (S.holder-is (a .left) (a .row) (a .file .now) (a .at) (a .keyed) cl ∙ S.children-is (memberOf (a .keyed) (a .left) (a .row)) (a .row) (a .file .now) _ _ _ (sym (ap (told32 _) (c .before .before .before .before .before .before .before .before .before .before .n .given .1)) ∙ c .before .before .before .before .before .before .before .before .before .before .before .before .u32-at .ensures) ∙ w .2)
+    holder-cut (c .before .before .before .before .before .before .before .before .before .before .before .before .before .before .before .before .before .before .before .pre .1) (a .keyed) (S.holder-is (a .left) (a .row) (a .file .now) (a .at) (a .keyed) cl ∙ S.children-is (memberOf (a .keyed) (a .left) (a .row)) (a .row) (a .file .now) _ _ _ (sym (ap (told32 _) (c .before .before .before .before .before .before .before .before .before .before .n .given .1)) ∙ c .before .before .before .before .before .before .before .before .before .before .before .before .u32-at .ensures) ∙ w .2)
+
+list-returns-2 : (t : ℕ) → list-lts.Need-returns-2 (list-cs t) (list-at t) list.Post list-Inv-loop list-μ-loop
+list-returns-2 t c =
+    let a = c .before .before .before .before .before .before .before .before .before .before .before .before .before .before .before .before .before .before .before .before .args in
+    let cl = sym (c .before .before .before .before .before .before .before .before .before .before .before .before .before .before .before .before .before .class-if .ensures) ∙ ap toldStep (c .before .before .before .before .before .before .before .before .before .before .before .before .before .before .before .count .given .1) in
+    let w = turn-no (memberOf (a .keyed) (a .left) (a .row)) (a .file .now) (a .only) (a .table .now) _ (a .row + 1) _ (c .before .before .before .before .before .before .before .before .before .loop .inv) _ _ _ _ (c .before .before .before .before .before .before .before .before .loop-test .taken) (c .before .before .before .before .before .before .pair .ensures) (c .before .before .x2 .given .1) in
+    carry _ (c .refused-in3 .ensures) (done-no (S.holder-is (a .left) (a .row) (a .file .now) (a .at) (a .keyed) cl ∙ S.children-is (memberOf (a .keyed) (a .left) (a .row)) (a .row) (a .file .now) _ _ _ (sym (ap (told32 _) (c .before .before .before .before .before .before .before .before .before .before .before .n .given .1)) ∙ c .before .before .before .before .before .before .before .before .before .before .before .before .before .u32-at .ensures) ∙ w .2))
 
 list-enum-known-q : (t : ℕ) → list-lts.Need-enum-known-q (list-cs t) (list-at t) list.Post list-Inv-loop list-μ-loop
 list-enum-known-q t c = search needs
@@ -240,21 +257,32 @@ list-loop-again t c =
     let g = c .before .before .before .before .before .before .before .before .loop .inv in
     turn (memberOf (a .keyed) (a .left) (a .row)) (a .file .now) (a .only) (a .table .now) _ (a .row + 1) _ g _ _ _ _ (c .before .before .before .before .before .before .before .loop-test .taken) (reach (a .file .now) (S.member-rows (a .left) (a .row) (a .file .now) (a .at) (a .keyed) (omega (arith, c .before .before .before .before .before .before .before .before .before .before .before .before .before .before .before .before .before .before .before .pre .1 .levels)) _ _ (g .inside))) (c .before .before .before .before .before .pair .ensures) (c .before .q .given .1)
 
+list-refused-in-requires : (t : ℕ) → list-lts.Need-refused-in-requires (list-cs t) (list-at t) list.Post list-Inv-loop list-μ-loop
+list-refused-in-requires t c κs =
+    let a = c .before .before .before .before .before .before .args in
+    holder-cut (c .before .before .before .before .before .before .pre .1) (a .keyed) (S.holder-no (a .left) (a .row) (a .file .now) (a .at) (a .keyed) (sym (c .before .before .before .class-if .ensures) ∙ ap toldStep (c .before .x .given .1)))
+
 list-returns-3 : (t : ℕ) → list-lts.Need-returns-3 (list-cs t) (list-at t) list.Post list-Inv-loop list-μ-loop
 list-returns-3 t c =
-    let a = c .before .before .before .before .before .before .args in
-    done-no (S.holder-no (a .left) (a .row) (a .file .now) (a .at) (a .keyed) (sym (c .before .before .before .class-if .ensures) ∙ ap toldStep (c .before .x .given .1)))
+    let a = c .before .before .before .before .before .before .before .args in
+    carry _ (c .refused-in .ensures) (done-no (S.holder-no (a .left) (a .row) (a .file .now) (a .at) (a .keyed) (sym (c .before .before .before .before .class-if .ensures) ∙ ap toldStep (c .before .before .x .given .1))))
 
 list-same-length-2 : (t : ℕ) → list-lts.Need-same-length-2 (list-cs t) (list-at t) list.Post list-Inv-loop list-μ-loop
 list-same-length-2 t c =
+    let a = c .before .before .before .before .before .before .before .before .before .before .before .before .before .args in
+    going-length (memberOf (a .keyed) (a .left) (a .row)) (a .file .now) (a .only) (a .table .now) _ (a .row + 1) _ (c .before .before .loop .inv)
+
+list-next-in-requires : (t : ℕ) → list-lts.Need-next-in-requires (list-cs t) (list-at t) list.Post list-Inv-loop list-μ-loop
+list-next-in-requires t c κs =
     let a = c .before .before .before .before .before .before .before .before .before .before .before .before .args in
-    going-length (memberOf (a .keyed) (a .left) (a .row)) (a .file .now) (a .only) (a .table .now) _ (a .row + 1) _ (c .before .loop .inv)
+    let cl = sym (c .before .before .before .before .before .before .before .before .before .class-if .ensures) ∙ ap toldStep (c .before .before .before .before .before .before .before .count .given .1) in
+    holder-small (c .before .before .before .before .before .before .before .before .before .before .before .before .pre .1) (a .keyed) (done-eq (S.holder-is (a .left) (a .row) (a .file .now) (a .at) (a .keyed) cl ∙ S.children-is (memberOf (a .keyed) (a .left) (a .row)) (a .row) (a .file .now) _ _ _ (sym (ap (told32 _) (c .before .before .before .n .given .1)) ∙ c .before .before .before .before .before .u32-at .ensures)) (all-done (memberOf (a .keyed) (a .left) (a .row)) (a .file .now) (a .only) (a .table .now) _ (a .row + 1) _ (c .before .loop .inv) (c .loop-test .left)))
 
 list-returns-4 : (t : ℕ) → list-lts.Need-returns-4 (list-cs t) (list-at t) list.Post list-Inv-loop list-μ-loop
 list-returns-4 t c =
-    let a = c .before .before .before .before .before .before .before .before .before .before .before .before .args in
-    let cl = sym (c .before .before .before .before .before .before .before .before .before .class-if .ensures) ∙ ap toldStep (c .before .before .before .before .before .before .before .count .given .1) in
-    done-eq (S.holder-is (a .left) (a .row) (a .file .now) (a .at) (a .keyed) cl ∙ S.children-is (memberOf (a .keyed) (a .left) (a .row)) (a .row) (a .file .now) _ _ _ (sym (ap (told32 _) (c .before .before .before .n .given .1)) ∙ c .before .before .before .before .before .u32-at .ensures)) (all-done (memberOf (a .keyed) (a .left) (a .row)) (a .file .now) (a .only) (a .table .now) _ (a .row + 1) _ (c .before .loop .inv) (c .loop-test .left))
+    let a = c .before .before .before .before .before .before .before .before .before .before .before .before .before .args in
+    let cl = sym (c .before .before .before .before .before .before .before .before .before .before .class-if .ensures) ∙ ap toldStep (c .before .before .before .before .before .before .before .before .count .given .1) in
+    carry _ (c .next-in .ensures) (done-eq (S.holder-is (a .left) (a .row) (a .file .now) (a .at) (a .keyed) cl ∙ S.children-is (memberOf (a .keyed) (a .left) (a .row)) (a .row) (a .file .now) _ _ _ (sym (ap (told32 _) (c .before .before .before .before .n .given .1)) ∙ c .before .before .before .before .before .before .u32-at .ensures)) (all-done (memberOf (a .keyed) (a .left) (a .row)) (a .file .now) (a .only) (a .table .now) _ (a .row + 1) _ (c .before .before .loop .inv) (c .before .loop-test .left)))
 
 abbrev object-cs : ℕ → object-lts.Claims
 object-cs t = (list-below t, list.Post)
@@ -308,7 +336,7 @@ pair-returns-3 t c =
     done-eq (S.member-item (a .left) (a .parent) (a .row) (a .file .now) (a .at) (a .keyed) _ (c .before .before .before .before .before .before .before .before .if1 .left) (sym (c .before .before .before .before .before .before .before .key-if .ensures) ∙ ap toldStep (c .before .before .before .before .before .next .given .1))) (c .before .before .item .ensures)
 
 abbrev value-of-cs : ℕ → value-of-lts.Claims
-value-of-cs t = (begin-reads.Asked, begin-reads.Learnt, list-below t, list.Post, object-below t, object.Post, held-reads.Asked, held-reads.Learnt)
+value-of-cs t = (begin-reads.Asked, begin-reads.Learnt, list-below t, list.Post, unpack-reads.Asked, unpack-reads.Learnt, object-below t, object.Post, held-reads.Asked, held-reads.Learnt)
 
 value-of-begin-requires : (t : ℕ) → value-of-lts.Need-begin-requires (value-of-cs t) (value-of-at t) value-of.Post
 value-of-begin-requires t c κs = search needs
@@ -329,6 +357,9 @@ value-of-list-requires t c κs =
     let p = c .before .before .before .before .before .before .pre .1 in
     omega (arith, c .before .before .before .before .before .before .pre .0, p .size, p .levels, p .row, p .inside)
 
+value-of-unpack-requires : (t : ℕ) → value-of-lts.Need-unpack-requires (value-of-cs t) (value-of-at t) value-of.Post
+value-of-unpack-requires t c κs = search needs
+
 value-of-enum-told-2 : (t : ℕ) → value-of-lts.Need-enum-told-2 (value-of-cs t) (value-of-at t) value-of.Post
 value-of-enum-told-2 t c = search needs
 
@@ -336,6 +367,9 @@ value-of-object-requires : (t : ℕ) → value-of-lts.Need-object-requires (valu
 value-of-object-requires t c κs =
     let p = c .before .before .before .before .before .before .pre .1 in
     omega (arith, c .before .before .before .before .before .before .pre .0, p .size, p .levels, p .row, p .inside)
+
+value-of-unpack-requires-2 : (t : ℕ) → value-of-lts.Need-unpack-requires-2 (value-of-cs t) (value-of-at t) value-of.Post
+value-of-unpack-requires-2 t c κs = search needs
 
 value-of-enum-told-3 : (t : ℕ) → value-of-lts.Need-enum-told-3 (value-of-cs t) (value-of-at t) value-of.Post
 value-of-enum-told-3 t c = search needs
@@ -345,6 +379,9 @@ value-of-held-requires t c κs =
     let p = c .before .before .before .before .before .before .pre .1 in
     omega (arith, p .size, p .levels, p .row, p .inside)
 
+value-of-unpack-requires-3 : (t : ℕ) → value-of-lts.Need-unpack-requires-3 (value-of-cs t) (value-of-at t) value-of.Post
+value-of-unpack-requires-3 t c κs = search needs
+
 value-of-enum-told-4 : (t : ℕ) → value-of-lts.Need-enum-told-4 (value-of-cs t) (value-of-at t) value-of.Post
 value-of-enum-told-4 t c = search needs
 
@@ -353,11 +390,14 @@ value-of-held-requires-2 t c κs =
     let p = c .before .before .before .before .before .before .pre .1 in
     omega (arith, p .size, p .levels, p .row, p .inside)
 
+value-of-unpack-requires-4 : (t : ℕ) → value-of-lts.Need-unpack-requires-4 (value-of-cs t) (value-of-at t) value-of.Post
+value-of-unpack-requires-4 t c κs = search needs
+
 value-of-enum-told-5 : (t : ℕ) → value-of-lts.Need-enum-told-5 (value-of-cs t) (value-of-at t) value-of.Post
 value-of-enum-told-5 t c = search needs
 
-value-of-sub-t22 : (t : ℕ) → value-of-lts.Need-sub-t22 (value-of-cs t) (value-of-at t) value-of.Post
-value-of-sub-t22 t c = omega (arith, c .before .before .before .before .before .pre .1 .row)
+value-of-sub-t26 : (t : ℕ) → value-of-lts.Need-sub-t26 (value-of-cs t) (value-of-at t) value-of.Post
+value-of-sub-t26 t c = omega (arith, c .before .before .before .before .before .pre .1 .row)
 
 value-of-enum-known-x : (t : ℕ) → value-of-lts.Need-enum-known-x (value-of-cs t) (value-of-at t) value-of.Post
 value-of-enum-known-x t c = search needs
@@ -369,36 +409,36 @@ value-of-returns t c =
     leaf-done _ (S.value-is (a .left) (a .row) (a .kind) (a .file .now) (a .at) (leaf (k .0)) (k .1) ∙ then-to (k .0 (a .file .now) (a .at)) _ (k .2))
 
 value-of-same-length : (t : ℕ) → value-of-lts.Need-same-length (value-of-cs t) (value-of-at t) value-of.Post
-value-of-same-length t c = c .before .before .list .kept .1 .0
+value-of-same-length t c = c .before .before .before .list .kept .1 .0
 
 value-of-returns-2 : (t : ℕ) → value-of-lts.Need-returns-2 (value-of-cs t) (value-of-at t) value-of.Post
 value-of-returns-2 t c =
-    let a = c .before .before .before .before .before .before .before .before .before .args in
-    done-eq (S.value-is (a .left) (a .row) (a .kind) (a .file .now) (a .at) list-sort (S.begun-list (a .file .now) (a .at) _ (sym (c .before .before .before .before .before .before .begin .ensures) ∙ c .before .before .before .before .enum-told .given .1))) (c .before .before .list .ensures)
+    let a = c .before .before .before .before .before .before .before .before .before .before .args in
+    done-eq (S.value-is (a .left) (a .row) (a .kind) (a .file .now) (a .at) list-sort (S.begun-list (a .file .now) (a .at) _ (sym (c .before .before .before .before .before .before .before .begin .ensures) ∙ c .before .before .before .before .before .enum-told .given .1))) (taken _ (c .unpack .ensures) (c .before .before .before .list .ensures))
 
 value-of-same-length-2 : (t : ℕ) → value-of-lts.Need-same-length-2 (value-of-cs t) (value-of-at t) value-of.Post
-value-of-same-length-2 t c = c .before .before .object .kept .1 .0
+value-of-same-length-2 t c = c .before .before .before .object .kept .1 .0
 
 value-of-returns-3 : (t : ℕ) → value-of-lts.Need-returns-3 (value-of-cs t) (value-of-at t) value-of.Post
 value-of-returns-3 t c =
-    let a = c .before .before .before .before .before .before .before .before .before .args in
-    done-eq (S.value-is (a .left) (a .row) (a .kind) (a .file .now) (a .at) object-sort (S.begun-object (a .file .now) (a .at) _ (sym (c .before .before .before .before .before .before .begin .ensures) ∙ c .before .before .before .before .enum-told2 .given .1))) (c .before .before .object .ensures)
+    let a = c .before .before .before .before .before .before .before .before .before .before .args in
+    done-eq (S.value-is (a .left) (a .row) (a .kind) (a .file .now) (a .at) object-sort (S.begun-object (a .file .now) (a .at) _ (sym (c .before .before .before .before .before .before .before .begin .ensures) ∙ c .before .before .before .before .before .enum-told2 .given .1))) (taken _ (c .unpack2 .ensures) (c .before .before .before .object .ensures))
 
 value-of-same-length-3 : (t : ℕ) → value-of-lts.Need-same-length-3 (value-of-cs t) (value-of-at t) value-of.Post
-value-of-same-length-3 t c = c .before .before .held .kept .1 .0
+value-of-same-length-3 t c = c .before .before .before .held .kept .1 .0
 
 value-of-returns-4 : (t : ℕ) → value-of-lts.Need-returns-4 (value-of-cs t) (value-of-at t) value-of.Post
 value-of-returns-4 t c =
-    let a = c .before .before .before .before .before .before .before .before .before .args in
-    done-eq (S.value-is (a .left) (a .row) (a .kind) (a .file .now) (a .at) reference-sort (S.begun-reference (a .file .now) (a .at) _ (sym (c .before .before .before .before .before .before .begin .ensures) ∙ c .before .before .before .before .enum-told3 .given .1))) (c .before .before .held .ensures)
+    let a = c .before .before .before .before .before .before .before .before .before .before .args in
+    done-eq (S.value-is (a .left) (a .row) (a .kind) (a .file .now) (a .at) reference-sort (S.begun-reference (a .file .now) (a .at) _ (sym (c .before .before .before .before .before .before .before .begin .ensures) ∙ c .before .before .before .before .before .enum-told3 .given .1))) (taken _ (c .unpack3 .ensures) (c .before .before .before .held .ensures))
 
 value-of-same-length-4 : (t : ℕ) → value-of-lts.Need-same-length-4 (value-of-cs t) (value-of-at t) value-of.Post
-value-of-same-length-4 t c = c .before .before .held2 .kept .1 .0
+value-of-same-length-4 t c = c .before .before .before .held2 .kept .1 .0
 
 value-of-returns-5 : (t : ℕ) → value-of-lts.Need-returns-5 (value-of-cs t) (value-of-at t) value-of.Post
 value-of-returns-5 t c =
-    let a = c .before .before .before .before .before .before .before .before .before .args in
-    done-eq (S.value-is (a .left) (a .row) (a .kind) (a .file .now) (a .at) array-sort (S.begun-array (a .file .now) (a .at) _ (sym (c .before .before .before .before .before .before .begin .ensures) ∙ c .before .before .before .before .enum-told4 .given .1))) (c .before .before .held2 .ensures)
+    let a = c .before .before .before .before .before .before .before .before .before .before .args in
+    done-eq (S.value-is (a .left) (a .row) (a .kind) (a .file .now) (a .at) array-sort (S.begun-array (a .file .now) (a .at) _ (sym (c .before .before .before .before .before .before .before .begin .ensures) ∙ c .before .before .before .before .before .enum-told4 .given .1))) (taken _ (c .unpack4 .ensures) (c .before .before .before .held2 .ensures))
 
 value-of-returns-6 : (t : ℕ) → value-of-lts.Need-returns-6 (value-of-cs t) (value-of-at t) value-of.Post
 value-of-returns-6 t c =
@@ -438,21 +478,25 @@ pub +item+list+object+pair+value-of-spec : {M : Type 1} → statement M
     list-μ-loop
     (list-class-if-requires t)
     (list-enum-known-x t)
+    (list-refused-in-requires t)
     (list-enum-known-count t)
     (list-u32-at-requires t)
     (list-enum-known-n t)
     (list-enum-told t)
+    (list-refused-in-requires-2 t)
     (list-returns t)
     (list-add-child t)
     (list-loop-holds t)
     (list-pair-requires t)
     (list-enum-known-x-2 t)
+    (list-refused-in-requires-3 t)
     (list-same-length t)
     (list-returns-2 t)
     (list-enum-known-q t)
     (list-add-i t)
     (list-loop-less t)
     (list-loop-again t)
+    (list-next-in-requires t)
     (list-returns-3 t)
     (list-same-length-2 t)
     (list-returns-4 t))
@@ -481,14 +525,18 @@ pub +item+list+object+pair+value-of-spec : {M : Type 1} → statement M
     (value-of-add-t13 t)
     (value-of-enum-told t)
     (value-of-list-requires t)
+    (value-of-unpack-requires t)
     (value-of-enum-told-2 t)
     (value-of-object-requires t)
+    (value-of-unpack-requires-2 t)
     (value-of-enum-told-3 t)
     (value-of-held-requires t)
+    (value-of-unpack-requires-3 t)
     (value-of-enum-told-4 t)
     (value-of-held-requires-2 t)
+    (value-of-unpack-requires-4 t)
     (value-of-enum-told-5 t)
-    (value-of-sub-t22 t)
+    (value-of-sub-t26 t)
     (value-of-enum-known-x t)
     (value-of-returns t)
     (value-of-same-length t)
