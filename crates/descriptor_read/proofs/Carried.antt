@@ -41,10 +41,10 @@ refused-carried x p a b =
     refused-is (0x8000_0000_0000_0000 + x * 0x1_0000_0000 + p) (omega arith) ∙ ap₂ (λ (y z : ℕ). vw.Refused y z) e f
 
 -- what was done by an answer was done by the number that carries it
-pub carry : (n : ℕ) {only : ℕ} {w : Walk} {t u : List ℕ} {k : ℕ} {m : Res (List Row)} → carried n ≡ w → Done w only t u k m → Done (carried n) only t u k m
+pub carry : (n : ℕ) {from : ℕ} {w : Walk} {t u : List ℕ} {k : ℕ} {m : Res (List Row)} → carried n ≡ w → Done w from t u k m → Done (carried n) from t u k m
 carry n e d = record { answer = e ∙ d .answer; rows = d .rows }
 
-pub taken : (n : ℕ) {only : ℕ} {w : Walk} {t u : List ℕ} {k : ℕ} {m : Res (List Row)} → w ≡ carried n → Done (carried n) only t u k m → Done w only t u k m
+pub taken : (n : ℕ) {from : ℕ} {w : Walk} {t u : List ℕ} {k : ℕ} {m : Res (List Row)} → w ≡ carried n → Done (carried n) from t u k m → Done w from t u k m
 taken n e d = record { answer = e ∙ d .answer; rows = d .rows }
 
 -- places and row numbers in a file within the limit are small
@@ -72,9 +72,9 @@ module _ {s : List ℕ} {d k at : ℕ} (below : Below s d k at) where
   pub holder-cut : (b : Bool) {x p r f : ℕ} → holderOf b d k s at ≡ refuse x p r f → Small (vw.Refused x p)
   holder-cut b e = let i = refusal-placed (holder-placed b) e in (omega (arith, i .1, below .size), omega (arith, i .0 .most))
 
-  module _ {only : ℕ} {t u : List ℕ} {w : Walk} (b : Bool) where
-    pub holder-small : Done w only t u (k + 1) (holderOf b d k s at) → Small w
+  module _ {from : ℕ} {t u : List ℕ} {w : Walk} (b : Bool) where
+    pub holder-small : Done w from t u (k + 1) (holderOf b d k s at) → Small w
     holder-small h = subst Small (sym (h .answer)) (walked-small s at (k + 1) (holderOf b d k s at) (below .size) (omega (arith, below .row)) (holder-placed b) (holder-reach b))
 
-    pub held-small : Done w only t u (k + 1) (heldOf b d k s at) → Small w
+    pub held-small : Done w from t u (k + 1) (heldOf b d k s at) → Small w
     held-small h = subst Small (sym (h .answer)) (walked-small s at (k + 1) (heldOf b d k s at) (below .size) (omega (arith, below .row)) (held-placed b) (held-reach b))

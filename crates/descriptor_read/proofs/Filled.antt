@@ -17,7 +17,7 @@ use Rattle.descriptor_read.specs.declared.Walk.{Walk}
 use Rattle.descriptor_read.specs.Table.{numbers, putRow, putRows, Done}
 use Rattle.descriptor_read.specs.Answer.{accepted, refused, verdict}
 use Rattle.descriptor_read.specs.Filled.{filled}
-use Rattle.descriptor_read.proofs.Table.{length-putRow}
+use Rattle.descriptor_read.proofs.Table.{length-putRow, room}
 use Rattle.descriptor_read.proofs.Values.{accepted-rows, refused-by}
 
 drop-sets : (vs t : List ℕ) (i n : ℕ) → i + length vs ≤ n → drop n (sets t i vs) ≡ drop n t
@@ -25,8 +25,7 @@ drop-sets [] t i n h = refl
 drop-sets (v ∷ vs) t i n h = drop-sets vs (set t i v) (suc i) n (omega arith) ∙ drop-set-lt n t i v (omega arith)
 
 put-room : (t : List ℕ) (k : ℕ) (r : Row) → 5 * k + 5 ≤ length t → putRow 0 t k r ≡ sets t (5 * k) (numbers r)
-unfolding putRow
-put-room t k r h = rw (le-leb _ _ h)
+put-room t k r h = let e : k - 0 ≡ k = omega arith in room 0 t k r (omega arith) (omega arith) ∙ ap (λ (n : ℕ). sets t (5 * n) (numbers r)) e
 
 take-row : (t : List ℕ) (k : ℕ) (r : Row) → 5 * k + 5 ≤ length t → take (5 * (k + 1)) (putRow 0 t k r) ≡ take (5 * k) t ++ numbers r
 take-row t k r h =

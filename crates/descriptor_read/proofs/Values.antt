@@ -14,7 +14,7 @@ use Rattle.descriptor_read.specs.declared.Walk.{Walk}
 use Rattle.descriptor_read.specs.Table.{extent, putRow, putRows, Done}
 use Rattle.descriptor_read.specs.Answer.{accepted, refused as refusedIn, verdict}
 use Rattle.descriptor_read.specs.Values.{Found, found, missing, rowAt, rowIn, valueSize, is, refused, extentOf, lies, refusal, placeOf, valueIn}
-use Rattle.descriptor_read.proofs.Table.{not-only, three}
+use Rattle.descriptor_read.proofs.Table.{length-putRow, three, not-yet, no-room}
 
 -- ---- the verdict's case
 
@@ -28,24 +28,24 @@ refused-by (refuse y q r f) x p e = let a : y ≡ x = cc in let b : q ≡ p = cc
 
 -- ---- the row that is left in a table of three numbers
 
-only-none : (rs : List Row) (t : List ℕ) (j k : ℕ) → k < j → putRows (suc k) t j rs ≡ t
-only-none [] t j k h = refl
-only-none (r ∷ rs) t j k h =
-    let e : t ≡ putRow (suc k) t j r = not-only (suc k) t j r (λ z. let y : suc k ≡ 0 = z in omega arith) (λ z. let y : j ≡ suc k - 1 = z in omega arith) in
-    ap (λ (l : List ℕ). putRows (suc k) l (j + 1) rs) (sym e) ∙ only-none rs t (j + 1) k (omega arith)
+others-none : (rs : List Row) (t : List ℕ) (j k : ℕ) → k < j → length t < 5 → putRows k t j rs ≡ t
+others-none [] t j k h l = refl
+others-none (r ∷ rs) t j k h l =
+    let e : t ≡ putRow k t j r = no-room k t j r h (omega arith) in
+    ap (λ (u : List ℕ). putRows k u (j + 1) rs) (sym e) ∙ others-none rs t (j + 1) k (omega arith) l
 
 -- the row i of those from the number j on
-found-row : (rs : List Row) (x y z j i k : ℕ) → k ≡ j + i → i < length rs → (r : Row) × (rowAt i rs ≡ found r) × (putRows (suc k) (x ∷ y ∷ z ∷ []) j rs ≡ extent r)
+found-row : (rs : List Row) (x y z j i k : ℕ) → k ≡ j + i → i < length rs → (r : Row) × (rowAt i rs ≡ found r) × (putRows k (x ∷ y ∷ z ∷ []) j rs ≡ extent r)
 found-row [] x y z j i k h l = absurd (omega arith)
 found-row (r ∷ rs) x y z j zero k h l =
     let t : List ℕ = x ∷ y ∷ z ∷ [] in
-    let w : extent r ≡ putRow (suc k) t j r = three (suc k) t j r (λ e. let g : suc k ≡ 0 = e in omega arith) (omega arith) (omega arith) (valueSize r) refl in
-    (r, refl, only-none rs (putRow (suc k) t j r) (j + 1) k (omega arith) ∙ sym w)
+    let w : extent r ≡ putRow k t j r = three k t j r (omega arith) (omega arith) (omega arith) (valueSize r) refl in
+    (r, refl, others-none rs (putRow k t j r) (j + 1) k (omega arith) (omega (arith, length-putRow k t j r)) ∙ sym w)
 found-row (r ∷ rs) x y z j (suc i) k h l =
     let t : List ℕ = x ∷ y ∷ z ∷ [] in
-    let e : t ≡ putRow (suc k) t j r = not-only (suc k) t j r (λ w. let g : suc k ≡ 0 = w in omega arith) (λ w. let g : j ≡ suc k - 1 = w in omega arith) in
+    let e : t ≡ putRow k t j r = not-yet k t j r (omega arith) in
     let ih = found-row rs x y z (j + 1) i k (omega arith) (omega arith) in
-    (ih .0, ih .1, ap (λ (l : List ℕ). putRows (suc k) l (j + 1) rs) (sym e) ∙ ih .2)
+    (ih .0, ih .1, ap (λ (u : List ℕ). putRows k u (j + 1) rs) (sym e) ∙ ih .2)
 
 no-row : (rs : List Row) (k : ℕ) → length rs ≤ k → rowAt k rs ≡ missing 12 0
 no-row [] k h = refl
@@ -72,15 +72,14 @@ module _ (s : List ℕ) (k : ℕ) where
         let b : 0 + 5 * length (m .0) ≤ length s = five-each (rows-laid s (m .0) (m .1) (m .2) .tiled) in
         omega (arith, m .3)
 
-    pub row-found : k < n → (o : ℕ) → o ≡ k + 1 → (w : Walk) (u : List ℕ) → Done w o (0 ∷ 0 ∷ 0 ∷ []) u 0 (root s 0)
+    pub row-found : k < n → (w : Walk) (u : List ℕ) → Done w k (0 ∷ 0 ∷ 0 ∷ []) u 0 (root s 0)
         → (a b : ℕ) → a ≡ getD u 1 0 → b ≡ getD u 2 0 → is (getD u 0 0) a b ≡ extentOf (rowIn k (descriptor s))
-    row-found h o g w u d a b x y =
+    row-found h w u d a b x y =
         let m = accepted-rows (descriptor s) n e in
         let t = of-root s (m .0) (m .1) (m .2) in
         let z : k ≡ 0 + k = omega arith in
         let f = found-row (m .0) 0 0 0 0 k k z (omega (arith, m .3)) in
-        let c : o ≡ suc k = omega arith in
-        let v : u ≡ extent (f .0) = d .rows (m .0) (m .1) (t .1) ∙ ap (λ (i : ℕ). putRows i (0 ∷ 0 ∷ 0 ∷ []) 0 (m .0)) c ∙ f .2 in
+        let v : u ≡ extent (f .0) = d .rows (m .0) (m .1) (t .1) ∙ f .2 in
         ap (λ (i : ℕ). is (getD u 0 0) i b) x ∙ ap (λ (i : ℕ). is (getD u 0 0) (getD u 1 0) i) y ∙ ap (λ (l : List ℕ). is (getD l 0 0) (getD l 1 0) (getD l 2 0)) v
         ∙ sym (ap extentOf (ap (rowIn k) (m .2) ∙ f .1))
 

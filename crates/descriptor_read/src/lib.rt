@@ -118,12 +118,12 @@ fn unpack(n: u64) -> Walk
     Walk::Next(low, (n / 0x1_0000_0000) as usize)
 }
 
-// The row of a member that ends at `end`, with `left` levels below it, where the table has room for
-// it. With `only` 0 every row is written; else only the row `only` - 1, by its kind, where its value
-// begins, and its value's length.
+// The row of a member that ends at `end`, with `left` levels below it, in a table of the rows from
+// the number `base` on, where it has room for it; a table with room for no row takes the row `base`
+// by its kind, where its value begins, and its value's length.
 fn put_row(
     table: &mut [u32],
-    only: usize,
+    base: usize,
     row: usize,
     kind: u32,
     parent: usize,
@@ -133,20 +133,21 @@ fn put_row(
     value: usize,
 )
     requires { ⌜ (row ≤ 16777216) × (parent ≤ row) × (first ≤ value) × (value ≤ end) × (end ≤ 16777216) × (left ≤ 32) ⌝ }
-    ensures { λ _. ⌜ now (table .exit) ≡ putRow only (now (table .entry)) row (record { kind = kind; parent = parent; first = first; size = end - first; depth = 32 - left; value = value }) ⌝ }
+    ensures { λ _. ⌜ now (table .exit) ≡ putRow base (now (table .entry)) row (record { kind = kind; parent = parent; first = first; size = end - first; depth = 32 - left; value = value }) ⌝ }
 {
-    if only == 0 {
-        let b = 5 * row;
-        if b + 5 <= table.len() {
-            table[b] = kind;
-            table[b + 1] = parent as u32;
-            table[b + 2] = first as u32;
-            table[b + 3] = (end - first) as u32;
-            table[b + 4] = (32 - left) as u32;
-        }
+    if row < base {
         return;
     }
-    if row == only - 1 {
+    let b = 5 * (row - base);
+    if b + 5 <= table.len() {
+        table[b] = kind;
+        table[b + 1] = parent as u32;
+        table[b + 2] = first as u32;
+        table[b + 3] = (end - first) as u32;
+        table[b + 4] = (32 - left) as u32;
+        return;
+    }
+    if row == base {
         if 3 <= table.len() {
             table[0] = kind;
             table[1] = value as u32;
@@ -159,14 +160,14 @@ fn put_row(
 fn ref_item(
     file: &[u8],
     table: &mut [u32],
-    only: usize,
+    base: usize,
     left: usize,
     parent: usize,
     row: usize,
     at: usize,
 ) -> Walk
     requires { ⌜ Within (now file) left parent row at at ⌝ }
-    ensures { λ r. ⌜ Done r only (now (table .entry)) (now (table .exit)) row (refItem left parent row (now (file .entry)) at) ⌝ }
+    ensures { λ r. ⌜ Done r base (now (table .entry)) (now (table .exit)) row (refItem left parent row (now (file .entry)) at) ⌝ }
 {
     if left == 0 {
         return Walk::Refused(10, at);
@@ -180,7 +181,7 @@ fn ref_item(
     match descriptor::ref_value_at(file, form, value) {
         Step::Refused(x, p) => Walk::Refused(x, p),
         Step::Next(end) => {
-            put_row(table, only, row, kind, parent, at, end, left - 1, value);
+            put_row(table, base, row, kind, parent, at, end, left - 1, value);
             Walk::Next(end, row + 1)
         }
     }
@@ -190,7 +191,7 @@ fn ref_item(
 fn array_pair(
     file: &[u8],
     table: &mut [u32],
-    only: usize,
+    base: usize,
     objects: u32,
     left: usize,
     parent: usize,
@@ -198,7 +199,7 @@ fn array_pair(
     at: usize,
 ) -> Walk
     requires { ⌜ Within (now file) left parent row at at ⌝ }
-    ensures { λ r. ⌜ Done r only (now (table .entry)) (now (table .exit)) row (arrayPair objects left parent row (now (file .entry)) at) ⌝ }
+    ensures { λ r. ⌜ Done r base (now (table .entry)) (now (table .exit)) row (arrayPair objects left parent row (now (file .entry)) at) ⌝ }
 {
     if left == 0 {
         return Walk::Refused(10, at);
@@ -215,7 +216,7 @@ fn array_pair(
             match descriptor::column_at(file, objects, value) {
                 Step::Refused(x, p) => Walk::Refused(x, p),
                 Step::Next(end) => {
-                    put_row(table, only, row, kind, parent, at, end, left - 1, value);
+                    put_row(table, base, row, kind, parent, at, end, left - 1, value);
                     Walk::Next(end, row + 1)
                 }
             }
@@ -229,13 +230,13 @@ fn array_pair(
 fn reference(
     file: &[u8],
     table: &mut [u32],
-    only: usize,
+    base: usize,
     left: usize,
     row: usize,
     at: usize,
 ) -> Walk
     requires { ⌜ Below (now file) left row at ⌝ }
-    ensures { λ r. ⌜ Done r only (now (table .entry)) (now (table .exit)) (row + 1) (referenceOf left row (now (file .entry)) at) ⌝ }
+    ensures { λ r. ⌜ Done r base (now (table .entry)) (now (table .exit)) (row + 1) (referenceOf left row (now (file .entry)) at) ⌝ }
 {
     let Number32::Is(n, from) = fields::u32_at(file, at) else {
         return Walk::Refused(2, at);
@@ -244,7 +245,7 @@ fn reference(
     let mut child = row + 1;
     let mut i: u32 = 0;
     while i < n {
-        match ref_item(file, table, only, left, row, child, next) {
+        match ref_item(file, table, base, left, row, child, next) {
             Walk::Refused(x, p) => {
                 return Walk::Refused(x, p);
             }
@@ -262,14 +263,14 @@ fn reference(
 fn array_pairs(
     file: &[u8],
     table: &mut [u32],
-    only: usize,
+    base: usize,
     objects: u32,
     left: usize,
     row: usize,
     at: usize,
 ) -> Walk
     requires { ⌜ Below (now file) left row at ⌝ }
-    ensures { λ r. ⌜ Done r only (now (table .entry)) (now (table .exit)) (row + 1) (children (arrayPair objects left row) row (now (file .entry)) at) ⌝ }
+    ensures { λ r. ⌜ Done r base (now (table .entry)) (now (table .exit)) (row + 1) (children (arrayPair objects left row) row (now (file .entry)) at) ⌝ }
 {
     let Number32::Is(n, from) = fields::u32_at(file, at) else {
         return Walk::Refused(2, at);
@@ -278,7 +279,7 @@ fn array_pairs(
     let mut child = row + 1;
     let mut i: u32 = 0;
     while i < n {
-        match array_pair(file, table, only, objects, left, row, child, next) {
+        match array_pair(file, table, base, objects, left, row, child, next) {
             Walk::Refused(x, p) => {
                 return Walk::Refused(x, p);
             }
@@ -293,16 +294,16 @@ fn array_pairs(
 }
 
 // An object array, from its number of objects on.
-fn array(file: &[u8], table: &mut [u32], only: usize, left: usize, row: usize, at: usize) -> Walk
+fn array(file: &[u8], table: &mut [u32], base: usize, left: usize, row: usize, at: usize) -> Walk
     requires { ⌜ Below (now file) left row at ⌝ }
-    ensures { λ r. ⌜ Done r only (now (table .entry)) (now (table .exit)) (row + 1) (arrayOf left row (now (file .entry)) at) ⌝ }
+    ensures { λ r. ⌜ Done r base (now (table .entry)) (now (table .exit)) (row + 1) (arrayOf left row (now (file .entry)) at) ⌝ }
 {
     let Number32::Is(objects, class) = fields::u32_at(file, at) else {
         return Walk::Refused(2, at);
     };
     match descriptor::class_at(file, class) {
         Step::Refused(x, p) => Walk::Refused(x, p),
-        Step::Next(pairs) => array_pairs(file, table, only, objects, left, row, pairs),
+        Step::Next(pairs) => array_pairs(file, table, base, objects, left, row, pairs),
     }
 }
 
@@ -313,19 +314,19 @@ fn array(file: &[u8], table: &mut [u32], only: usize, left: usize, row: usize, a
 fn held(
     file: &[u8],
     table: &mut [u32],
-    only: usize,
+    base: usize,
     columns: bool,
     left: usize,
     row: usize,
     at: usize,
 ) -> u64
     requires { ⌜ Below (now file) left row at ⌝ }
-    ensures { λ r. ⌜ Done (carried r) only (now (table .entry)) (now (table .exit)) (row + 1) (heldOf columns left row (now (file .entry)) at) ⌝ }
+    ensures { λ r. ⌜ Done (carried r) base (now (table .entry)) (now (table .exit)) (row + 1) (heldOf columns left row (now (file .entry)) at) ⌝ }
 {
     if columns {
-        return carry(array(file, table, only, left, row, at));
+        return carry(array(file, table, base, left, row, at));
     }
-    carry(reference(file, table, only, left, row, at))
+    carry(reference(file, table, base, left, row, at))
 }
 
 // A class, where there is one.
@@ -352,7 +353,7 @@ fn key_if(file: &[u8], there: bool, at: usize) -> Step
 fn item(
     file: &[u8],
     table: &mut [u32],
-    only: usize,
+    base: usize,
     left: usize,
     parent: usize,
     row: usize,
@@ -360,7 +361,7 @@ fn item(
     at: usize,
 ) -> Walk
     requires { ⌜ Within (now file) left parent row first at ⌝ }
-    ensures { λ r. ⌜ Done r only (now (table .entry)) (now (table .exit)) row (item left parent row first (now (file .entry)) at) ⌝ }
+    ensures { λ r. ⌜ Done r base (now (table .entry)) (now (table .exit)) row (item left parent row first (now (file .entry)) at) ⌝ }
 {
     if left == 0 {
         return Walk::Refused(10, first);
@@ -368,10 +369,10 @@ fn item(
     let Number32::Is(kind, value) = fields::u32_at(file, at) else {
         return Walk::Refused(2, at);
     };
-    match value_of(file, table, only, kind, left - 1, row, value) {
+    match value_of(file, table, base, kind, left - 1, row, value) {
         Walk::Refused(x, p) => Walk::Refused(x, p),
         Walk::Next(end, k) => {
-            put_row(table, only, row, kind, parent, first, end, left - 1, value);
+            put_row(table, base, row, kind, parent, first, end, left - 1, value);
             Walk::Next(end, k)
         }
     }
@@ -381,21 +382,21 @@ fn item(
 fn value_of(
     file: &[u8],
     table: &mut [u32],
-    only: usize,
+    base: usize,
     kind: u32,
     left: usize,
     row: usize,
     at: usize,
 ) -> Walk
     requires { ⌜ Below (now file) left row at ⌝ }
-    ensures { λ r. ⌜ Done r only (now (table .entry)) (now (table .exit)) (row + 1) (valued left row kind (now (file .entry)) at) ⌝ }
+    ensures { λ r. ⌜ Done r base (now (table .entry)) (now (table .exit)) (row + 1) (valued left row kind (now (file .entry)) at) ⌝ }
 {
     match descriptor::begin(file, kind, at) {
         Value::Ends(end) => Walk::Next(end, row + 1),
-        Value::List => unpack(list(file, table, only, false, left, row, at)),
-        Value::Object => unpack(object(file, table, only, left, row, at)),
-        Value::Reference => unpack(held(file, table, only, false, left, row, at)),
-        Value::Array => unpack(held(file, table, only, true, left, row, at)),
+        Value::List => unpack(list(file, table, base, false, left, row, at)),
+        Value::Object => unpack(object(file, table, base, left, row, at)),
+        Value::Reference => unpack(held(file, table, base, false, left, row, at)),
+        Value::Array => unpack(held(file, table, base, true, left, row, at)),
         Value::Unknown => Walk::Refused(4, at - 4),
         Value::Refused(x, p) => Walk::Refused(x, p),
     }
@@ -405,14 +406,14 @@ fn value_of(
 fn list(
     file: &[u8],
     table: &mut [u32],
-    only: usize,
+    base: usize,
     keyed: bool,
     left: usize,
     row: usize,
     at: usize,
 ) -> u64
     requires { ⌜ Below (now file) left row at ⌝ }
-    ensures { λ r. ⌜ Done (carried r) only (now (table .entry)) (now (table .exit)) (row + 1) (holderOf keyed left row (now (file .entry)) at) ⌝ }
+    ensures { λ r. ⌜ Done (carried r) base (now (table .entry)) (now (table .exit)) (row + 1) (holderOf keyed left row (now (file .entry)) at) ⌝ }
 {
     match class_if(file, keyed, at) {
         Step::Refused(x, p) => refused_in(x, p),
@@ -424,7 +425,7 @@ fn list(
             let mut child = row + 1;
             let mut i: u32 = 0;
             while i < n {
-                match pair(file, table, only, keyed, left, row, child, next) {
+                match pair(file, table, base, keyed, left, row, child, next) {
                     Walk::Refused(x, p) => {
                         return refused_in(x, p);
                     }
@@ -441,18 +442,18 @@ fn list(
 }
 
 // An object, from its class on.
-fn object(file: &[u8], table: &mut [u32], only: usize, left: usize, row: usize, at: usize) -> u64
+fn object(file: &[u8], table: &mut [u32], base: usize, left: usize, row: usize, at: usize) -> u64
     requires { ⌜ Below (now file) left row at ⌝ }
-    ensures { λ r. ⌜ Done (carried r) only (now (table .entry)) (now (table .exit)) (row + 1) (objectOf (item left) left row (now (file .entry)) at) ⌝ }
+    ensures { λ r. ⌜ Done (carried r) base (now (table .entry)) (now (table .exit)) (row + 1) (objectOf (item left) left row (now (file .entry)) at) ⌝ }
 {
-    list(file, table, only, true, left, row, at)
+    list(file, table, base, true, left, row, at)
 }
 
 // A key and an item; in a list, where there is no key, an item.
 fn pair(
     file: &[u8],
     table: &mut [u32],
-    only: usize,
+    base: usize,
     keyed: bool,
     left: usize,
     parent: usize,
@@ -460,23 +461,23 @@ fn pair(
     at: usize,
 ) -> Walk
     requires { ⌜ Within (now file) left parent row at at ⌝ }
-    ensures { λ r. ⌜ Done r only (now (table .entry)) (now (table .exit)) row (memberOf keyed left parent row (now (file .entry)) at) ⌝ }
+    ensures { λ r. ⌜ Done r base (now (table .entry)) (now (table .exit)) row (memberOf keyed left parent row (now (file .entry)) at) ⌝ }
 {
     if left == 0 {
         return Walk::Refused(10, at);
     }
     match key_if(file, keyed, at) {
         Step::Refused(x, p) => Walk::Refused(x, p),
-        Step::Next(next) => item(file, table, only, left, parent, row, at, next),
+        Step::Next(next) => item(file, table, base, left, parent, row, at, next),
     }
 }
 
 // ---- the file
 
 // Version 16, and the root object.
-fn root(file: &[u8], table: &mut [u32], only: usize) -> Walk
+fn root(file: &[u8], table: &mut [u32], base: usize) -> Walk
     requires { ⌜ length (now file) ≤ 16777216 ⌝ }
-    ensures { λ r. ⌜ Done r only (now (table .entry)) (now (table .exit)) 0 (root (now (file .entry)) 0) ⌝ }
+    ensures { λ r. ⌜ Done r base (now (table .entry)) (now (table .exit)) 0 (root (now (file .entry)) 0) ⌝ }
 {
     let Number32::Is(version, value) = fields::u32_at(file, 0) else {
         return Walk::Refused(2, 0);
@@ -484,10 +485,10 @@ fn root(file: &[u8], table: &mut [u32], only: usize) -> Walk
     if version != 16 {
         return Walk::Refused(3, 0);
     }
-    match unpack(object(file, table, only, 32, 0, value)) {
+    match unpack(object(file, table, base, 32, 0, value)) {
         Walk::Refused(x, p) => Walk::Refused(x, p),
         Walk::Next(end, rows) => {
-            put_row(table, only, 0, descriptor::OBJECT, 0, 0, end, 32, value);
+            put_row(table, base, 0, descriptor::OBJECT, 0, 0, end, 32, value);
             Walk::Next(end, rows)
         }
     }
@@ -522,7 +523,7 @@ pub fn judge(file: &[u8]) -> Answer
         };
     }
     let mut none = [0u32; 1];
-    let walk = root(file, &mut none[..0], 0);
+    let walk = root(file, &mut none[..0], LIMIT);
     ended(walk, file.len())
 }
 
@@ -538,7 +539,7 @@ pub fn read(file: &[u8], table: &mut [u32]) -> Answer
         };
     }
     let from = table.len();
-    let walk = root(file, &mut table[from..], 0);
+    let walk = root(file, &mut table[from..], LIMIT);
     match ended(walk, file.len()) {
         Answer::Refused { number, place } => Answer::Refused { number, place },
         Answer::Accepted { rows } => {
@@ -567,7 +568,7 @@ fn extent_at(file: &[u8], row: usize) -> Extent
                 return Extent::Refused(12, 0);
             }
             let mut t = [0u32; 3];
-            root(file, &mut t, row + 1);
+            root(file, &mut t, row);
             Extent::Is(t[0], fields::wide(t[1]), fields::wide(t[2]))
         }
     }

@@ -164,10 +164,10 @@ abbrev list-cs : ℕ → list-lts.Claims
 list-cs t = (class-if-reads.Asked, class-if-reads.Learnt, refused-in-reads.Asked, refused-in-reads.Learnt, u32-at-reads.Asked, u32-at-reads.Learnt, pair-below t, pair.Post, next-in-reads.Asked, next-in-reads.Learnt)
 
 abbrev list-Inv-loop : list-lts.InvT-loop
-list-Inv-loop file table₀ only keyed left row at count n from next₀ child₀ i₀ table next child i = Going (memberOf keyed left row) file only table₀ n (row + 1) from table next child i
+list-Inv-loop file table₀ base keyed left row at count n from next₀ child₀ i₀ table next child i = Going (memberOf keyed left row) file base table₀ n (row + 1) from table next child i
 
 abbrev list-μ-loop : list-lts.MeasureT-loop
-list-μ-loop file table₀ only keyed left row at count n from next₀ child₀ i₀ table next child i = n - i
+list-μ-loop file table₀ base keyed left row at count n from next₀ child₀ i₀ table next child i = n - i
 
 list-class-if-requires : (t : ℕ) → list-lts.Need-class-if-requires (list-cs t) (list-at t) list.Post list-Inv-loop list-μ-loop
 list-class-if-requires t c κs = search needs
@@ -209,7 +209,7 @@ list-loop-holds t c =
     let a = c .before .before .before .before .before .before .before .before .before .before .args in
     let w = accepted (S.holder-past (a .left) (a .row) (a .file .now) (a .at) (a .keyed) (c .before .before .before .before .before .before .before .before .before .before .pre .1 .inside)) _ _ (sym (c .before .before .before .before .before .before .before .class-if .ensures) ∙ ap toldStep (c .before .before .before .before .before .count .given .1)) in
     let h = field-next 4 (a .file .now) _ _ _ (sym (ap (told32 _) (c .before .n .given .1)) ∙ c .before .before .before .u32-at .ensures) in
-    going-start (memberOf (a .keyed) (a .left) (a .row)) (a .file .now) (a .only) (a .table .now) _ (a .row + 1) _ (omega (arith, w .high))
+    going-start (memberOf (a .keyed) (a .left) (a .row)) (a .file .now) (a .base) (a .table .now) _ (a .row + 1) _ (omega (arith, w .high))
 
 list-pair-requires : (t : ℕ) → list-lts.Need-pair-requires (list-cs t) (list-at t) list.Post list-Inv-loop list-μ-loop
 list-pair-requires t c κs =
@@ -226,20 +226,20 @@ list-enum-known-x-2 t c = search needs
 list-same-length : (t : ℕ) → list-lts.Need-same-length (list-cs t) (list-at t) list.Post list-Inv-loop list-μ-loop
 list-same-length t c =
     let a = c .before .before .before .before .before .before .before .before .before .before .before .before .before .before .before .before .before .before .before .before .args in
-    c .before .before .before .before .before .before .pair .kept .1 .0 ∙ going-length (memberOf (a .keyed) (a .left) (a .row)) (a .file .now) (a .only) (a .table .now) _ (a .row + 1) _ (c .before .before .before .before .before .before .before .before .before .loop .inv)
+    c .before .before .before .before .before .before .pair .kept .1 .0 ∙ going-length (memberOf (a .keyed) (a .left) (a .row)) (a .file .now) (a .base) (a .table .now) _ (a .row + 1) _ (c .before .before .before .before .before .before .before .before .before .loop .inv)
 
 list-refused-in-requires-3 : (t : ℕ) → list-lts.Need-refused-in-requires-3 (list-cs t) (list-at t) list.Post list-Inv-loop list-μ-loop
 list-refused-in-requires-3 t c κs =
     let a = c .before .before .before .before .before .before .before .before .before .before .before .before .before .before .before .before .before .before .before .args in
     let cl = sym (c .before .before .before .before .before .before .before .before .before .before .before .before .before .before .before .before .class-if .ensures) ∙ ap toldStep (c .before .before .before .before .before .before .before .before .before .before .before .before .before .before .count .given .1) in
-    let w = turn-no (memberOf (a .keyed) (a .left) (a .row)) (a .file .now) (a .only) (a .table .now) _ (a .row + 1) _ (c .before .before .before .before .before .before .before .before .loop .inv) _ _ _ _ (c .before .before .before .before .before .before .before .loop-test .taken) (c .before .before .before .before .before .pair .ensures) (c .before .x2 .given .1) in
+    let w = turn-no (memberOf (a .keyed) (a .left) (a .row)) (a .file .now) (a .base) (a .table .now) _ (a .row + 1) _ (c .before .before .before .before .before .before .before .before .loop .inv) _ _ _ _ (c .before .before .before .before .before .before .before .loop-test .taken) (c .before .before .before .before .before .pair .ensures) (c .before .x2 .given .1) in
     holder-cut (c .before .before .before .before .before .before .before .before .before .before .before .before .before .before .before .before .before .before .before .pre .1) (a .keyed) (S.holder-is (a .left) (a .row) (a .file .now) (a .at) (a .keyed) cl ∙ S.children-is (memberOf (a .keyed) (a .left) (a .row)) (a .row) (a .file .now) _ _ _ (sym (ap (told32 _) (c .before .before .before .before .before .before .before .before .before .before .n .given .1)) ∙ c .before .before .before .before .before .before .before .before .before .before .before .before .u32-at .ensures) ∙ w .2)
 
 list-returns-2 : (t : ℕ) → list-lts.Need-returns-2 (list-cs t) (list-at t) list.Post list-Inv-loop list-μ-loop
 list-returns-2 t c =
     let a = c .before .before .before .before .before .before .before .before .before .before .before .before .before .before .before .before .before .before .before .before .args in
     let cl = sym (c .before .before .before .before .before .before .before .before .before .before .before .before .before .before .before .before .before .class-if .ensures) ∙ ap toldStep (c .before .before .before .before .before .before .before .before .before .before .before .before .before .before .before .count .given .1) in
-    let w = turn-no (memberOf (a .keyed) (a .left) (a .row)) (a .file .now) (a .only) (a .table .now) _ (a .row + 1) _ (c .before .before .before .before .before .before .before .before .before .loop .inv) _ _ _ _ (c .before .before .before .before .before .before .before .before .loop-test .taken) (c .before .before .before .before .before .before .pair .ensures) (c .before .before .x2 .given .1) in
+    let w = turn-no (memberOf (a .keyed) (a .left) (a .row)) (a .file .now) (a .base) (a .table .now) _ (a .row + 1) _ (c .before .before .before .before .before .before .before .before .before .loop .inv) _ _ _ _ (c .before .before .before .before .before .before .before .before .loop-test .taken) (c .before .before .before .before .before .before .pair .ensures) (c .before .before .x2 .given .1) in
     carry _ (c .refused-in3 .ensures) (done-no (S.holder-is (a .left) (a .row) (a .file .now) (a .at) (a .keyed) cl ∙ S.children-is (memberOf (a .keyed) (a .left) (a .row)) (a .row) (a .file .now) _ _ _ (sym (ap (told32 _) (c .before .before .before .before .before .before .before .before .before .before .before .n .given .1)) ∙ c .before .before .before .before .before .before .before .before .before .before .before .before .before .u32-at .ensures) ∙ w .2))
 
 list-enum-known-q : (t : ℕ) → list-lts.Need-enum-known-q (list-cs t) (list-at t) list.Post list-Inv-loop list-μ-loop
@@ -255,7 +255,7 @@ list-loop-again : (t : ℕ) → list-lts.Need-loop-again (list-cs t) (list-at t)
 list-loop-again t c =
     let a = c .before .before .before .before .before .before .before .before .before .before .before .before .before .before .before .before .before .before .before .args in
     let g = c .before .before .before .before .before .before .before .before .loop .inv in
-    turn (memberOf (a .keyed) (a .left) (a .row)) (a .file .now) (a .only) (a .table .now) _ (a .row + 1) _ g _ _ _ _ (c .before .before .before .before .before .before .before .loop-test .taken) (reach (a .file .now) (S.member-rows (a .left) (a .row) (a .file .now) (a .at) (a .keyed) (omega (arith, c .before .before .before .before .before .before .before .before .before .before .before .before .before .before .before .before .before .before .before .pre .1 .levels)) _ _ (g .inside))) (c .before .before .before .before .before .pair .ensures) (c .before .q .given .1)
+    turn (memberOf (a .keyed) (a .left) (a .row)) (a .file .now) (a .base) (a .table .now) _ (a .row + 1) _ g _ _ _ _ (c .before .before .before .before .before .before .before .loop-test .taken) (reach (a .file .now) (S.member-rows (a .left) (a .row) (a .file .now) (a .at) (a .keyed) (omega (arith, c .before .before .before .before .before .before .before .before .before .before .before .before .before .before .before .before .before .before .before .pre .1 .levels)) _ _ (g .inside))) (c .before .before .before .before .before .pair .ensures) (c .before .q .given .1)
 
 list-refused-in-requires : (t : ℕ) → list-lts.Need-refused-in-requires (list-cs t) (list-at t) list.Post list-Inv-loop list-μ-loop
 list-refused-in-requires t c κs =
@@ -270,19 +270,19 @@ list-returns-3 t c =
 list-same-length-2 : (t : ℕ) → list-lts.Need-same-length-2 (list-cs t) (list-at t) list.Post list-Inv-loop list-μ-loop
 list-same-length-2 t c =
     let a = c .before .before .before .before .before .before .before .before .before .before .before .before .before .args in
-    going-length (memberOf (a .keyed) (a .left) (a .row)) (a .file .now) (a .only) (a .table .now) _ (a .row + 1) _ (c .before .before .loop .inv)
+    going-length (memberOf (a .keyed) (a .left) (a .row)) (a .file .now) (a .base) (a .table .now) _ (a .row + 1) _ (c .before .before .loop .inv)
 
 list-next-in-requires : (t : ℕ) → list-lts.Need-next-in-requires (list-cs t) (list-at t) list.Post list-Inv-loop list-μ-loop
 list-next-in-requires t c κs =
     let a = c .before .before .before .before .before .before .before .before .before .before .before .before .args in
     let cl = sym (c .before .before .before .before .before .before .before .before .before .class-if .ensures) ∙ ap toldStep (c .before .before .before .before .before .before .before .count .given .1) in
-    holder-small (c .before .before .before .before .before .before .before .before .before .before .before .before .pre .1) (a .keyed) (done-eq (S.holder-is (a .left) (a .row) (a .file .now) (a .at) (a .keyed) cl ∙ S.children-is (memberOf (a .keyed) (a .left) (a .row)) (a .row) (a .file .now) _ _ _ (sym (ap (told32 _) (c .before .before .before .n .given .1)) ∙ c .before .before .before .before .before .u32-at .ensures)) (all-done (memberOf (a .keyed) (a .left) (a .row)) (a .file .now) (a .only) (a .table .now) _ (a .row + 1) _ (c .before .loop .inv) (c .loop-test .left)))
+    holder-small (c .before .before .before .before .before .before .before .before .before .before .before .before .pre .1) (a .keyed) (done-eq (S.holder-is (a .left) (a .row) (a .file .now) (a .at) (a .keyed) cl ∙ S.children-is (memberOf (a .keyed) (a .left) (a .row)) (a .row) (a .file .now) _ _ _ (sym (ap (told32 _) (c .before .before .before .n .given .1)) ∙ c .before .before .before .before .before .u32-at .ensures)) (all-done (memberOf (a .keyed) (a .left) (a .row)) (a .file .now) (a .base) (a .table .now) _ (a .row + 1) _ (c .before .loop .inv) (c .loop-test .left)))
 
 list-returns-4 : (t : ℕ) → list-lts.Need-returns-4 (list-cs t) (list-at t) list.Post list-Inv-loop list-μ-loop
 list-returns-4 t c =
     let a = c .before .before .before .before .before .before .before .before .before .before .before .before .before .args in
     let cl = sym (c .before .before .before .before .before .before .before .before .before .before .class-if .ensures) ∙ ap toldStep (c .before .before .before .before .before .before .before .before .count .given .1) in
-    carry _ (c .next-in .ensures) (done-eq (S.holder-is (a .left) (a .row) (a .file .now) (a .at) (a .keyed) cl ∙ S.children-is (memberOf (a .keyed) (a .left) (a .row)) (a .row) (a .file .now) _ _ _ (sym (ap (told32 _) (c .before .before .before .before .n .given .1)) ∙ c .before .before .before .before .before .before .u32-at .ensures)) (all-done (memberOf (a .keyed) (a .left) (a .row)) (a .file .now) (a .only) (a .table .now) _ (a .row + 1) _ (c .before .before .loop .inv) (c .before .loop-test .left)))
+    carry _ (c .next-in .ensures) (done-eq (S.holder-is (a .left) (a .row) (a .file .now) (a .at) (a .keyed) cl ∙ S.children-is (memberOf (a .keyed) (a .left) (a .row)) (a .row) (a .file .now) _ _ _ (sym (ap (told32 _) (c .before .before .before .before .n .given .1)) ∙ c .before .before .before .before .before .before .u32-at .ensures)) (all-done (memberOf (a .keyed) (a .left) (a .row)) (a .file .now) (a .base) (a .table .now) _ (a .row + 1) _ (c .before .before .loop .inv) (c .before .loop-test .left)))
 
 abbrev object-cs : ℕ → object-lts.Claims
 object-cs t = (list-below t, list.Post)

@@ -12,10 +12,10 @@ use Rattle.descriptor_read.proofs.array_pairs.Statement.{statement}
 use Rattle.descriptor_read.proofs.array_pairs.Tie as tie
 
 abbrev Inv-loop : tie.InvT-loop
-Inv-loop file table₀ only objects left row at n from next₀ child₀ i₀ table next child i = Going (arrayPair objects left row) file only table₀ n (row + 1) from table next child i
+Inv-loop file table₀ base objects left row at n from next₀ child₀ i₀ table next child i = Going (arrayPair objects left row) file base table₀ n (row + 1) from table next child i
 
 abbrev μ-loop : tie.MeasureT-loop
-μ-loop file table₀ only objects left row at n from next₀ child₀ i₀ table next child i = n - i
+μ-loop file table₀ base objects left row at n from next₀ child₀ i₀ table next child i = n - i
 
 u32-at-requires : tie.Need-u32-at-requires Inv-loop μ-loop
 u32-at-requires c κs = search needs
@@ -40,7 +40,7 @@ loop-holds : tie.Need-loop-holds Inv-loop μ-loop
 loop-holds c =
     let a = c .before .before .before .before .before .before .args in
     let h = field-next 4 (a .file .now) (a .at) _ _ (sym (ap (told32 _) (c .before .n .given .1)) ∙ c .before .before .before .u32-at .ensures) in
-    going-start (arrayPair (a .objects) (a .left) (a .row)) (a .file .now) (a .only) (a .table .now) _ (a .row + 1) _ (omega arith)
+    going-start (arrayPair (a .objects) (a .left) (a .row)) (a .file .now) (a .base) (a .table .now) _ (a .row + 1) _ (omega arith)
 
 array-pair-requires : tie.Need-array-pair-requires Inv-loop μ-loop
 array-pair-requires c κs =
@@ -56,13 +56,13 @@ enum-known-x c = search needs
 same-length : tie.Need-same-length Inv-loop μ-loop
 same-length c =
     let a = c .before .before .before .before .before .before .before .before .before .before .before .before .before .before .before .args in
-    c .before .before .before .before .before .array-pair .kept .1 .0 ∙ going-length (arrayPair (a .objects) (a .left) (a .row)) (a .file .now) (a .only) (a .table .now) _ (a .row + 1) _ (c .before .before .before .before .before .before .before .before .loop .inv)
+    c .before .before .before .before .before .array-pair .kept .1 .0 ∙ going-length (arrayPair (a .objects) (a .left) (a .row)) (a .file .now) (a .base) (a .table .now) _ (a .row + 1) _ (c .before .before .before .before .before .before .before .before .loop .inv)
 
 returns-2 : tie.Need-returns-2 Inv-loop μ-loop
 returns-2 c =
     let a = c .before .before .before .before .before .before .before .before .before .before .before .before .before .before .before .args in
     let e = sym (ap (told32 _) (c .before .before .before .before .before .before .before .before .before .before .n .given .1)) ∙ c .before .before .before .before .before .before .before .before .before .before .before .before .u32-at .ensures in
-    let w = turn-no (arrayPair (a .objects) (a .left) (a .row)) (a .file .now) (a .only) (a .table .now) _ (a .row + 1) _ (c .before .before .before .before .before .before .before .before .loop .inv) _ _ _ _ (c .before .before .before .before .before .before .before .loop-test .taken) (c .before .before .before .before .before .array-pair .ensures) (c .before .x .given .1) in
+    let w = turn-no (arrayPair (a .objects) (a .left) (a .row)) (a .file .now) (a .base) (a .table .now) _ (a .row + 1) _ (c .before .before .before .before .before .before .before .before .loop .inv) _ _ _ _ (c .before .before .before .before .before .before .before .loop-test .taken) (c .before .before .before .before .before .array-pair .ensures) (c .before .x .given .1) in
     done-no (children-is (arrayPair (a .objects) (a .left) (a .row)) (a .row) (a .file .now) (a .at) _ _ e ∙ w .2)
 
 enum-known-q : tie.Need-enum-known-q Inv-loop μ-loop
@@ -78,18 +78,18 @@ loop-again : tie.Need-loop-again Inv-loop μ-loop
 loop-again c =
     let a = c .before .before .before .before .before .before .before .before .before .before .before .before .before .before .before .args in
     let g = c .before .before .before .before .before .before .before .before .loop .inv in
-    turn (arrayPair (a .objects) (a .left) (a .row)) (a .file .now) (a .only) (a .table .now) _ (a .row + 1) _ g _ _ _ _ (c .before .before .before .before .before .before .before .loop-test .taken) (reach (a .file .now) (array-rows (a .file .now) (a .objects) (a .left) (a .row) _ _ (omega (arith, c .before .before .before .before .before .before .before .before .before .before .before .before .before .before .before .pre .levels)) (g .inside))) (c .before .before .before .before .before .array-pair .ensures) (c .before .q .given .1)
+    turn (arrayPair (a .objects) (a .left) (a .row)) (a .file .now) (a .base) (a .table .now) _ (a .row + 1) _ g _ _ _ _ (c .before .before .before .before .before .before .before .loop-test .taken) (reach (a .file .now) (array-rows (a .file .now) (a .objects) (a .left) (a .row) _ _ (omega (arith, c .before .before .before .before .before .before .before .before .before .before .before .before .before .before .before .pre .levels)) (g .inside))) (c .before .before .before .before .before .array-pair .ensures) (c .before .q .given .1)
 
 same-length-2 : tie.Need-same-length-2 Inv-loop μ-loop
 same-length-2 c =
     let a = c .before .before .before .before .before .before .before .before .args in
-    going-length (arrayPair (a .objects) (a .left) (a .row)) (a .file .now) (a .only) (a .table .now) _ (a .row + 1) _ (c .before .loop .inv)
+    going-length (arrayPair (a .objects) (a .left) (a .row)) (a .file .now) (a .base) (a .table .now) _ (a .row + 1) _ (c .before .loop .inv)
 
 returns-3 : tie.Need-returns-3 Inv-loop μ-loop
 returns-3 c =
     let a = c .before .before .before .before .before .before .before .before .args in
     let e = sym (ap (told32 _) (c .before .before .before .n .given .1)) ∙ c .before .before .before .before .before .u32-at .ensures in
-    done-eq (children-is (arrayPair (a .objects) (a .left) (a .row)) (a .row) (a .file .now) (a .at) _ _ e) (all-done (arrayPair (a .objects) (a .left) (a .row)) (a .file .now) (a .only) (a .table .now) _ (a .row + 1) _ (c .before .loop .inv) (c .loop-test .left))
+    done-eq (children-is (arrayPair (a .objects) (a .left) (a .row)) (a .row) (a .file .now) (a .at) _ _ e) (all-done (arrayPair (a .objects) (a .left) (a .row)) (a .file .now) (a .base) (a .table .now) _ (a .row + 1) _ (c .before .loop .inv) (c .loop-test .left))
 
 pub array-pairs-spec : {M : Type 1} → statement M
 array-pairs-spec =

@@ -1,7 +1,7 @@
 use Rattle.descriptor_read.proofs.Values.{row-refused, row-past, within, row-found}
 use Rattle.descriptor_read.specs.Values.{extentOf}
 use Rattle.descriptor_read.specs.Answer.{told}
-use mathlib.Core.Path.{refl, sym, ap, _∙_}
+use mathlib.Core.Path.{sym, ap, _∙_}
 use borrow.Author.Needs.{needs}
 use Rattle.descriptor_read.proofs.extent_at.Statement.{statement}
 use Rattle.descriptor_read.proofs.extent_at.Tie as tie
@@ -23,16 +23,13 @@ returns c =
 slice-aggregate-root : tie.Need-slice-aggregate-root
 slice-aggregate-root c = search needs
 
-add-root : tie.Need-add-root
-add-root c = search needs
-
 root-requires : tie.Need-root-requires
 root-requires c κs =
     let a = c .before .before .before .before .before .before .before .args in
     within (a .file .now) (a .row) _ (sym (ap told (c .before .before .before .rows .given .1)) ∙ c .before .before .before .before .before .judge .ensures)
 
-array-read-t16 : tie.Need-array-read-t16
-array-read-t16 c = search needs
+array-read-t15 : tie.Need-array-read-t15
+array-read-t15 c = search needs
 
 array-read-wide : tie.Need-array-read-wide
 array-read-wide c = search needs
@@ -54,7 +51,7 @@ returns-2 c =
 returns-3 : tie.Need-returns-3
 returns-3 c =
     let a = c .before .before .before .before .before .before .before .before .before .before .before .args in
-    row-found (a .file .now) (a .row) _ (sym (ap told (c .before .before .before .before .before .before .before .rows .given .1)) ∙ c .before .before .before .before .before .before .before .before .before .judge .ensures) (c .before .before .before .before .before .if1 .left) _ refl _ _ (c .before .before .before .root .ensures) _ _ (c .before .wide .ensures .0) (c .wide2 .ensures .0)
+    row-found (a .file .now) (a .row) _ (sym (ap told (c .before .before .before .before .before .before .before .rows .given .1)) ∙ c .before .before .before .before .before .before .before .before .before .judge .ensures) (c .before .before .before .before .before .if1 .left) _ _ (c .before .before .before .root .ensures) _ _ (c .before .wide .ensures .0) (c .wide2 .ensures .0)
 
 pub extent-at-spec : {M : Type 1} → statement M
 extent-at-spec =
@@ -65,9 +62,8 @@ extent-at-spec =
     enum-known-rows
     returns
     slice-aggregate-root
-    add-root
     root-requires
-    array-read-t16
+    array-read-t15
     array-read-wide
     wide-requires
     array-read-wide-2

@@ -1,11 +1,14 @@
-use Rattle.descriptor_read.proofs.Table.{five, no-five, three, no-three, not-only}
-use mathlib.Core.Path.{_≡_}
-use Prim.Native.Nat.{_+_, _-_}
+use Prim.Native.Nat.{_+_, _-_, _<_}
+use mathlib.Core.Path.{_≡_, sym}
 use native.Mathlib.Omega.{arith}
-use lib.ListN.{length-set}
+use lib.ListN.{length, length-set}
+use Rattle.descriptor_read.proofs.Table.{five, three, no-three, not-yet, no-room}
 use borrow.Author.Needs.{needs}
 use Rattle.descriptor_read.proofs.put_row.Statement.{statement}
 use Rattle.descriptor_read.proofs.put_row.Tie as tie
+
+returns : tie.Need-returns
+returns c = let a = c .before .args in not-yet (a .base) (a .table .now) (a .row) (record { kind = a .kind; parent = a .parent; first = a .first; size = a .end - a .first; depth = 32 - a .left; value = a .value }) (c .if1 .taken)
 
 mul-b : tie.Need-mul-b
 mul-b c = search needs
@@ -76,18 +79,10 @@ slice-write-table-5 c = simp length-set (omega arith)
 same-length : tie.Need-same-length
 same-length c = search needs
 
-returns : tie.Need-returns
-returns c =
-    let a = c .before .before .args in
-    five (a .only) (a .table .now) (a .row) (record { kind = a .kind; parent = a .parent; first = a .first; size = a .end - a .first; depth = 32 - a .left; value = a .value }) (c .before .if1 .taken) (c .if2 .taken)
-
 returns-2 : tie.Need-returns-2
 returns-2 c =
     let a = c .before .before .args in
-    no-five (a .only) (a .table .now) (a .row) (record { kind = a .kind; parent = a .parent; first = a .first; size = a .end - a .first; depth = 32 - a .left; value = a .value }) (c .before .if1 .taken) (c .if2 .left)
-
-sub-if3 : tie.Need-sub-if3
-sub-if3 c = search needs
+    five (a .base) (a .table .now) (a .row) (record { kind = a .kind; parent = a .parent; first = a .first; size = a .end - a .first; depth = 32 - a .left; value = a .value }) (c .before .if1 .left) (c .if2 .taken)
 
 slice-write-table-6 : tie.Need-slice-write-table-6
 slice-write-table-6 c = search needs
@@ -105,31 +100,34 @@ cast-table-6 : tie.Need-cast-table-6
 cast-table-6 c = search needs
 
 slice-write-table-8 : tie.Need-slice-write-table-8
-slice-write-table-8 c = simp length-set (omega arith)
+slice-write-table-8 c = search needs
 
 same-length-2 : tie.Need-same-length-2
 same-length-2 c = search needs
 
 returns-3 : tie.Need-returns-3
 returns-3 c =
-    let a = c .before .before .before .args in
-    let e : a .end - a .value ≡ a .first + (a .end - a .first) - a .value = omega (arith, c .before .before .before .pre) in
-    three (a .only) (a .table .now) (a .row) (record { kind = a .kind; parent = a .parent; first = a .first; size = a .end - a .first; depth = 32 - a .left; value = a .value }) (c .before .before .if1 .left) (c .before .if3 .taken) (c .if4 .taken) _ e
+    let a = c .before .before .before .before .args in
+    let e : a .end - a .value ≡ a .first + (a .end - a .first) - a .value = omega (arith, c .before .before .before .before .pre) in
+    let n : length (a .table .now) < 5 = omega (arith, c .before .before .if2 .left, c .before .if3 .taken) in
+    three (a .base) (a .table .now) (a .row) (record { kind = a .kind; parent = a .parent; first = a .first; size = a .end - a .first; depth = 32 - a .left; value = a .value }) (sym (c .before .if3 .taken)) n (c .if4 .taken) _ e
 
 returns-4 : tie.Need-returns-4
 returns-4 c =
-    let a = c .before .before .before .args in
-    no-three (a .only) (a .table .now) (a .row) (record { kind = a .kind; parent = a .parent; first = a .first; size = a .end - a .first; depth = 32 - a .left; value = a .value }) (c .before .before .if1 .left) (c .before .if3 .taken) (c .if4 .left)
+    let a = c .before .before .before .before .args in
+    no-three (a .base) (a .table .now) (a .row) (record { kind = a .kind; parent = a .parent; first = a .first; size = a .end - a .first; depth = 32 - a .left; value = a .value }) (c .before .before .before .if1 .left) (c .if4 .left)
 
 returns-5 : tie.Need-returns-5
 returns-5 c =
-    let a = c .before .before .args in
-    not-only (a .only) (a .table .now) (a .row) (record { kind = a .kind; parent = a .parent; first = a .first; size = a .end - a .first; depth = 32 - a .left; value = a .value }) (c .before .if1 .left) (c .if3 .left)
+    let a = c .before .before .before .args in
+    let h : a .base < a .row = omega (arith, c .before .before .if1 .left, c .if3 .left) in
+    no-room (a .base) (a .table .now) (a .row) (record { kind = a .kind; parent = a .parent; first = a .first; size = a .end - a .first; depth = 32 - a .left; value = a .value }) h (c .before .if2 .left)
 
 pub put-row-spec : {M : Type 1} → statement M
 put-row-spec =
     tie.close
     (tie.spec
+    returns
     mul-b
     add-if2
     mul-table
@@ -153,9 +151,7 @@ put-row-spec =
     mul-table-5
     slice-write-table-5
     same-length
-    returns
     returns-2
-    sub-if3
     slice-write-table-6
     cast-table-5
     slice-write-table-7
