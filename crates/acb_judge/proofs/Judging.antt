@@ -233,13 +233,15 @@ module _ (s : List ℕ) (at : ℕ) where
 
 -- ---- the file
 
-pub rest-no : (n x : ℕ) (s : List ℕ) (at y q : ℕ) → refuse y q 0 0 ≡ done (each n 0 (λ i. colour (componentsOf x)) s at) → rest n x s at ≡ refuse y q 0 0
-unfolding rest
-rest-no n x s at y q e = then-done (each n 0 (λ i. colour (componentsOf x)) s at) (λ p. closing s p) ∙ rw (← e) refl
+-- the colours were judged with as many components as the space has
+module _ (n x : ℕ) (s : List ℕ) (at : ℕ) {k : ℕ} (c : k ≡ componentsOf x) where
+  pub rest-no : {y q : ℕ} → refuse y q 0 0 ≡ done (each n 0 (λ i. colour k) s at) → rest n x s at ≡ refuse y q 0 0
+  unfolding rest
+  rest-no e = then-done (each n 0 (λ i. colour (componentsOf x)) s at) (λ p. closing s p) ∙ rw (← (e ∙ ap (λ (m : ℕ). done (each n 0 (λ i. colour m) s at)) c)) refl
 
-pub rest-on : (n x : ℕ) (s : List ℕ) (at q : ℕ) → ok tt q ≡ done (each n 0 (λ i. colour (componentsOf x)) s at) → rest n x s at ≡ closing s q
-unfolding rest
-rest-on n x s at q e = then-done (each n 0 (λ i. colour (componentsOf x)) s at) (λ p. closing s p) ∙ rw (← e) refl
+  pub rest-on : {q : ℕ} → ok tt q ≡ done (each n 0 (λ i. colour k) s at) → rest n x s at ≡ closing s q
+  unfolding rest
+  rest-on e = then-done (each n 0 (λ i. colour (componentsOf x)) s at) (λ p. closing s p) ∙ rw (← (e ∙ ap (λ (m : ℕ). done (each n 0 (λ i. colour m) s at)) c)) refl
 
 module _ (s : List ℕ) where
   pub too-long : limit < length s → refused 1 0 ≡ verdict (acb s)

@@ -11,7 +11,7 @@ ghost use Rattle.acb_show.specs.Answer.{toldPage};
 ghost use Rattle.listing.specs.Buffer.{putAll};
 ghost use Rattle.acb_show.specs.Pages.{dummiesIn};
 ghost use Rattle.acb_read.specs.Table.{row as Table·row};
-ghost use Rattle.listing.specs.Text.{word, lines};
+ghost use Rattle.listing.specs.Text.{word, lines, taken};
 ghost use Rattle.acb_list.specs.Listing.{ending, numbers, heading, texts, record-text, line, pages, listing};
 ghost use Rattle.acb_list.specs.Listing.{text as Listing·text, page as Listing·page};
 use acb::WIDTH;
@@ -200,8 +200,11 @@ fn put_pages(out: &mut [u8], n: usize, table: &[u32], count: usize, size: u16, o
 
 // The table has room for 5,041 records, more than the longest input holds.
 fn put_listing(out: &mut [u8], file: &[u8]) -> usize
-    ensures { λ r. ⌜ (now (out .exit), r) ≡ putAll (now (out .entry), 0) (listing (now (file .entry)) (acb (now (file .entry)))) ⌝ }
+    ensures { λ r. ⌜ (now (out .exit), r) ≡ putAll (now (out .entry), 0) (taken 65536 (now (file .entry)) (listing (now (file .entry)) (acb (now (file .entry))))) ⌝ }
 {
+    if TAKEN < file.len() {
+        return put_refusal(out, 1, 0);
+    }
     let mut table = [0u32; 60492];
     match acb_read::read(file, &mut table) {
         Answer::Refused { number, place } => put_refusal(out, number, place),
@@ -227,11 +230,6 @@ fn main() {
     let mut input = [0u8; 65537];
     let mut out = [0u8; 16384];
     let n = take_input(&mut input);
-    if TAKEN < n {
-        let full = put_refusal(&mut out, 1, 0);
-        finish(&out, full);
-        return;
-    }
     let full = put_listing(&mut out, &input[..n]);
     finish(&out, full);
 }

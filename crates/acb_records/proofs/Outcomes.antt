@@ -29,13 +29,18 @@ module _ (text : List ℕ) (h : Shown) (t : Tag) (gs : List Given) where
     unfolding fault
     rest = simp (le-leb _ _ fits)
 
-    module _ (x : ℕ) (e : x ≡ headFault text h (length gs)) where
-      pub bad-head : (x ≡ 0 → ⊥) → refused x ≡ needed text h t gs
-      bad-head k = needs-no (fault text h t gs) (size h t gs) x (hit x _ _ e k ∙ sym rest) k
+    -- the header was judged with n records
+    module _ (x : ℕ) {n : ℕ} (counts : length gs ≡ n) (e : x ≡ headFault text h n) where
+      first : x ≡ headFault text h (length gs)
+      first = e ∙ ap (headFault text h) (sym counts)
 
-      module _ (z : x ≡ 0) (y : ℕ) (w : y ≡ faults (colourFault text (componentsOf (h .space))) gs) where
+      pub bad-head : (x ≡ 0 → ⊥) → refused x ≡ needed text h t gs
+      bad-head k = needs-no (fault text h t gs) (size h t gs) x (hit x _ _ first k ∙ sym rest) k
+
+      -- and each record with m components
+      module _ (z : x ≡ 0) (y : ℕ) {m : ℕ} (c : m ≡ componentsOf (h .space)) (w : y ≡ faults (colourFault text m) gs) where
         behind : y ≡ fault text h t gs
-        behind = pass y (headFault text h (length gs)) _ x e z w ∙ sym rest
+        behind = pass y (headFault text h (length gs)) _ x first z (w ∙ ap (λ (j : ℕ). faults (colourFault text j) gs) c) ∙ sym rest
 
         pub bad-colour : (y ≡ 0 → ⊥) → refused y ≡ needed text h t gs
         bad-colour k = needs-no (fault text h t gs) (size h t gs) y behind k

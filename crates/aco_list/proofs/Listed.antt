@@ -18,7 +18,7 @@ use Rattle.walk.specs.Walk.{Call, gives, over, refused, Step, placeAfter, call,
 use Rattle.walk.specs.Names.{namePart}
 use Rattle.walk.proofs.Calls.{step-read}
 use Rattle.aco_walk.specs.Walking.{isPlain, firstPlace, titled, labelled, swatchFrom, walk}
-use Rattle.aco_walk.specs.Answer.{toldGiven, toldStep, handing, handed}
+use Rattle.aco_walk.specs.Answer.{toldGiven, toldStep, handed}
 use Rattle.aco_walk.specs.declared.Given.{Given}
 use Rattle.aco_walk.specs.declared.Given.the-variants as vg
 use Rattle.aco_walk.specs.declared.Step.{Step as Answered}
@@ -58,7 +58,7 @@ gives-value e = cc
 told-gives : (w : Call Entry × ℕ) {c : Colour} {p u q : ℕ} → handed w ≡ (c, gives (p, u), q) → (e : Entry) × (w ≡ (gives e, q)) × (c ≡ e .colour) × (p ≡ e .name .first) × (u ≡ length (e .name .units))
 told-gives w {c} {p} {u} {q} h = go (w .0) (w .1) h
   where
-    go : (a : Call Entry) (r : ℕ) → handing a r ≡ (c, gives (p, u), q) → (e : Entry) × (_≡_ {A = Call Entry × ℕ} (a, r) (gives e, q)) × (c ≡ e .colour) × (p ≡ e .name .first) × (u ≡ length (e .name .units))
+    go : (a : Call Entry) (r : ℕ) → handed (a, r) ≡ (c, gives (p, u), q) → (e : Entry) × (_≡_ {A = Call Entry × ℕ} (a, r) (gives e, q)) × (c ≡ e .colour) × (p ≡ e .name .first) × (u ≡ length (e .name .units))
     go (gives e) r x =
         let y = gives-value (answer-is x) in
         (e, ap (λ (h : Handed). (gives e, h .2)) x, ap (λ (h : Handed). h .0) (sym x), ap (λ (l : ℕ × ℕ). l .0) (sym y), ap (λ (l : ℕ × ℕ). l .1) (sym y))
@@ -68,7 +68,7 @@ told-gives w {c} {p} {u} {q} h = go (w .0) (w .1) h
 told-over : (w : Call Entry × ℕ) {c : Colour} {q : ℕ} → handed w ≡ (c, over, q) → w .0 ≡ over
 told-over w {c} {q} h = go (w .0) (w .1) h
   where
-    go : (a : Call Entry) (r : ℕ) → handing a r ≡ (c, over, q) → a ≡ over
+    go : (a : Call Entry) (r : ℕ) → handed (a, r) ≡ (c, over, q) → a ≡ over
     go (gives e) r x = let y = answer-is x in let z : _≡_ {A = ℕ} 0 1 = cc in absurd (omega arith)
     go over r x = refl
     go (refused k n) r x = let y = answer-is x in let z : _≡_ {A = ℕ} 0 1 = cc in absurd (omega arith)
@@ -76,7 +76,7 @@ told-over w {c} {q} h = go (w .0) (w .1) h
 told-refused : (w : Call Entry × ℕ) {c : Colour} {y n q : ℕ} → handed w ≡ (c, refused y n, q) → w .0 ≡ refused y n
 told-refused w {c} {y} {n} {q} h = go (w .0) (w .1) h
   where
-    go : (a : Call Entry) (r : ℕ) → handing a r ≡ (c, refused y n, q) → a ≡ refused y n
+    go : (a : Call Entry) (r : ℕ) → handed (a, r) ≡ (c, refused y n, q) → a ≡ refused y n
     go (gives e) r x = let y = answer-is x in let z : _≡_ {A = ℕ} 0 1 = cc in absurd (omega arith)
     go over r x = let y = answer-is x in let z : _≡_ {A = ℕ} 0 1 = cc in absurd (omega arith)
     go (refused a b) r x = let y = answer-is x in cc

@@ -4,7 +4,7 @@ ghost use Rattle.fields.specs.Numbers.{joined};
 ghost use Rattle.aco.specs.Reading.{aco};
 ghost use Rattle.aco_walk.specs.Walking.{firstPlace, walk};
 ghost use Rattle.listing.specs.Buffer.{putAll};
-ghost use Rattle.listing.specs.Text.{word, lines};
+ghost use Rattle.listing.specs.Text.{word, lines, taken};
 ghost use Rattle.aco_list.specs.Listing.{colourLine, line, heading, listing, given};
 use aco_judge::Answer;
 use aco_walk::Given;
@@ -96,8 +96,11 @@ fn put_heading(out: &mut [u8], colours: usize, lists: usize) -> usize
 }
 
 fn put_listing(out: &mut [u8], file: &[u8]) -> usize
-    ensures { λ r. ⌜ (now (out .exit), r) ≡ putAll (now (out .entry), 0) (listing (aco (now (file .entry)))) ⌝ }
+    ensures { λ r. ⌜ (now (out .exit), r) ≡ putAll (now (out .entry), 0) (taken 65536 (now (file .entry)) (listing (aco (now (file .entry))))) ⌝ }
 {
+    if TAKEN < file.len() {
+        return put_refusal(out, 1, 0);
+    }
     match aco_judge::judge(file) {
         Answer::Refused { number, place } => put_refusal(out, number, place),
         Answer::Differ {
@@ -117,11 +120,6 @@ fn main() {
     let mut input = [0u8; 65537];
     let mut out = [0u8; 16384];
     let n = take_input(&mut input);
-    if TAKEN < n {
-        let full = put_refusal(&mut out, 1, 0);
-        finish(&out, full);
-        return;
-    }
     let full = put_listing(&mut out, &input[..n]);
     finish(&out, full);
 }

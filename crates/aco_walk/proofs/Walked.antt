@@ -20,13 +20,11 @@ use Rattle.aco.specs.Reading.{colour, Entry, entry, Contents, black, unnamed, a
 use Rattle.aco.proofs.Raw.{colour-inv}
 use Rattle.aco.proofs.Inverse.{First, Then, one, two, heading-inv, aco-inv}
 use Rattle.aco_read.specs.Table.{recordsOf}
-use Rattle.walk.specs.Walk.{Call, gives, over, refused, after, call, inTurn}
+use Rattle.walk.specs.Walk.{gives, refused, after, call, inTurn}
 use Rattle.walk.proofs.Calls.{Walks, calls-are, after-calls, each-walks, step-over, step-read, step-five, step-past, lost-stays}
 use Rattle.walk.specs.Names.{namePart}
 use Rattle.walk.proofs.Names.{part-is}
 use Rattle.aco_walk.specs.Walking.{isPlain, firstPlace, titled, labelled, swatchFrom, walk, lentOf, called, following}
-use Rattle.aco_walk.specs.Answer.{toldStep, handing, handed}
-use Rattle.aco_walk.specs.declared.Step.{Step as Answered}
 use Rattle.aco_walk.specs.declared.Walker.{Walker}
 use Rattle.aco_walk.proofs.Swatches.{first-fine, plain-item, named-item, one-plain, two-named}
 
@@ -127,15 +125,3 @@ past-refused s at h = step-past swatchFrom s at h (past-none s at)
 -- and a walker that was refused is refused ever after
 pub refused-stays : (s : List ℕ) (i : ℕ) → call (walk s) (length s + 1) i ≡ refused 5 0
 refused-stays s i = lost-stays swatchFrom s (past-none s (length s + 1)) i
-
--- ---- the place that an answer leaves is where the definition leaves the walker
-pub next-follows : (s : List ℕ) (at : ℕ) (r : Answered) → toldStep r ≡ handed (walk s at) → r .next ≡ walk s at .1
-next-follows s at r e = go (walk s at .0) (walk s at .1) e
-  where
-    Told : Type 0
-    Told = Colour × Call (ℕ × ℕ) × ℕ
-
-    go : (c : Call Entry) (q : ℕ) → toldStep r ≡ handing c q → r .next ≡ q
-    go (gives x) q z = ap (λ (w : Told). w .2) z
-    go over q z = ap (λ (w : Told). w .2) z
-    go (refused x p) q z = ap (λ (w : Told). w .2) z

@@ -27,13 +27,14 @@ abbrev pub toldStep : Step → Colour × Call (ℕ × ℕ) × ℕ
 toldStep r = (r .colour, toldGiven (r .given), r .next)
 
 -- a record as it is handed out: its colour by value, and where its name lies; where there is none, the colour is all zeros
-abbrev pub handing : Call Entry → ℕ → Colour × Call (ℕ × ℕ) × ℕ
-handing (gives e) q = (e .colour, gives (e .name .first, length (e .name .units)), q)
-handing over q = (black, over, q)
-handing (refused x p) q = (black, refused x p, q)
+abbrev pub handing : Call Entry → Colour × Call (ℕ × ℕ)
+handing (gives e) = (e .colour, gives (e .name .first, length (e .name .units)))
+handing over = (black, over)
+handing (refused x p) = (black, refused x p)
 
+-- and the place that is left
 abbrev pub handed : Call Entry × ℕ → Colour × Call (ℕ × ℕ) × ℕ
-handed w = handing (w .0) (w .1)
+handed w = (handing (w .0) .0, handing (w .0) .1, w .1)
 
 -- what a call of a walker hands back: what its step says, and the whole walker
 abbrev pub toldTurn : Turn → (Colour × Call (ℕ × ℕ) × ℕ) × Walker

@@ -8,7 +8,7 @@ use lib.Dec.{leb, ltb, eqb}
 use borrow.Author.Tests.{le-leb, lt-leb, lt-ltb, le-ltb, eq-eqb, ne-eqb, eqb-true, eqb-false}
 use native.Mathlib.Omega.{arith}
 use native.Mathlib.Nat.{zero-add, add-assoc}
-use Rattle.fields.specs.Reader.{Res, ok, refuse, Reader, then, pick, rule, field, done, mapRes, each, stateAfter, chain, ended, judged, unless, limit}
+use Rattle.fields.specs.Reader.{Res, ok, refuse, Reader, then, pick, rule, field, done, mapRes, each, stateAfter, chain, ended, Judged, judged, unless, limit}
 use Rattle.fields.specs.Text.{Name, name, place}
 use Rattle.fields.proofs.Laws.{field-next, judged-short, judged-bad, judged-ok, then-ok}
 use Rattle.fields.proofs.Texts.{done-place}
@@ -16,6 +16,7 @@ use Rattle.fields.proofs.Inverse.{then-inv, ok-value, clash}
 use Rattle.colour.specs.Models.{traitsOf, modelOf, channelsOf}
 use Rattle.colour.proofs.Models.{tag-known, tag-channels, model-bad, model-good}
 use Rattle.colour.specs.declared.model.Model.{Model}
+use Rattle.colour.specs.declared.model.Traits.{Traits}
 use Rattle.colour.specs.declared.model.Model.the-variants as vm
 use Rattle.colour.specs.Channels.{wide, allowsBits}
 use Rattle.colour.specs.declared.model.Known.the-variants.{Is, Unknown}
@@ -76,7 +77,7 @@ unfolding group
 group-done s at = then-ok started (name 2 s at) ∙ sym (done-place (name 2 s at))
 
 -- what a model allows, looked at once
-pub channel-in : (m : Model) → channel (traitsOf m .tag) ≡ channelIn (wide m)
+channel-in : (m : Model) → channel (traitsOf m .tag) ≡ channelIn (wide m)
 unfolding allowsBits modelOf
 channel-in vm.Rgb = refl
 channel-in vm.Cmyk = refl
@@ -95,7 +96,7 @@ module _ (s : List ℕ) (at : ℕ) where
     unfolding paint
     paint-unknown u = rw (judged-bad 4 s at model 4 0 0 e (rw (model-bad t u)))
 
-    pub paint-known : (m : Model) → modelOf t ≡ Is m
+    paint-known : (m : Model) → modelOf t ≡ Is m
         → paint s at ≡ then (done (each (traitsOf m .channels) 0 (λ i. judged 4 (channel (traitsOf m .tag))) s n)) (λ u q. done (judged 2 type s q))
     unfolding paint
     paint-known m u =
@@ -112,6 +113,13 @@ module _ (s : List ℕ) (at : ℕ) where
         go : (r : Res (List ℕ)) → then r (λ bs q. then (judged 2 type s q) (λ k r. ok tt r)) ≡ then (done r) (λ u q. done (judged 2 type s q))
         go (ok bs q) = last (judged 2 type s q)
         go (refuse x p r f) = refl
+
+    -- the same, with what the model was asked and what its channels came to
+    pub paint-channels : (m : Model) → modelOf t ≡ Is m → {v : Traits} → v ≡ traitsOf m → {w : Bool} → w ≡ wide m → {r : Res Unit} → r ≡ done (each (v .channels) 0 (λ i. judged 4 (channelIn w)) s n)
+        → paint s at ≡ then r (λ u q. done (judged 2 type s q))
+    paint-channels m u f g h =
+        let k = h ∙ ap₂ (λ (v : Traits) (w : Bool). done (each (v .channels) 0 (λ i. judged 4 (channelIn w)) s n)) f g ∙ ap (λ (j : ℕ → Judged). done (each (traitsOf m .channels) 0 (λ i. judged 4 j) s n)) (sym (channel-in m)) in
+        paint-known m u ∙ ap (λ (x : Res Unit). then x (λ u q. done (judged 2 type s q))) (sym k)
 
 pub shade-done : (s : List ℕ) (at : ℕ) → done (shade s at) ≡ then (done (place (name 2 s at))) (λ u q. paint s q)
 unfolding shade paint

@@ -21,7 +21,7 @@ use Rattle.ase_walk.specs.Answer.{toldBlock, handing, handed}
 use Rattle.ase_walk.specs.declared.Block.{Block}
 use Rattle.ase_walk.specs.declared.Block.the-variants as vb
 use Rattle.ase_walk.proofs.Walked.{blocks-in-turn}
-use Rattle.walk.specs.Walk.{Call, gives, over, refused, Step, placeAfter, call, inTurn}
+use Rattle.walk.specs.Walk.{Call, Step, placeAfter, call, inTurn}
 use Rattle.walk.specs.Names.{namePart}
 use Rattle.listing.specs.Buffer.{Buffer, putAll}
 use Rattle.listing.specs.Text.{ascii, name, lines, refusal}
@@ -65,14 +65,6 @@ module _ (s : List ℕ) (o : Buffer) (b : Block) where
 
 -- ---- the loop
 
-handed-next : (w : Call Entry × ℕ) → handed w .1 ≡ w .1
-handed-next w = go (w .0) (w .1)
-  where
-    go : (a : Call Entry) (q : ℕ) → handing a q .1 ≡ q
-    go (gives e) q = refl
-    go over q = refl
-    go (refused x p) q = refl
-
 module _ (s : List ℕ) (f : Step Entry) (all o : Buffer) (n i at : ℕ) where
   pub answers-start : {p : ℕ} → p ≡ at → all ≡ putAll o (lines (answerLine s) 0 (answers f n at)) → all ≡ putAll o (lines (answerLine s) 0 (answers f (n - 0) p))
   answers-start {p} e g = let z : n ≡ n - 0 = omega arith in g ∙ ap₂ (λ (k q : ℕ). putAll o (lines (answerLine s) 0 (answers f k q))) z (sym e)
@@ -81,7 +73,7 @@ module _ (s : List ℕ) (f : Step Entry) (all o : Buffer) (n i at : ℕ) where
   unfolding answers
   answers-turn a q {p} h e g x =
       let z : n - i ≡ suc (n - (i + 1)) = omega arith in
-      let next : f at .1 ≡ q = sym (ap (λ (w : Call Shown × ℕ). w .1) g ∙ handed-next (f at)) in
+      let next : f at .1 ≡ q = sym (ap (λ (w : Call Shown × ℕ). w .1) g) in
       let first : handed (f at) .0 ≡ a = ap (λ (w : Call Shown × ℕ). w .0) (sym g) in
       lines-turn (answerLine s) all o i a (answers f (n - (i + 1)) q)
       (e ∙ ap (λ (k : ℕ). putAll o (lines (answerLine s) i (answers f k at))) z ∙ ap₂ (λ (c : Call Shown) (r : ℕ). putAll o (lines (answerLine s) i (c ∷ answers f (n - (i + 1)) r))) first next) x
@@ -96,7 +88,7 @@ answers-lines : (s : List ℕ) (f : Step Entry) (es : List Entry) (at i : ℕ) �
 unfolding answers lines placeAfter inTurn
 answers-lines s f [] at i h = refl
 answers-lines s f (e ∷ more) at i h =
-    ap (λ (c : Call Entry). answerLine s i (handing c (f at .1) .0) ++ lines (answerLine s) (i + 1) (answers f (length more) (f at .1))) (h 0)
+    ap (λ (c : Call Entry). answerLine s i (handing c) ++ lines (answerLine s) (i + 1) (answers f (length more) (f at .1))) (h 0)
     ∙ ap (λ (l : List ℕ). line s i e ++ l) (answers-lines s f more (f at .1) (i + 1) (λ k. h (suc k)))
 
 pub listed-refused : (s : List ℕ) (m : Res (List Entry)) {x p : ℕ} → refusedFile x p ≡ verdict m → refusal x p ≡ listing s m

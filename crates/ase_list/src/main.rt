@@ -7,7 +7,7 @@ ghost use Rattle.ase.specs.Reading.{ase};
 ghost use Rattle.ase_walk.specs.Walking.{firstPlace, blockWalk};
 ghost use Rattle.ase_walk.specs.Answer.{toldBlock};
 ghost use Rattle.listing.specs.Buffer.{putAll};
-ghost use Rattle.listing.specs.Text.{lines};
+ghost use Rattle.listing.specs.Text.{lines, taken};
 ghost use Rattle.ase_list.specs.Listing.{channel, shade, answer, answerLine, answers, listing};
 ghost use Rattle.ase_list.specs.Listing.{model as Listing·model, type as Listing·type};
 use ase_judge::Answer;
@@ -124,8 +124,11 @@ fn put_blocks(out: &mut [u8], n: usize, file: &[u8], blocks: usize) -> usize
 }
 
 fn put_listing(out: &mut [u8], file: &[u8]) -> usize
-    ensures { λ r. ⌜ (now (out .exit), r) ≡ putAll (now (out .entry), 0) (listing (now (file .entry)) (ase (now (file .entry)))) ⌝ }
+    ensures { λ r. ⌜ (now (out .exit), r) ≡ putAll (now (out .entry), 0) (taken 65536 (now (file .entry)) (listing (now (file .entry)) (ase (now (file .entry))))) ⌝ }
 {
+    if TAKEN < file.len() {
+        return put_refusal(out, 1, 0);
+    }
     match ase_judge::judge(file) {
         Answer::Refused { number, place } => put_refusal(out, number, place),
         Answer::Accepted { blocks, colours: _ } => {
@@ -142,11 +145,6 @@ fn main() {
     let mut input = [0u8; 65537];
     let mut out = [0u8; 16384];
     let n = take_input(&mut input);
-    if TAKEN < n {
-        let full = put_refusal(&mut out, 1, 0);
-        finish(&out, full);
-        return;
-    }
     let full = put_listing(&mut out, &input[..n]);
     finish(&out, full);
 }

@@ -70,7 +70,7 @@ module _ (s : List ℕ) (at : ℕ) where
           let f = turn ∙ ap (λ (v : w.Call Entry × ℕ). w.sought isColour (v .0) (v .1) (walk s)) b ∙ ap (λ (i : Bool). pick i (w.gives e, q) (walk s q)) k in
           (f ∙ ap (walk s) (sym z), omega arith, omega arith)
 
-      go : (x : w.Call Entry) (q : ℕ) → blockWalk s at ≡ (x, q) → passes (handing x q .0) ≡ true → n ≡ handing x q .1 → (walk s at ≡ walk s n) × (at < n) × (n ≤ length s)
+      go : (x : w.Call Entry) (q : ℕ) → blockWalk s at ≡ (x, q) → passes (handing x) ≡ true → n ≡ q → (walk s at ≡ walk s n) × (at < n) × (n ≤ length s)
       go (w.gives (started nm)) q b k z = skip (started nm) q refl b z
       go (w.gives stopped) q b k z = skip stopped q refl b z
       go (w.gives (coloured nm t bs m)) q b k z = absurd (true≢false (sym k))
@@ -81,7 +81,7 @@ module _ (s : List ℕ) (at : ℕ) where
   pub ends-here : (c : w.Call Shown) (n : ℕ) → passes c ≡ false → (c, n) ≡ handed (blockWalk s at) → (c, n) ≡ handed (walk s at)
   ends-here c n h e = e ∙ go (blockWalk s at .0) (blockWalk s at .1) (subst (λ (d : w.Call Shown). passes d ≡ false) (ap (λ (y : w.Call Shown × ℕ). y .0) e) h) ∙ sym (ap handed turn)
     where
-      go : (x : w.Call Entry) (q : ℕ) → passes (handing x q .0) ≡ false → handing x q ≡ handed (w.sought isColour x q (walk s))
+      go : (x : w.Call Entry) (q : ℕ) → passes (handing x) ≡ false → handed (x, q) ≡ handed (w.sought isColour x q (walk s))
       go (w.gives (coloured nm t bs k)) q z = refl
       go (w.gives (started nm)) q z = absurd (true≢false z)
       go (w.gives stopped) q z = absurd (true≢false z)

@@ -1,20 +1,13 @@
 -- The walker, the step and what `next` hands back, as the proofs by hand of `walk` see them. Assumes nothing.
 use mathlib.Core.Path.{refl}
-use mathlib.Core.List.{[]}
-use mir.Syntax.{erased}
-use denote.Ref.{NamedLft}
 use denote.Struct.Laws as LL
-use Rattle.walk.proofs.Kind.{Kind, Answer, Both}
+use Rattle.walk.proofs.Kind.{any, Kind, Answer, Both}
 use Rattle.ase_walk.specs.declared.Walker.{Walker}
 use Rattle.ase_walk.specs.declared.Turn.{Turn}
 use Rattle.ase_walk.proofs.Walker as T
 use Rattle.ase_walk.proofs.Step as S
 use Rattle.ase_walk.proofs.Step.Laws as S′
 use Rattle.ase_walk.proofs.Turn as R
-
--- a type's name is the same at every lifetime
-abbrev any : NamedLft
-any = record { mir = erased; lft = [] }
 
 abbrev pub walker : Kind
 walker = record {

@@ -16,15 +16,12 @@ use Rattle.fields.proofs.Exact.{map-id}
 use Rattle.ase.specs.Reading.{Entry, started, stopped, coloured, block, standingAfter, ase}
 use Rattle.ase_judge.specs.Answer.{colours}
 use Rattle.ase_read.specs.Raw.{entriesOf}
-use Rattle.ase_read.specs.Answer.{Shown}
 use Rattle.ase_read.proofs.Blocks.{blocked}
-use Rattle.walk.specs.Walk.{Call, gives, over, refused, after, call, inTurn, step, sought, seek, only}
+use Rattle.walk.specs.Walk.{Call, gives, over, refused, after, call, inTurn, sought, seek, only}
 use Rattle.walk.proofs.Calls.{Walks, call-stays, calls-are, after-calls, chain-walks, step-over, step-read, step-five, step-past, only-walks, seek-five}
 use Rattle.walk.specs.Names.{namePart}
 use Rattle.walk.proofs.Names.{part-is}
 use Rattle.ase_walk.specs.Walking.{blockFrom, blockWalk, isColour, walk, firstPlace, lentOf, called, following}
-use Rattle.ase_walk.specs.Answer.{toldStep, handing, handed}
-use Rattle.ase_walk.specs.declared.Step.{Step as Answered}
 use Rattle.ase_walk.specs.declared.Walker.{Walker}
 use Rattle.ase_walk.proofs.Blocks.{block-item, block-moves, walk-moves, accepted-chain}
 
@@ -128,12 +125,3 @@ past-refused s at h =
 -- and a walker that was refused is refused ever after
 pub refused-stays : (s : List ℕ) (i : ℕ) → call (walk s) (length s + 1) i ≡ refused 5 0
 refused-stays s i = call-stays (walk s) (length s + 1) (past-refused s (length s + 1) (omega arith)) i
-
--- ---- the place that an answer leaves is where the definition leaves the walker
-pub next-follows : (s : List ℕ) (at : ℕ) (r : Answered) → toldStep r ≡ handed (walk s at) → r .next ≡ walk s at .1
-next-follows s at r e = go (walk s at .0) (walk s at .1) e
-  where
-    go : (c : Call Entry) (q : ℕ) → toldStep r ≡ handing c q → r .next ≡ q
-    go (gives x) q z = ap (λ (w : Call Shown × ℕ). w .1) z
-    go over q z = ap (λ (w : Call Shown × ℕ). w .1) z
-    go (refused x p) q z = ap (λ (w : Call Shown × ℕ). w .1) z

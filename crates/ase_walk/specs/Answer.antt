@@ -49,13 +49,14 @@ abbrev pub toldStep : Step → Call Shown × ℕ
 toldStep r = (toldGiven (r .given), r .next)
 
 -- a record as it is handed out
-abbrev pub handing : Call Entry → ℕ → Call Shown × ℕ
-handing (gives e) q = (gives (entryShown e), q)
-handing over q = (over, q)
-handing (refused x p) q = (refused x p, q)
+abbrev pub handing : Call Entry → Call Shown
+handing (gives e) = gives (entryShown e)
+handing over = over
+handing (refused x p) = refused x p
 
+-- and the place that is left
 abbrev pub handed : Call Entry × ℕ → Call Shown × ℕ
-handed w = handing (w .0) (w .1)
+handed w = (handing (w .0), w .1)
 
 -- what a call of a walker hands back: what its step says, and the whole walker
 abbrev pub toldTurn : Turn → (Call Shown × ℕ) × Walker

@@ -7,7 +7,7 @@ ghost use Rattle.fields.specs.Numbers.{joined};
 ghost use Rattle.descriptor.specs.Reading.{Row, descriptor};
 ghost use Rattle.descriptor_read.specs.Table.{numbers};
 ghost use Rattle.listing.specs.Buffer.{putAll};
-ghost use Rattle.listing.specs.Text.{word, lines};
+ghost use Rattle.listing.specs.Text.{word, lines, taken};
 ghost use Rattle.descriptor_list.specs.Listing.{line, listing};
 ghost use Rattle.descriptor_list.specs.Listing.{kind as Listing·kind};
 use descriptor_read::Answer;
@@ -78,9 +78,11 @@ fn put_rows(out: &mut [u8], n: usize, table: &[u32], rows: usize) -> usize
 
 // The table has room for 3,276 rows, the most that the longest input holds.
 fn put_listing(out: &mut [u8], file: &[u8]) -> usize
-    requires { ⌜ length (now file) ≤ 16384 ⌝ }
-    ensures { λ r. ⌜ (now (out .exit), r) ≡ putAll (now (out .entry), 0) (listing (descriptor (now (file .entry)))) ⌝ }
+    ensures { λ r. ⌜ (now (out .exit), r) ≡ putAll (now (out .entry), 0) (taken 16384 (now (file .entry)) (listing (descriptor (now (file .entry))))) ⌝ }
 {
+    if TAKEN < file.len() {
+        return put_refusal(out, 1, 0);
+    }
     let mut table = [0u32; 16380];
     match descriptor_read::read(file, &mut table) {
         Answer::Refused { number, place } => put_refusal(out, number, place),
@@ -98,11 +100,6 @@ fn main() {
     let mut input = [0u8; 16385];
     let mut out = [0u8; 16384];
     let n = take_input(&mut input);
-    if TAKEN < n {
-        let full = put_refusal(&mut out, 1, 0);
-        finish(&out, full);
-        return;
-    }
     let full = put_listing(&mut out, &input[..n]);
     finish(&out, full);
 }

@@ -1,8 +1,8 @@
--- Numbers and names as words. Assumes nothing.
+-- Numbers and names as words; a file that is taken or too long. Assumes nothing.
 use Prim.Native.Nat.{ℕ, zero, suc, _+_, _-_, _*_, _/_, _%_, _^_, _≤_, _<_}
 use mathlib.Core.Path.{_≡_, refl, ap, ap₂, _∙_}
 use mathlib.Core.List.{List, [], _∷_, _++_, append-nil}
-use borrow.Author.Tests.{lt-ltb, le-ltb}
+use borrow.Author.Tests.{lt-ltb, le-ltb, lt-leb, le-leb}
 use native.Mathlib.Omega.{arith}
 use native.Mathlib.Nat.{pow-zero, pow-suc}
 use Rattle.io.specs.Digits.{glyph, digits, Fewest}
@@ -12,7 +12,7 @@ use Rattle.fields.specs.Numbers.{joined}
 use Rattle.fields.specs.Store.{stored}
 use Rattle.fields.proofs.Stores.{stored-in}
 use Rattle.listing.specs.Buffer.{Buffer, putOne, putAll}
-use Rattle.listing.specs.Text.{digit, decimalIn, hex, name}
+use Rattle.listing.specs.Text.{digit, decimalIn, hex, name, refusal, taken}
 
 pub digit-low : (d : ℕ) → d < 10 → digit d ≡ 48 + d
 unfolding digit
@@ -83,3 +83,11 @@ pub name-none : (units : List ℕ) → length units ≡ 0 → name units ≡ 45 
 unfolding name
 name-none [] h = refl
 name-none (u ∷ more) h = absurd (omega arith)
+
+-- a file that is taken, and one that is too long
+module _ (most : ℕ) (file listing : List ℕ) where
+  pub taken-within : length file ≤ most → listing ≡ taken most file listing
+  taken-within h = rw (le-leb _ _ h)
+
+  pub taken-beyond : most < length file → refusal 1 0 ≡ taken most file listing
+  taken-beyond h = rw (lt-leb _ _ h)

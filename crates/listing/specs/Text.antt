@@ -3,7 +3,8 @@ use Prim.Native.Nat.{ℕ, zero, suc, _+_, _/_, _%_}
 use Prim.Native.String.{String, [] as empty, _∷_ as _then_}
 use Prim.Native.Char.{code}
 use mathlib.Core.List.{List, [], _∷_, _++_}
-use lib.Dec.{ltb}
+use lib.ListN.{length}
+use lib.Dec.{ltb, leb}
 use Rattle.fields.specs.Reader.{pick}
 use Rattle.fields.specs.Numbers.{be, joined}
 
@@ -50,3 +51,7 @@ lines line i (a ∷ more) = line i a ++ lines line (i + 1) more
 -- the line of a refused file
 abbrev pub refusal : ℕ → ℕ → List ℕ
 refusal number place = ascii "refused" ++ word number ++ ascii " at" ++ word place ++ ascii "\n"
+
+-- what is put for a file, of which so many bytes are taken and the listing is known: a longer one is refusal 1
+abbrev pub taken : ℕ → List ℕ → List ℕ → List ℕ
+taken most file listing = pick (leb (length file) most) listing (refusal 1 0)

@@ -124,9 +124,11 @@ fn pass_rest() {
 }
 
 // Takes standard input to its end: as much as the buffer holds, and passes over the rest. It
-// answers how many bytes at the buffer's start are the input's; which they are is not said.
+// answers how many bytes at the buffer's start are the input's. Which they are is not said, nor that
+// those behind them stay: `io` says neither.
 pub fn take_input(input: &mut [u8]) -> usize
     ensures { λ r. ⌜ Counts r (now (input .exit)) ⌝ }
+    ensures { λ r. ⌜ length (now (input .exit)) ≡ length (now (input .entry)) ⌝ }
 {
     let n = io::read_full(STDIN_FILENO, input);
     if n < input.len() {
@@ -136,7 +138,8 @@ pub fn take_input(input: &mut [u8]) -> usize
     n
 }
 
-// Writes out what is left in the buffer, and answers how many bytes that were.
+// Hands what is left in the buffer to be written out, and answers how many bytes that were. Whether
+// they were written is not said: `io::write_all` promises nothing of its answer.
 pub fn finish(out: &[u8], full: usize) -> usize
     ensures { λ r. ⌜ r ≡ pick (leb full (length (now (out .entry)))) full 0 ⌝ }
 {

@@ -4,7 +4,7 @@ use mathlib.Core.Path.{_≡_}
 use mathlib.Core.List.{List, [], _∷_}
 use mathlib.Core.Option.{some}
 use lib.ListN.{length}
-use mir.Syntax.{Sym, Lifetime, Ty, tyStruct, tyRef, tyInt, imm, w8, w64, tcons, tnil}
+use mir.Syntax.{Sym, Lifetime, erased, Ty, tyStruct, tyRef, tyInt, imm, w8, w64, tcons, tnil}
 use mir.Val.{Val, vint, vstruct, vcons, vnil, ofList}
 use mir.Fields.{getV}
 use prog.Memory.{fieldAt}
@@ -17,6 +17,10 @@ use denote.Struct.Declared.{Declared, fields, row, field}
 use denote.Struct.Field.{shr-slice-field, usize-field}
 use denote.Struct.Struct.{toTys}
 use denote.Struct.Laws.{Laws, Copyables, spells, shr-slice-laws, usize-laws, shr-slice-copy, usize-copy}
+
+-- a lifetime to take a type's name at, which is the same at every one
+abbrev pub any : NamedLft
+any = record { mir = erased; lft = [] }
 
 -- a walker's type: its name; its record, which is a file and a place (`to`) and no more (`one`); and the record made of the two
 pub record Kind : Type 1 where

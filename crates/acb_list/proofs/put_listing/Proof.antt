@@ -7,11 +7,23 @@ use Rattle.acb_judge.specs.declared.Answer.{Answer}
 use Rattle.acb_judge.proofs.Judging.{components-most}
 use Rattle.listing.specs.Buffer.{putAll}
 use Rattle.listing.specs.Text.{lines}
+use Rattle.listing.proofs.Wording.{taken-beyond, taken-within}
 use Rattle.listing.proofs.Putting.{put-both}
 use Rattle.acb_list.specs.Listing.{line}
 use Rattle.acb_list.proofs.Listed.{listed-refused, listed-accepted}
 use Rattle.acb_list.proofs.put_listing.Statement.{statement}
 use Rattle.acb_list.proofs.put_listing.Tie as tie
+
+put-refusal-requires : tie.Need-put-refusal-requires
+put-refusal-requires c κs = search needs
+
+same-length : tie.Need-same-length
+same-length c = search needs
+
+returns : tie.Need-returns
+returns c =
+    let a = c .before .before .before .before .before .before .before .args in
+    c .before .before .put-refusal .ensures ∙ ap (putAll (a .out .now, 0)) (taken-beyond 65536 (a .file .now) _ (c .before .before .before .before .if1 .taken))
 
 slice-aggregate-read : tie.Need-slice-aggregate-read
 slice-aggregate-read c = search needs
@@ -22,8 +34,8 @@ read-requires c κs = search needs
 enum-known-number : tie.Need-enum-known-number
 enum-known-number c = search needs
 
-put-refusal-requires : tie.Need-put-refusal-requires
-put-refusal-requires c κs = search needs
+put-refusal-requires-2 : tie.Need-put-refusal-requires-2
+put-refusal-requires-2 c κs = search needs
 
 enum-known-header : tie.Need-enum-known-header
 enum-known-header c = search needs
@@ -57,21 +69,21 @@ slice-aggregate-put-text c = search needs
 put-text-requires : tie.Need-put-text-requires
 put-text-requires c κs = search needs
 
-same-length : tie.Need-same-length
-same-length c = search needs
-
-returns : tie.Need-returns
-returns c =
-    let j = c .before .before .before .before .before .before .before .before in
-    let a = j .before .before .before .before .args in
-    c .before .before .put-refusal .ensures
-    ∙ ap (putAll (a .out .now, 0)) (listed-refused (a .file .now) _ _ (search needs) (ap (λ (x : Answer). (told x, j .read .last .1 .0)) (sym (c .before .before .before .before .before .number .given .1)) ∙ j .read .ensures))
-
 same-length-2 : tie.Need-same-length-2
 same-length-2 c = search needs
 
 returns-2 : tie.Need-returns-2
 returns-2 c =
+    let j = c .before .before .before .before .before .before .before .before in
+    let a = j .before .before .before .before .before .args in
+    c .before .before .put-refusal2 .ensures
+    ∙ ap (putAll (a .out .now, 0)) (listed-refused (a .file .now) _ _ (search needs) (ap (λ (x : Answer). (told x, j .read .last .1 .0)) (sym (c .before .before .before .before .before .number .given .1)) ∙ j .read .ensures) ∙ taken-within 65536 (a .file .now) _ (j .before .before .if1 .left))
+
+same-length-3 : tie.Need-same-length-3
+same-length-3 c = search needs
+
+returns-3 : tie.Need-returns-3
+returns-3 c =
     let pages = c .before .before .before .before .before .before .before in
     let records = pages .before .before .before .before .before in
     let texts = records .before .before .before .before .before in
@@ -79,20 +91,23 @@ returns-2 c =
     let comps = headed .before .before in
     let v = comps .before .before in
     let j = v .before .before .before in
-    let a = j .before .before .before .before .args in
+    let a = j .before .before .before .before .before .args in
     let x = listed-accepted (a .file .now) _ _ (search needs) (ap (λ (x : Answer). (told x, j .read .last .1 .0)) (sym (v .header .given .1)) ∙ j .read .ensures) in
     let lined = records .put-records .ensures (x .0) (x .1) (x .2) (x .3) ∙ ap (λ (m : ℕ). putAll (texts .put-texts .last .0, texts .put-texts .result) (lines (line (a .file .now) m) 0 (x .0))) (comps .components-of .ensures) in
     put-both _ _ _ (put-both _ _ _ (put-both _ _ _ (put-both _ _ _ (headed .put-heading .ensures) (texts .put-texts .ensures)) lined) (pages .put-pages .ensures)) (c .before .before .put-text .ensures)
-    ∙ ap (putAll (a .out .now, 0)) (x .4)
+    ∙ ap (putAll (a .out .now, 0)) (x .4 ∙ taken-within 65536 (a .file .now) _ (j .before .before .if1 .left))
 
 pub put-listing-spec : {M : Type 1} → statement M
 put-listing-spec =
     tie.close
     (tie.spec
+    put-refusal-requires
+    same-length
+    returns
     slice-aggregate-read
     read-requires
     enum-known-number
-    put-refusal-requires
+    put-refusal-requires-2
     enum-known-header
     components-of-requires
     put-heading-requires
@@ -103,7 +118,7 @@ put-listing-spec =
     put-pages-requires
     slice-aggregate-put-text
     put-text-requires
-    same-length
-    returns
     same-length-2
-    returns-2)
+    returns-2
+    same-length-3
+    returns-3)

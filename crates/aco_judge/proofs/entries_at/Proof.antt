@@ -129,15 +129,10 @@ enum-known-x c = search needs
 
 returns-2 : tie.Need-returns-2 Inv-loop μ-loop Inv-records μ-records
 returns-2 c =
-    let x = c .before in
-    let nm = x .before .before in
+    let nm = c .before .before .before in
+    let a = nm .before .before .before .before .before .before .before .before .args in
     let l = nm .before .before .loop in
-    let r = nm .before .before .before .before .before .before in
-    let a = r .before .before .args in
-    let cs = rawColours (a .n) (a .file .now) 4 in
-    let tw = twin (r .records .i) (getD cs (r .records .i) black) in
-    sym (entry-refused (a .file .now) cs _ (a .n) (r .records .i) (l .p) (inner-end tw (a .file .now) _ (named cs (a .n) (a .file .now) (r .records .i)) 5 (l .f) (l .p) (l .inv .1) (nm .before .loop-test .left))
-    (sym (nm .name32-at .ensures) ∙ ap toldName (x .x .given .1)))
+    sym (entry-refused _ (rawColours (a .n) (a .file .now) 4) _ _ _ _ (inner-end _ _ _ _ 5 (l .f) (l .p) (l .inv .1) (nm .before .loop-test .left)) (sym (nm .name32-at .ensures) ∙ ap toldName (c .before .x .given .1)))
 
 add-i : tie.Need-add-i Inv-loop μ-loop Inv-records μ-records
 add-i c = search needs
@@ -147,17 +142,10 @@ records-less c = search needs
 
 records-again : tie.Need-records-again Inv-loop μ-loop Inv-records μ-records
 records-again c =
-    let x = c .before in
-    let nm = x .before .before in
+    let nm = c .before .before .before in
+    let a = nm .before .before .before .before .before .before .before .before .args in
     let l = nm .before .before .loop in
-    let r = nm .before .before .before .before .before .before in
-    let a = r .before .before .args in
-    let cs = rawColours (a .n) (a .file .now) 4 in
-    let tw = twin (r .records .i) (getD cs (r .records .i) black) in (
-      omega arith,
-      entry-named (a .file .now) cs _ (a .n) (r .records .i) (l .p) (inner-end tw (a .file .now) _ (named cs (a .n) (a .file .now) (r .records .i)) 5 (l .f) (l .p) (l .inv .1) (nm .before .loop-test .left))
-          (sym (nm .name32-at .ensures) ∙ ap toldName (x .next .given .1)),
-    )
+    (omega arith, entry-named _ (rawColours (a .n) (a .file .now) 4) _ _ _ _ (inner-end _ _ _ _ 5 (l .f) (l .p) (l .inv .1) (nm .before .loop-test .left)) (sym (nm .name32-at .ensures) ∙ ap toldName (c .before .next .given .1)))
 
 returns-3 : tie.Need-returns-3 Inv-loop μ-loop Inv-records μ-records
 returns-3 c =

@@ -19,10 +19,7 @@ enum-known-end c = search needs
 returns : tie.Need-returns
 returns c =
     let v = c .before .before in
-    let call = v .before .before in
-    let a = call .before .before .args in
-    let e = sym (call .colours-at .ensures) ∙ ap toldStep (v .end .given .1) in
-    sym (lists-one (a .file .now) (a .n) _ e (c .if1 .taken))
+    sym (lists-one _ _ _ (sym (v .before .before .colours-at .ensures) ∙ ap toldStep (v .end .given .1)) (c .if1 .taken))
 
 second-at-requires : tie.Need-second-at-requires
 second-at-requires c κs =
@@ -42,40 +39,25 @@ enum-known-q : tie.Need-enum-known-q
 enum-known-q c = search needs
 
 returns-2 : tie.Need-returns-2
-returns-2 c =
-    let x = c .before in
-    let call = x .before .before in
-    let a = call .before .before .args in
-    sym (colours-refused (a .file .now) (a .n) (sym (call .colours-at .ensures) ∙ ap toldStep (x .x .given .1)))
+returns-2 c = sym (colours-refused _ _ (sym (c .before .before .before .colours-at .ensures) ∙ ap toldStep (c .before .x .given .1)))
 
 returns-3 : tie.Need-returns-3
 returns-3 c =
     let w = c .before .before in
     let v = w .before .before .before in
-    let call = v .before .before in
-    let a = call .before .before .args in
-    let e = sym (call .colours-at .ensures) ∙ ap toldStep (v .end .given .1) in
-    sym (lists-two (a .file .now) (a .n) _ e (w .before .if1 .left) (sym (w .second-at .ensures) ∙ ap toldWalk (c .enum-told .given .1)))
+    sym (lists-two _ _ _ (sym (v .before .before .colours-at .ensures) ∙ ap toldStep (v .end .given .1)) (w .before .if1 .left) (sym (w .second-at .ensures) ∙ ap toldWalk (c .enum-told .given .1)))
 
 returns-4 : tie.Need-returns-4
 returns-4 c =
-    let x = c .before in
-    let w = x .before .before in
+    let w = c .before .before .before in
     let v = w .before .before .before in
-    let call = v .before .before in
-    let a = call .before .before .args in
-    let e = sym (call .colours-at .ensures) ∙ ap toldStep (v .end .given .1) in
-    sym (lists-refused (a .file .now) (a .n) _ e (w .before .if1 .left) (sym (w .second-at .ensures) ∙ ap toldWalk (x .x2 .given .1)))
+    sym (lists-refused _ _ _ (sym (v .before .before .colours-at .ensures) ∙ ap toldStep (v .end .given .1)) (w .before .if1 .left) (sym (w .second-at .ensures) ∙ ap toldWalk (c .before .x2 .given .1)))
 
 returns-5 : tie.Need-returns-5
 returns-5 c =
-    let x = c .before in
-    let w = x .before .before in
+    let w = c .before .before .before in
     let v = w .before .before .before in
-    let call = v .before .before in
-    let a = call .before .before .args in
-    let e = sym (call .colours-at .ensures) ∙ ap toldStep (v .end .given .1) in
-    sym (lists-refused (a .file .now) (a .n) _ e (w .before .if1 .left) (sym (w .second-at .ensures) ∙ ap toldWalk (x .q .given .1)))
+    sym (lists-refused _ _ _ (sym (v .before .before .colours-at .ensures) ∙ ap toldStep (v .end .given .1)) (w .before .if1 .left) (sym (w .second-at .ensures) ∙ ap toldWalk (c .before .q .given .1)))
 
 pub lists-at-spec : {M : Type 1} → statement M
 lists-at-spec =

@@ -21,10 +21,7 @@ add-t17 c = search needs
 returns : tie.Need-returns
 returns c =
     let v = c .before .before in
-    let call = v .before .before in
-    let a = call .before .before .args in
-    let e = sym (call .heading-at .ensures) ∙ ap toldHeading (v .m .given .1) in
-    sym (second-differs (a .file .now) (a .at) (a .n) _ _ e (c .if1 .taken))
+    sym (second-differs _ _ _ _ _ (sym (v .before .before .heading-at .ensures) ∙ ap toldHeading (v .m .given .1)) (c .if1 .taken))
 
 entries-at-requires : tie.Need-entries-at-requires
 entries-at-requires c κs = search needs
@@ -34,14 +31,10 @@ enum-known-end c = search needs
 
 returns-2 : tie.Need-returns-2
 returns-2 c =
-    let x = c .before .before in
-    let w = x .before .before in
+    let w = c .before .before .before .before in
     let v = w .before .before .before in
-    let call = v .before .before in
-    let a = call .before .before .args in
-    let e = sym (call .heading-at .ensures) ∙ ap toldHeading (v .m .given .1) in
-    let k = sym (ap toldWalk (x .end .given .1)) ∙ w .entries-at .ensures in
-    sym (second-from (a .file .now) (a .at) (a .n) _ _ e (w .before .if1 .left) _ k ∙ simp (eq-eqb _ _ (c .if2 .taken)))
+    let k = sym (ap toldWalk (c .before .before .end .given .1)) ∙ w .entries-at .ensures in
+    sym (second-from _ _ _ _ _ (sym (v .before .before .heading-at .ensures) ∙ ap toldHeading (v .m .given .1)) (w .before .if1 .left) _ k ∙ simp (eq-eqb _ _ (c .if2 .taken)))
 
 enum-known-x-2 : tie.Need-enum-known-x-2
 enum-known-x-2 c = search needs
@@ -57,36 +50,24 @@ returns-3 c =
 
 returns-4 : tie.Need-returns-4
 returns-4 c =
-    let x = c .before .before in
-    let w = x .before .before in
+    let w = c .before .before .before .before in
     let v = w .before .before .before in
-    let call = v .before .before in
-    let a = call .before .before .args in
-    let e = sym (call .heading-at .ensures) ∙ ap toldHeading (v .m .given .1) in
-    let k = sym (ap toldWalk (x .end .given .1)) ∙ w .entries-at .ensures in
-    sym (second-from (a .file .now) (a .at) (a .n) _ _ e (w .before .if1 .left) _ k ∙ simp (ne-eqb _ _ (c .if2 .left)))
+    let k = sym (ap toldWalk (c .before .before .end .given .1)) ∙ w .entries-at .ensures in
+    sym (second-from _ _ _ _ _ (sym (v .before .before .heading-at .ensures) ∙ ap toldHeading (v .m .given .1)) (w .before .if1 .left) _ k ∙ simp (ne-eqb _ _ (c .if2 .left)))
 
 returns-5 : tie.Need-returns-5
 returns-5 c =
-    let x = c .before in
-    let w = x .before .before in
+    let w = c .before .before .before in
     let v = w .before .before .before in
-    let call = v .before .before in
-    let a = call .before .before .args in
-    let e = sym (call .heading-at .ensures) ∙ ap toldHeading (v .m .given .1) in
-    let k = sym (ap toldWalk (x .x2 .given .1)) ∙ w .entries-at .ensures in
-    sym (second-from (a .file .now) (a .at) (a .n) _ _ e (w .before .if1 .left) _ k)
+    let k = sym (ap toldWalk (c .before .x2 .given .1)) ∙ w .entries-at .ensures in
+    sym (second-from _ _ _ _ _ (sym (v .before .before .heading-at .ensures) ∙ ap toldHeading (v .m .given .1)) (w .before .if1 .left) _ k)
 
 returns-6 : tie.Need-returns-6
 returns-6 c =
-    let x = c .before in
-    let w = x .before .before in
+    let w = c .before .before .before in
     let v = w .before .before .before in
-    let call = v .before .before in
-    let a = call .before .before .args in
-    let e = sym (call .heading-at .ensures) ∙ ap toldHeading (v .m .given .1) in
-    let k = sym (ap toldWalk (x .q .given .1)) ∙ w .entries-at .ensures in
-    sym (second-from (a .file .now) (a .at) (a .n) _ _ e (w .before .if1 .left) _ k)
+    let k = sym (ap toldWalk (c .before .q .given .1)) ∙ w .entries-at .ensures in
+    sym (second-from _ _ _ _ _ (sym (v .before .before .heading-at .ensures) ∙ ap toldHeading (v .m .given .1)) (w .before .if1 .left) _ k)
 
 pub second-at-spec : {M : Type 1} → statement M
 second-at-spec =

@@ -12,7 +12,6 @@ use Rattle.ase_walk.specs.Answer.{toldStep, handed, toldTurn, handedOn}
 use Rattle.ase_walk.specs.declared.Walker.{Walker}
 use Rattle.ase_walk.specs.declared.Step.{Step}
 use Rattle.ase_walk.specs.declared.Turn.{Turn}
-use Rattle.ase_walk.proofs.Walked.{next-follows}
 use Rattle.ase_walk.proofs.Types.{walker, answer, turn}
 use Rattle.ase_walk.proofs.step_at.Symbol as step-def
 use Rattle.ase_walk.proofs.step_at.Symbol.{name as #ase-walk·step-at}
@@ -31,7 +30,7 @@ Says w t = toldTurn t ≡ handedOn w
 
 -- the one gives the other: the place that a step leaves is where the definition leaves the walker
 follows : (w : Walker) (r : Step) → Told (now (w .file)) (w .at) r → Says w (record { step = r; walker = record { file = w .file; at = r .next } })
-follows w r e = λ i. (e i, walker .made (w .file) (next-follows (now (w .file)) (w .at) r e i))
+follows w r e = λ i. (e i, walker .made (w .file) (e i .1))
 
 pub next-spec : {M : Type 1} → stated.statement M
 unfolding code.routine tablesOf
