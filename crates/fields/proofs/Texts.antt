@@ -86,12 +86,6 @@ module _ (n : ℕ) (s : List ℕ) (at : ℕ) where
   closed-pos : 0 < n → closed (nums 2 n s at) ≡ pick (anyZero (nums 2 (n - 1) s at)) false (eqb (num 2 s (at + 2 * (n - 1))) 0)
   closed-pos h = let e : n ≡ suc (n - 1) = omega arith in ap (λ (k : ℕ). closed (nums 2 k s at)) e ∙ closed-last (n - 1) s at
 
-  pub closed-some : closed (nums 2 n s at) ≡ true → 0 < n
-  closed-some e = elim (ℕ-discrete n 0) [
-    | yes h ↦ let z : _≡_ {A = ℕ} 0 1 = cc (sym e ∙ closed-none h) in absurd (omega arith)
-    | no h ↦ omega (arith, h)
-  ]
-
   pub closed-early : 0 < n → anyZero (nums 2 (n - 1) s at) ≡ true → closed (nums 2 n s at) ≡ false
   closed-early h e = closed-pos h ∙ rw e
 

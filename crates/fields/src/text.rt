@@ -69,11 +69,14 @@ fn is_closed(s: &[u8], at: usize, n: usize) -> bool
     crate::number::swapped(s, at + 2 * (n - 1)) == 0
 }
 
-// A name's n units from `first`, behind a count that stands at `at`. A count of 0 has no closing zero.
+// A name's n units from `first`, behind a count that stands at `at`.
 fn units_at(s: &[u8], at: usize, first: usize, n: u32) -> NameAt
     requires { ⌜ first ≤ length (now s) ⌝ }
     ensures { λ r. ⌜ toldName r ≡ place (closedUnits at n (now (s .entry)) first) ⌝ }
 {
+    if n == 0 {
+        return NameAt::Refused(8, at);
+    }
     let k = n as usize;
     if s.len() - first < 2 * k {
         return NameAt::Refused(2, first);
