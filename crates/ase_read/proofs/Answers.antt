@@ -13,7 +13,7 @@ use Rattle.fields.specs.Reader.{Res, ok, refuse, pick}
 use Rattle.fields.specs.Text.{Name}
 use Rattle.fields.proofs.Places.{length-joined}
 use Rattle.colour.specs.Models.{traitsOf, modelOf, isKnown, countIn, isModel, channelsOf}
-use Rattle.colour.specs.Channels.{allowsIn, allowsBits, made, used, bitsOf, modelIn, channel}
+use Rattle.colour.specs.Channels.{allowsIn, allowsBits, made, madeIn, bitsOf, modelIn, channel}
 use Rattle.colour.specs.declared.model.Model.{Model}
 use Rattle.colour.specs.declared.model.Model.the-variants.{Rgb, Cmyk, Lab, Gray}
 use Rattle.colour.specs.declared.model.Known.{Known}
@@ -34,23 +34,17 @@ use Rattle.ase_read.proofs.Filling.{here}
 -- ---- a colour
 
 module _ (t a b c d : ℕ) (is : IsColour t a b c d) where
-  pub is-known : {X : Type 0} → modelOf t ≡ Unknown → X
-  is-known e = let z : Is (is .0) ≡ Unknown = sym (is .2) ∙ e in let w : _≡_ {A = ℕ} 0 1 = cc in absurd (omega arith)
+  by-tag : madeIn (modelOf t) a b c d ≡ made (is .0) a b c d
+  by-tag = ap (λ (k : Known). madeIn k a b c d) (is .2)
 
-  same-model : (m : Model) → modelOf t ≡ Is m → is .0 ≡ m
-  same-model m e = let z : Is (is .0) ≡ Is m = sym (is .2) ∙ e in cc
+  pub is-made : (n : ℕ) → {X : Type 0} → madeIn (modelOf t) a b c d ≡ vm.Refused n → X
+  is-made n e = let z : vm.Is (is .1) ≡ vm.Refused n = sym (is .3) ∙ sym by-tag ∙ e in let w : _≡_ {A = ℕ} 0 1 = cc in absurd (omega arith)
 
-  pub is-made : (m : Model) → modelOf t ≡ Is m → (n : ℕ) → {X : Type 0} → made m a b c d ≡ vm.Refused n → X
-  is-made m e n f =
-      let z : vm.Is (is .1) ≡ vm.Refused n = sym (is .3) ∙ ap (λ (x : Model). made x a b c d) (same-model m e) ∙ f in
-      let w : _≡_ {A = ℕ} 0 1 = cc in absurd (omega arith)
-
-  pub colour-is : (m : Model) → modelOf t ≡ Is m → (x : Channels) → made m a b c d ≡ vm.Is x → a < 2 ^ 32 → b < 2 ^ 32 → c < 2 ^ 32 → d < 2 ^ 32
+  pub colour-is : (x : Channels) → madeIn (modelOf t) a b c d ≡ vm.Is x → a < 2 ^ 32 → b < 2 ^ 32 → c < 2 ^ 32 → d < 2 ^ 32
       → (p u k : ℕ) → colour p u (traitsOf (modelIn x) .tag) (bitsOf x) k ≡ colour p u t (a ∷ b ∷ c ∷ d ∷ []) k
-  colour-is m e x f ha hb hc hd p u k =
-      let z = bits-kept m a b c d ha hb hc hd x f in
-      ap₂ (λ (g : ℕ) (l : List ℕ). colour p u g l k) (ap (λ (y : Model). traitsOf y .tag) (z .0) ∙ tag-known t m e)
-      (z .1 ∙ ap (λ (y : Model). used y a b c d) (sym (same-model m e)) ∙ is .4)
+  colour-is x e ha hb hc hd p u k =
+      let z = bits-kept (is .0) a b c d ha hb hc hd x (sym by-tag ∙ e) in
+      ap₂ (λ (g : ℕ) (l : List ℕ). colour p u g l k) (ap (λ (y : Model). traitsOf y .tag) (z .0) ∙ tag-known t (is .0) (is .2)) (z .1 ∙ is .4)
 
 -- what is judged makes a colour
 pub sound-colour : (nm : Name) (t : ℕ) (bs : List ℕ) (k : ℕ) → Sound (coloured nm t bs k) → IsColour t (getD bs 0 0) (getD bs 1 0) (getD bs 2 0) (getD bs 3 0)

@@ -17,9 +17,7 @@ use ase::STOP;
 use ase::WIDTH;
 use ase_judge::Answer;
 use colour::Channels;
-use colour::Known;
 use colour::Made;
-use colour::Model;
 
 // The length of the heading.
 const HEADING: usize = 12;
@@ -170,23 +168,14 @@ fn coloured(place: usize, units: u32, tag: u32, a: u32, b: u32, c: u32, d: u32, 
     requires { ⌜ IsColour tag a b c d ⌝ }
     ensures { λ r. ⌜ toldRecord r ≡ colour place units tag (a ∷ b ∷ c ∷ d ∷ []) kind ⌝ }
 {
-    let Known::Is(model) = Model::from_tag(tag) else {
-        return Record::Refused {
-            number: 4,
-            place: 0,
-        };
-    };
-    let Made::Is(colour) = Channels::from_bits(model, a, b, c, d) else {
-        return Record::Refused {
-            number: 5,
-            place: 0,
-        };
-    };
-    Record::Colour {
-        place,
-        units,
-        colour,
-        kind,
+    match Channels::from_tag(tag, a, b, c, d) {
+        Made::Is(colour) => Record::Colour {
+            place,
+            units,
+            colour,
+            kind,
+        },
+        Made::Refused(number) => Record::Refused { number, place: 0 },
     }
 }
 

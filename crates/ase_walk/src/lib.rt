@@ -17,9 +17,7 @@ use ase::STOP;
 use ase_judge::Answer;
 use ase_judge::Passed;
 use colour::Channels;
-use colour::Known;
 use colour::Made;
-use colour::Model;
 
 // What a call of the block step gives: a group start with its name's place and number of units, a
 // group end, or a colour with its name, its channels and its type; done; or a refusal.
@@ -104,23 +102,14 @@ fn coloured(place: usize, units: u32, tag: u32, a: u32, b: u32, c: u32, d: u32, 
     requires { ⌜ IsColour tag a b c d ⌝ }
     ensures { λ r. ⌜ toldBlock r ≡ gives (colour place units tag (a ∷ b ∷ c ∷ d ∷ []) kind) ⌝ }
 {
-    let Known::Is(model) = Model::from_tag(tag) else {
-        return Block::Refused {
-            number: 4,
-            place: 0,
-        };
-    };
-    let Made::Is(colour) = Channels::from_bits(model, a, b, c, d) else {
-        return Block::Refused {
-            number: 5,
-            place: 0,
-        };
-    };
-    Block::Colour {
-        place,
-        units,
-        colour,
-        kind,
+    match Channels::from_tag(tag, a, b, c, d) {
+        Made::Is(colour) => Block::Colour {
+            place,
+            units,
+            colour,
+            kind,
+        },
+        Made::Refused(number) => Block::Refused { number, place: 0 },
     }
 }
 

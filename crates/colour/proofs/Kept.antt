@@ -10,7 +10,7 @@ use lib.Ieee.Bits.{nanBits-is, toBits-ofBits}
 use lib.Ieee.Scale.{finite}
 use Rattle.fields.specs.Reader.{pick}
 use Rattle.fields.proofs.Floats.{no-nan}
-use Rattle.colour.specs.Channels.{inUnit, channel, made, bitsOf, used, modelIn}
+use Rattle.colour.specs.Channels.{inUnit, allows, channel, ofAll, allowsAll, colourOf, made, bitsOf, used, modelIn}
 use Rattle.colour.specs.declared.model.Model.{Model}
 use Rattle.colour.specs.declared.model.Model.the-variants as model
 use Rattle.colour.specs.declared.channel.Channels.{Channels}
@@ -29,6 +29,42 @@ equal-no-nan (fin s m d) e = tt
 pub unequal-nan : (x : Float) → eq x x ≡ false → _≡_ {A = ℕ} 0x7fc0_0000 (toBits binary32 x)
 unfolding toBits
 unequal-nan x e = sym (ap (toBits binary32) (differs-from-itself x (unfold ne in subst (λ (t : Bool). T (not t)) (sym e) tt)))
+
+-- ---- channels that a model allows
+
+both : (p q : Bool) → (p && q) ≡ true → (p ≡ true) × (q ≡ true)
+both true q e = (refl, e)
+both false q e = absurd (true≢false (sym e))
+
+-- each channel that the model has is finite
+abbrev pub Finites : Model → ℕ → ℕ → ℕ → ℕ → Type 0
+Finites model.Rgb a b c d = (finite (channel a) ≡ true) × (finite (channel b) ≡ true) × (finite (channel c) ≡ true)
+Finites model.Cmyk a b c d = (finite (channel a) ≡ true) × (finite (channel b) ≡ true) × (finite (channel c) ≡ true) × (finite (channel d) ≡ true)
+Finites model.Lab a b c d = (finite (channel a) ≡ true) × (finite (channel b) ≡ true) × (finite (channel c) ≡ true)
+Finites model.Gray a b c d = finite (channel a) ≡ true
+
+pub made-not : (m : Model) (a b c d : ℕ) → allowsAll m a b c d ≡ false → Refused 5 ≡ made m a b c d
+made-not m a b c d h = sym (λ i. pick (h i) (Is (colourOf m a b c d)) (Refused 5))
+
+-- the model m, by its case n
+module _ (m n : Model) (a b c d : ℕ) (e : m ≡ n) where
+  pub all-by : (x y z w : Bool) → x ≡ allows m (channel a) → y ≡ allows m (channel b) → z ≡ allows m (channel c) → w ≡ allows m (channel d) → ofAll n x y z w ≡ allowsAll m a b c d
+  all-by x y z w p q r s = (λ i. ofAll n (p i) (q i) (r i) (s i)) ∙ sym (λ i. ofAll (e i) (allows m (channel a)) (allows m (channel b)) (allows m (channel c)) (allows m (channel d)))
+
+  pub all-finite : allowsAll m a b c d ≡ true → Finites n a b c d
+  all-finite h = subst (λ (k : Model). Finites k a b c d) e (go m h)
+    where
+      three : (x y z : Bool) → (x && y && z) ≡ true → (x ≡ true) × (y ≡ true) × (z ≡ true)
+      three x y z t = let p = both (x && y) z t in let q = both x y (p .0) in (q .0, q .1, p .1)
+
+      go : (k : Model) → allowsAll k a b c d ≡ true → Finites k a b c d
+      go model.Rgb t = let p = three _ _ _ t in (unit-finite _ (p .0), unit-finite _ (p .1), unit-finite _ (p .2))
+      go model.Cmyk t = let q = both _ (inUnit (channel d)) t in let p = three _ _ _ (q .0) in (unit-finite _ (p .0), unit-finite _ (p .1), unit-finite _ (p .2), unit-finite _ (q .1))
+      go model.Lab t = three _ _ _ t
+      go model.Gray t = unit-finite _ t
+
+  pub made-is : allowsAll m a b c d ≡ true → Is (colourOf n a b c d) ≡ made m a b c d
+  made-is h = sym (λ i. pick (h i) (Is (colourOf (e i) a b c d)) (Refused 5))
 
 -- ---- four numbers in a row
 pub same-four : {a b c d a′ b′ c′ d′ : ℕ} → a ≡ a′ → b ≡ b′ → c ≡ c′ → d ≡ d′ → _≡_ {A = List ℕ} (a ∷ b ∷ c ∷ d ∷ []) (a′ ∷ b′ ∷ c′ ∷ d′ ∷ [])
@@ -50,33 +86,17 @@ unfolding inside isMade
 made-inv true y x e = (refl, ap (λ (w : Made). inside w x) (sym e))
 made-inv false y x e = absurd (true≢false (ap isMade (sym e)))
 
-both : (p q : Bool) → (p && q) ≡ true → (p ≡ true) × (q ≡ true)
-both true q e = (refl, e)
-both false q e = absurd (true≢false (sym e))
-
 pub finite-kept : (b : ℕ) → b < 2 ^ 32 → finite (ofBits binary32 b) ≡ true → toBits binary32 (ofBits binary32 b) ≡ b
 finite-kept b h e = toBits-ofBits binary32 b h (subst (λ (t : Bool). T (not t)) (nanBits-is binary32 b) (no-nan binary32 b e))
 
-unit-kept : (b : ℕ) → b < 2 ^ 32 → inUnit (ofBits binary32 b) ≡ true → toBits binary32 (ofBits binary32 b) ≡ b
-unit-kept b h e = finite-kept b h (unit-finite (ofBits binary32 b) e)
-
 pub bits-kept : (m : Model) (a b c d : ℕ) → a < 2 ^ 32 → b < 2 ^ 32 → c < 2 ^ 32 → d < 2 ^ 32 → (x : Channels) → made m a b c d ≡ Is x → (modelIn x ≡ m) × (bitsOf x ≡ used m a b c d)
-bits-kept model.Rgb a b c d ha hb hc hd x e =
-    let i = made-inv _ (Rgb (channel a) (channel b) (channel c)) x e in
-    let p = both _ (inUnit (channel c)) (i .0) in
-    let q = both (inUnit (channel a)) (inUnit (channel b)) (p .0) in
-    (ap modelIn (i .1), ap bitsOf (i .1) ∙ same-four (unit-kept a ha (q .0)) (unit-kept b hb (q .1)) (unit-kept c hc (p .1)) refl)
-bits-kept model.Cmyk a b c d ha hb hc hd x e =
-    let i = made-inv _ (Cmyk (channel a) (channel b) (channel c) (channel d)) x e in
-    let p = both _ (inUnit (channel d)) (i .0) in
-    let q = both _ (inUnit (channel c)) (p .0) in
-    let r = both (inUnit (channel a)) (inUnit (channel b)) (q .0) in
-    (ap modelIn (i .1), ap bitsOf (i .1) ∙ same-four (unit-kept a ha (r .0)) (unit-kept b hb (r .1)) (unit-kept c hc (q .1)) (unit-kept d hd (p .1)))
-bits-kept model.Lab a b c d ha hb hc hd x e =
-    let i = made-inv _ (Lab (channel a) (channel b) (channel c)) x e in
-    let p = both _ (finite (channel c)) (i .0) in
-    let q = both (finite (channel a)) (finite (channel b)) (p .0) in
-    (ap modelIn (i .1), ap bitsOf (i .1) ∙ same-four (finite-kept a ha (q .0)) (finite-kept b hb (q .1)) (finite-kept c hc (p .1)) refl)
-bits-kept model.Gray a b c d ha hb hc hd x e =
-    let i = made-inv _ (Gray (channel a)) x e in
-    (ap modelIn (i .1), ap bitsOf (i .1) ∙ same-four (unit-kept a ha (i .0)) refl refl refl)
+bits-kept m a b c d ha hb hc hd x e =
+    let i = made-inv (allowsAll m a b c d) (colourOf m a b c d) x e in
+    let k = go m (all-finite m m a b c d refl (i .0)) in
+    (ap modelIn (i .1) ∙ k .0, ap bitsOf (i .1) ∙ k .1)
+  where
+    go : (m : Model) → Finites m a b c d → (modelIn (colourOf m a b c d) ≡ m) × (bitsOf (colourOf m a b c d) ≡ used m a b c d)
+    go model.Rgb f = (refl, same-four (finite-kept a ha (f .0)) (finite-kept b hb (f .1)) (finite-kept c hc (f .2)) refl)
+    go model.Cmyk f = (refl, same-four (finite-kept a ha (f .0)) (finite-kept b hb (f .1)) (finite-kept c hc (f .2)) (finite-kept d hd (f .3)))
+    go model.Lab f = (refl, same-four (finite-kept a ha (f .0)) (finite-kept b hb (f .1)) (finite-kept c hc (f .2)) refl)
+    go model.Gray f = (refl, same-four (finite-kept a ha f) refl refl refl)

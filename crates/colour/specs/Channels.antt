@@ -56,19 +56,37 @@ nearestUp a c = (2 * a + c) / (2 * c)
 unfoldable pub sampleOf : ℕ → Float → ℕ
 sampleOf n x = nearestUp (n * num x) (den x)
 
--- ---- a colour from the bits of its channels: 5 where the model does not allow one; bits that it does not use are left alone
+-- ---- a colour from the bits of its channels; bits that its model does not use are left alone
 
 abbrev pub channel : ℕ → Float
 channel b = ofBits binary32 b
 
+-- what is so of each channel that the model has
+abbrev pub ofAll : Model → Bool → Bool → Bool → Bool → Bool
+ofAll model.Rgb x y z w = x && y && z
+ofAll model.Cmyk x y z w = x && y && z && w
+ofAll model.Lab x y z w = x && y && z
+ofAll model.Gray x y z w = x
+
+-- the model allows each channel that it has
+abbrev pub allowsAll : Model → ℕ → ℕ → ℕ → ℕ → Bool
+allowsAll m a b c d = ofAll m (allows m (channel a)) (allows m (channel b)) (allows m (channel c)) (allows m (channel d))
+
+-- the colour of the model with these channels
+abbrev pub colourOf : Model → ℕ → ℕ → ℕ → ℕ → Channels
+colourOf model.Rgb a b c d = Rgb (channel a) (channel b) (channel c)
+colourOf model.Cmyk a b c d = Cmyk (channel a) (channel b) (channel c) (channel d)
+colourOf model.Lab a b c d = Lab (channel a) (channel b) (channel c)
+colourOf model.Gray a b c d = Gray (channel a)
+
+-- the same where the model allows them; 5 where it does not
 abbrev pub made : Model → ℕ → ℕ → ℕ → ℕ → Made
-made model.Rgb a b c d = pick (inUnit (channel a) && inUnit (channel b) && inUnit (channel c)) (vm.Is (Rgb (channel a) (channel b) (channel c))) (vm.Refused 5)
-made model.Cmyk a b c d =
-    pick (inUnit (channel a) && inUnit (channel b) && inUnit (channel c) && inUnit (channel d))
-    (vm.Is (Cmyk (channel a) (channel b) (channel c) (channel d)))
-    (vm.Refused 5)
-made model.Lab a b c d = pick (finite (channel a) && finite (channel b) && finite (channel c)) (vm.Is (Lab (channel a) (channel b) (channel c))) (vm.Refused 5)
-made model.Gray a b c d = pick (inUnit (channel a)) (vm.Is (Gray (channel a))) (vm.Refused 5)
+made m a b c d = pick (allowsAll m a b c d) (vm.Is (colourOf m a b c d)) (vm.Refused 5)
+
+-- the same of the model that a tag has; 4 where there is none
+abbrev pub madeIn : Known → ℕ → ℕ → ℕ → ℕ → Made
+madeIn (Is m) a b c d = made m a b c d
+madeIn Unknown a b c d = vm.Refused 4
 
 -- the bits of a colour's channels, and 0 for those that its model does not use
 abbrev pub bitsOf : Channels → List ℕ

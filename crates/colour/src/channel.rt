@@ -4,7 +4,9 @@ ghost use Prim.Native.Nat.{_%_, _≤_};
 ghost use lib.Ieee.{binary32, ofBits, toBits};
 ghost use lib.Ieee.Scale.{finite};
 ghost use Rattle.fields.specs.Reader.{pick};
-ghost use Rattle.colour.specs.Channels.{inUnit, channelOf, sampleOf, made, bitsOf, modelIn};
+ghost use Rattle.colour.specs.Models.{modelOf};
+ghost use Rattle.colour.specs.Channels.{inUnit, channelOf, sampleOf, made, madeIn, bitsOf, modelIn};
+use crate::model::Known;
 use crate::model::Model;
 
 // The bits of one, of minus zero, of infinity, and of the NaN that is written for any.
@@ -93,78 +95,42 @@ pub(crate) fn nearest(full: u16, bits: u32) -> u16
     ((2 * product + UNIT) / (2 * UNIT)) as u16
 }
 
-fn rgb(a: u32, b: u32, c: u32) -> Made
-    ensures { λ r. ⌜ r ≡ made Model.Rgb a b c 0 ⌝ }
-{
-    if !is_unit(a) {
-        return Made::Refused(5);
-    }
-    if !is_unit(b) {
-        return Made::Refused(5);
-    }
-    if !is_unit(c) {
-        return Made::Refused(5);
-    }
-    Made::Is(Channels::Rgb(f32::from_bits(a), f32::from_bits(b), f32::from_bits(c)))
-}
-
-fn cmyk(a: u32, b: u32, c: u32, d: u32) -> Made
-    ensures { λ r. ⌜ r ≡ made Model.Cmyk a b c d ⌝ }
-{
-    if !is_unit(a) {
-        return Made::Refused(5);
-    }
-    if !is_unit(b) {
-        return Made::Refused(5);
-    }
-    if !is_unit(c) {
-        return Made::Refused(5);
-    }
-    if !is_unit(d) {
-        return Made::Refused(5);
-    }
-    Made::Is(Channels::Cmyk(
-        f32::from_bits(a),
-        f32::from_bits(b),
-        f32::from_bits(c),
-        f32::from_bits(d),
-    ))
-}
-
-fn lab(a: u32, b: u32, c: u32) -> Made
-    ensures { λ r. ⌜ r ≡ made Model.Lab a b c 0 ⌝ }
-{
-    if !is_finite(a) {
-        return Made::Refused(5);
-    }
-    if !is_finite(b) {
-        return Made::Refused(5);
-    }
-    if !is_finite(c) {
-        return Made::Refused(5);
-    }
-    Made::Is(Channels::Lab(f32::from_bits(a), f32::from_bits(b), f32::from_bits(c)))
-}
-
-fn gray(a: u32) -> Made
-    ensures { λ r. ⌜ r ≡ made Model.Gray a 0 0 0 ⌝ }
-{
-    if !is_unit(a) {
-        return Made::Refused(5);
-    }
-    Made::Is(Channels::Gray(f32::from_bits(a)))
-}
-
 impl Channels {
     // The colour whose channels have these bits. Those that the model does not use are left alone.
     pub fn from_bits(model: Model, a: u32, b: u32, c: u32, d: u32) -> Made
         ensures { λ r. ⌜ r ≡ made model a b c d ⌝ }
     {
+        if !model.allows_all(a, b, c, d) {
+            return Made::Refused(5);
+        }
         match model {
-            Model::Rgb => rgb(a, b, c),
-            Model::Cmyk => cmyk(a, b, c, d),
-            Model::Lab => lab(a, b, c),
-            Model::Gray => gray(a),
+            Model::Rgb => Made::Is(Channels::Rgb(
+                f32::from_bits(a),
+                f32::from_bits(b),
+                f32::from_bits(c),
+            )),
+            Model::Cmyk => Made::Is(Channels::Cmyk(
+                f32::from_bits(a),
+                f32::from_bits(b),
+                f32::from_bits(c),
+                f32::from_bits(d),
+            )),
+            Model::Lab => Made::Is(Channels::Lab(
+                f32::from_bits(a),
+                f32::from_bits(b),
+                f32::from_bits(c),
+            )),
+            Model::Gray => Made::Is(Channels::Gray(f32::from_bits(a))),
+        }
+    }
+
+    // The same by the model's tag.
+    pub fn from_tag(tag: u32, a: u32, b: u32, c: u32, d: u32) -> Made
+        ensures { λ r. ⌜ r ≡ madeIn (modelOf tag) a b c d ⌝ }
+    {
+        match Model::from_tag(tag) {
+            Known::Is(model) => Self::from_bits(model, a, b, c, d),
+            Known::Unknown => Made::Refused(4),
         }
     }
 

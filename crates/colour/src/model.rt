@@ -2,9 +2,8 @@
 ghost use mathlib.Core.Path.{_≡_};
 ghost use lib.Ieee.{binary32, ofBits};
 ghost use Rattle.colour.specs.Models.{traitsOf, modelOf};
-ghost use Rattle.colour.specs.Channels.{wide, allows};
-use crate::channel::is_finite;
-use crate::channel::is_unit;
+ghost use Rattle.colour.specs.Channels.{wide, allows, allowsAll};
+use crate::channel::is_channel;
 
 // What a model has: its four characters as a number, its channels, and the sample that is 1.
 pub struct Traits {
@@ -95,11 +94,22 @@ impl Model {
     pub fn allows(self, bits: u32) -> bool
         ensures { λ r. ⌜ r ≡ allows self (ofBits binary32 bits) ⌝ }
     {
+        is_channel(self.is_wide(), bits)
+    }
+
+    // Whether the channels may have these bits, as many of them as the model has.
+    pub fn allows_all(self, a: u32, b: u32, c: u32, d: u32) -> bool
+        ensures { λ r. ⌜ r ≡ allowsAll self a b c d ⌝ }
+    {
+        let x = self.allows(a);
+        let y = self.allows(b);
+        let z = self.allows(c);
+        let w = self.allows(d);
         match self {
-            Model::Rgb => is_unit(bits),
-            Model::Cmyk => is_unit(bits),
-            Model::Lab => is_finite(bits),
-            Model::Gray => is_unit(bits),
+            Model::Rgb => x & y & z,
+            Model::Cmyk => x & y & z & w,
+            Model::Lab => x & y & z,
+            Model::Gray => x,
         }
     }
 }

@@ -6,7 +6,7 @@ use mathlib.Core.Bool.{Bool, true, false}
 use lib.ListN.{length, getD, drop, set, length-append, drop-of-length-le}
 use lib.Seq.{sets, drop-cons, length-sets}
 use lib.Dec.{leb}
-use borrow.Author.Tests.{le-leb, lt-leb}
+use borrow.Author.Tests.{le-leb, lt-leb, leb-true, leb-false}
 use native.Mathlib.Omega.{arith}
 use native.Mathlib.Numerals.{add-one}
 use native.Mathlib.Nat.{add-zero}
@@ -58,17 +58,32 @@ module _ (all run out : List ℕ) (at i : ℕ) where
   pub copy-end : all ≡ sets out (at + i) (drop i run) → length run ≤ i → all ≡ out
   copy-end e h = e ∙ ap (λ (l : List ℕ). sets out (at + i) l) (drop-of-length-le run h)
 
--- a count of w bytes, the bytes of the units and the closing zero, stored one after the other
+-- room for k bytes, by what is left before the end
+pub room-left : (n at k : ℕ) → k ≤ n → leb at (n - k) ≡ leb (at + k) n
+room-left n at k h = go (leb (at + k) n) refl
+  where
+    go : (b : Bool) → leb (at + k) n ≡ b → leb at (n - k) ≡ b
+    go true e = le-leb at (n - k) (omega (arith, leb-true (at + k) n e))
+    go false e = lt-leb at (n - k) (omega (arith, leb-false (at + k) n e))
+
+-- the bytes of the units and the closing zero, stored one after the other
+pub put-closing : (out : List ℕ) (at : ℕ) (b o₁ o₂ : List ℕ) → at + (length b + 2) ≤ length out → o₁ ≡ stored out at b → o₂ ≡ stored o₁ (at + length b) (be 2 0) → o₂ ≡ stored out at (b ++ be 2 0)
+put-closing out at b o₁ o₂ h e₁ e₂ =
+    e₂ ∙ ap (λ (o : List ℕ). stored o (at + length b) (be 2 0)) e₁
+    ∙ sym (stored-append out at b (be 2 0) (at + length b) (omega (arith, length-append b (be 2 0), length-be 2 0)) refl)
+
+-- a count of w bytes, and then the units and the closing zero, where there is room for all
 module _ (w : ℕ) (out : List ℕ) (at n : ℕ) (b : List ℕ) where
-  pub length-counted : length (countedUnits w n b) ≡ w + length b + 2
+  length-counted : length (countedUnits w n b) ≡ w + 2 + length b
   unfolding countedUnits
   length-counted = omega (arith, length-append (be w n) (b ++ be 2 0), length-append b (be 2 0), length-be w n, length-be 2 0)
 
-  pub put-counted : (o₁ o₂ o₃ : List ℕ) → at + (w + length b + 2) ≤ length out → o₁ ≡ stored out at (be w n) → o₂ ≡ stored o₁ (at + w) b → o₃ ≡ stored o₂ (at + w + length b) (be 2 0) → o₃ ≡ stored out at (countedUnits w n b)
+  pub no-room : leb (at + (w + 2 + length b)) (length out) ≡ false → out ≡ stored out at (countedUnits w n b)
+  no-room e = sym (stored-out out at (countedUnits w n b) (omega (arith, length-counted, leb-false (at + (w + 2 + length b)) (length out) e)))
+
+  pub put-counted : (o₁ o₂ : List ℕ) → leb (at + (w + 2 + length b)) (length out) ≡ true → o₁ ≡ stored out at (be w n) → o₂ ≡ stored o₁ (at + w) (b ++ be 2 0) → o₂ ≡ stored out at (countedUnits w n b)
   unfolding countedUnits
-  put-counted o₁ o₂ o₃ h e₁ e₂ e₃ =
-      let k : length o₁ ≡ length out = ap length e₁ ∙ length-stored out at (be w n) in
-      e₃ ∙ ap (λ (o : List ℕ). stored o (at + w + length b) (be 2 0)) e₂
-      ∙ sym (stored-append o₁ (at + w) b (be 2 0) (at + w + length b) (omega (arith, length-append b (be 2 0), length-be 2 0)) refl)
-      ∙ ap (λ (o : List ℕ). stored o (at + w) (b ++ be 2 0)) e₁
-      ∙ sym (stored-append out at (be w n) (b ++ be 2 0) (at + w) (omega (arith, length-append (be w n) (b ++ be 2 0), length-append b (be 2 0), length-be w n, length-be 2 0)) (ap (λ (m : ℕ). at + m) (length-be w n)))
+  put-counted o₁ o₂ r e₁ e₂ =
+      let h = leb-true (at + (w + 2 + length b)) (length out) r in
+      e₂ ∙ ap (λ (o : List ℕ). stored o (at + w) (b ++ be 2 0)) e₁
+      ∙ sym (stored-append out at (be w n) (b ++ be 2 0) (at + w) (omega (arith, h, length-append (be w n) (b ++ be 2 0), length-append b (be 2 0), length-be w n, length-be 2 0)) (ap (λ (m : ℕ). at + m) (length-be w n)))

@@ -1,5 +1,5 @@
 -- Laws of text units and names that the proofs of the code cite. Assumes nothing.
-use Prim.Native.Nat.{ℕ, zero, suc, _+_, _*_, _-_, _≤_, _<_}
+use Prim.Native.Nat.{ℕ, zero, suc, _+_, _*_, _-_, _/_, _%_, _≤_, _<_}
 use mathlib.Core.Path.{_≡_, refl, sym, ap, ap₂, _∙_}
 use mathlib.Core.List.{List, [], _∷_}
 use mathlib.Core.Bool.{Bool, true, false}
@@ -11,7 +11,7 @@ use native.Mathlib.Decide.{ℕ-discrete}
 use native.Mathlib.Nat.{add-zero, sub-zero}
 use Rattle.fields.specs.Numbers.{num, nums}
 use Rattle.fields.specs.Reader.{Res, ok, refuse, pick, field, done}
-use Rattle.fields.specs.Text.{anyZero, closed, front, Name, name, text, place}
+use Rattle.fields.specs.Text.{anyZero, closed, front, Name, closedUnits, name, text, place}
 use Rattle.fields.proofs.Laws.{body-in, body-short}
 use Rattle.fields.proofs.Places.{length-nums}
 
@@ -20,11 +20,11 @@ pub done-place : (m : Res Name) → done (place m) ≡ done m
 done-place (ok nm q) = refl
 done-place (refuse x p r f) = refl
 
--- a unit is zero in either order of its bytes
-pub swapped-zero : (x y : ℕ) → eqb (x + 256 * y) 0 ≡ eqb (x * 256 + y) 0
-swapped-zero x y = elim (ℕ-discrete (x * 256 + y) 0) [
-  | yes h ↦ let k : x + 256 * y ≡ 0 = omega arith in eq-eqb _ _ k ∙ sym (eq-eqb _ _ h)
-  | no h ↦ let k : x + 256 * y ≡ 0 → ⊥ = λ e. h (omega arith) in ne-eqb _ _ k ∙ sym (ne-eqb _ _ h)
+-- a number of two bytes is zero where it is with its bytes swapped
+pub swapped-zero : (x u : ℕ) → 256 * (x % 256) + x / 256 ≡ u → eqb x 0 ≡ eqb u 0
+swapped-zero x u e = elim (ℕ-discrete u 0) [
+  | yes h ↦ let k : x ≡ 0 = omega arith in eq-eqb _ _ k ∙ sym (eq-eqb _ _ h)
+  | no h ↦ let k : x ≡ 0 → ⊥ = λ z. h (omega arith) in ne-eqb _ _ k ∙ sym (ne-eqb _ _ h)
 ]
 
 -- ---- a loop that looks for a zero unit: what was found before, or what is left to look at
@@ -119,26 +119,26 @@ length-front [] = refl
 length-front (u ∷ []) = refl
 length-front (u ∷ v ∷ us) = let h = length-front (v ∷ us) in omega arith
 
+-- a name's units: cut, badly closed, or fine
+module _ (at n : ℕ) (s : List ℕ) (first : ℕ) where
+  pub units-cut : length s - first < n * 2 → place (closedUnits at n s first) ≡ refuse 2 first 0 0
+  units-cut k = rw (body-short 2 s first n k)
+
+  pub units-open : n * 2 ≤ length s - first → closed (nums 2 n s first) ≡ false → place (closedUnits at n s first) ≡ refuse 8 at 0 0
+  units-open k z = rw (body-in 2 s first n k, z)
+
+  pub units-is : (q : ℕ) → n * 2 ≤ length s - first → closed (nums 2 n s first) ≡ true → first + n * 2 ≡ q → place (closedUnits at n s first) ≡ ok (first, n - 1) q
+  units-is q k z f =
+      let l : length (front (nums 2 n s first)) ≡ n - 1 = length-front (nums 2 n s first) ∙ ap (λ (i : ℕ). i - 1) (length-nums 2 n s first) in
+      rw (body-in 2 s first n k, z) (ap₂ (λ (i j : ℕ). ok (first, i) j) l f)
+
+-- a name by its count: none is there, or its units are what they are behind it
 module _ (w : ℕ) (s : List ℕ) (at : ℕ) where
   pub name-short : refuse 2 at 0 0 ≡ field w s at → place (name w s at) ≡ refuse 2 at 0 0
   unfolding name
   name-short e = rw (← e)
 
-  module _ (n first : ℕ) (e : ok n first ≡ field w s at) where
-    pub name-none : n ≡ 0 → place (name w s at) ≡ refuse 8 at 0 0
-    unfolding name
-    name-none z = rw (← e) (rw z)
-
-    pub name-cut : 0 < n → length s - first < n * 2 → place (name w s at) ≡ refuse 2 first 0 0
-    unfolding name
-    name-cut h k = rw (← e) (rw (lt-ltb 0 n h, body-short 2 s first n k))
-
-    pub name-open : 0 < n → n * 2 ≤ length s - first → closed (nums 2 n s first) ≡ false → place (name w s at) ≡ refuse 8 at 0 0
-    unfolding name
-    name-open h k z = rw (← e) (rw (lt-ltb 0 n h, body-in 2 s first n k, z))
-
-    pub name-is : (q : ℕ) → 0 < n → n * 2 ≤ length s - first → closed (nums 2 n s first) ≡ true → first + n * 2 ≡ q → place (name w s at) ≡ ok (first, n - 1) q
-    unfolding name
-    name-is q h k z f =
-        let l : length (front (nums 2 n s first)) ≡ n - 1 = length-front (nums 2 n s first) ∙ ap (λ (i : ℕ). i - 1) (length-nums 2 n s first) in
-        rw (← e) (rw (lt-ltb 0 n h, body-in 2 s first n k, z) (ap₂ (λ (i j : ℕ). ok (first, i) j) l f))
+  pub name-counted : (n first : ℕ) → ok n first ≡ field w s at → place (name w s at) ≡ place (closedUnits at n s first)
+  unfolding name
+  name-counted zero first e = rw (← e) (sym (units-open at 0 s first (omega arith) (closed-none 0 s first refl)))
+  name-counted (suc n) first e = rw (← e) (rw (lt-ltb 0 (suc n) (omega arith)))

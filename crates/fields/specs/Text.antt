@@ -32,12 +32,17 @@ pub record Name : Type 0 where
   pub first : ℕ
   pub units : List ℕ
 
--- a name with a count of w bytes: count 0 is 8, a body past the end 2, a badly closed one 8 at the count
+-- a name's n units, behind a count that stands at `at`: 2 where they pass the end, 8 at the count where they are badly closed
+abbrev pub closedUnits : ℕ → ℕ → Reader Name
+closedUnits at n s first =
+    then (body 2 n s first) (λ us end.
+    rule (unless (closed us) 8) at (ok (record { first = first; units = front us }) end))
+
+-- a name with a count of w bytes: 8 where the count is 0, and then its units
 unfoldable pub name : ℕ → Reader Name
 name w s at =
     then (judged w (λ n. unless (ltb 0 n) 8) s at) (λ n first.
-    then (body 2 n s first) (λ us end.
-    rule (unless (closed us) 8) at (ok (record { first = first; units = front us }) end)))
+    closedUnits at n s first)
 
 -- n units, none of them zero: 2 where they pass the end, 8 where one is zero, both at the first
 unfoldable pub text : ℕ → Reader (List ℕ)

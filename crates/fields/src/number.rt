@@ -52,7 +52,7 @@ fn wide16(x: u8) -> u16
 
 // Two bytes with the low one first: the load that compilers join with its neighbours, where a
 // function of its own has it. Swapped, it is the number.
-fn swapped(s: &[u8], at: usize) -> u16
+pub(crate) fn swapped(s: &[u8], at: usize) -> u16
     requires { ⌜ at + 2 ≤ length (now s) ⌝ }
     ensures { λ r. ⌜ 256 * (r % 256) + r / 256 ≡ num 2 (now (s .entry)) at ⌝ }
 {

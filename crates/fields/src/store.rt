@@ -1,6 +1,8 @@
 // Numbers, runs of bytes and names stored in lent bytes: all of one, or nothing where there is no room.
 ghost use mathlib.Core.Path.{_≡_};
 ghost use Prim.Native.Nat.{_+_, _≤_};
+ghost use mathlib.Core.List.{_++_};
+ghost use lib.Dec.{leb};
 ghost use lib.ListN.{length};
 ghost use Rattle.fields.specs.Numbers.{be};
 ghost use Rattle.fields.specs.Text.{countedUnits};
@@ -60,42 +62,43 @@ pub fn put_run(out: &mut [u8], at: usize, run: &[u8])
     }
 }
 
+// Whether n bytes have room for k from `at`.
+fn has_room(n: usize, at: usize, k: usize) -> bool
+    ensures { λ r. ⌜ r ≡ leb (at + k) n ⌝ }
+{
+    if n < k {
+        return false;
+    }
+    at <= n - k
+}
+
+// The bytes of a name's units, and the closing zero.
+fn put_closed(out: &mut [u8], at: usize, units: &[u8])
+    requires { ⌜ at + (length (now units) + 2) ≤ length (now out) ⌝ }
+    ensures { λ _. ⌜ now (out .exit) ≡ stored (now (out .entry)) at (now (units .entry) ++ be 2 0) ⌝ }
+{
+    put_run(out, at, units);
+    put_u16(out, at + units.len(), 0);
+}
+
 // A name: its count, the bytes of its units, and the closing zero.
 pub fn put_name32(out: &mut [u8], at: usize, count: u32, units: &[u8])
     ensures { λ _. ⌜ now (out .exit) ≡ stored (now (out .entry)) at (countedUnits 4 count (now (units .entry))) ⌝ }
 {
-    let k = units.len();
-    let n = out.len();
-    if n < 6 {
-        return;
-    }
-    if n - 6 < k {
-        return;
-    }
-    if n - 6 - k < at {
+    if !has_room(out.len(), at, 6 + units.len()) {
         return;
     }
     put_u32(out, at, count);
-    put_run(out, at + 4, units);
-    put_u16(out, at + 4 + k, 0);
+    put_closed(out, at + 4, units);
 }
 
 // A name: its count, the bytes of its units, and the closing zero.
 pub fn put_name16(out: &mut [u8], at: usize, count: u16, units: &[u8])
     ensures { λ _. ⌜ now (out .exit) ≡ stored (now (out .entry)) at (countedUnits 2 count (now (units .entry))) ⌝ }
 {
-    let k = units.len();
-    let n = out.len();
-    if n < 4 {
-        return;
-    }
-    if n - 4 < k {
-        return;
-    }
-    if n - 4 - k < at {
+    if !has_room(out.len(), at, 4 + units.len()) {
         return;
     }
     put_u16(out, at, count);
-    put_run(out, at + 2, units);
-    put_u16(out, at + 2 + k, 0);
+    put_closed(out, at + 2, units);
 }

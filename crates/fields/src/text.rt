@@ -1,11 +1,10 @@
 // Names: counted text units with a closing zero.
 ghost use mathlib.Core.Path.{_≡_};
-ghost use Prim.Native.Nat.{_+_, _*_, _≤_, _<_};
-ghost use lib.Dec.{eqb};
+ghost use Prim.Native.Nat.{_+_, _*_, _≤_};
 ghost use lib.ListN.{length};
-ghost use Rattle.fields.specs.Numbers.{num, nums};
+ghost use Rattle.fields.specs.Numbers.{nums};
 ghost use Rattle.fields.specs.Reader.{done};
-ghost use Rattle.fields.specs.Text.{anyZero, closed, text, name, place};
+ghost use Rattle.fields.specs.Text.{anyZero, closed, text, closedUnits, name, place};
 ghost use Rattle.fields.specs.Answer.{toldStep, toldName};
 use crate::number::Number16;
 use crate::number::Number32;
@@ -18,25 +17,8 @@ pub enum NameAt {
     Refused(u32, usize),
 }
 
-fn wide(x: u8) -> u16
-    ensures { λ r. ⌜ (r ≡ x) × (r < 256) ⌝ }
-{
-    x as u16
-}
-
-// A unit with its bytes in the other order, which is zero exactly where the unit is: the load that
-// compilers join in a loop.
-fn swapped(s: &[u8], at: usize) -> u16
-    requires { ⌜ at + 2 ≤ length (now s) ⌝ }
-    ensures { λ r. ⌜ eqb r 0 ≡ eqb (num 2 (now (s .entry)) at) 0 ⌝ }
-{
-    let a = wide(s[at]);
-    let b = wide(s[at + 1]);
-    a + 256 * b
-}
-
-// Whether one of n units from `at` is zero. The loop has no way out but its end, so that it
-// is compiled to vectors.
+// Whether one of n units from `at` is zero; a unit is where it is with its bytes swapped. The loop
+// has no way out but its end, so that it is compiled to vectors.
 fn any_zero(s: &[u8], at: usize, n: usize) -> bool
     requires { ⌜ at + n * 2 ≤ length (now s) ⌝ }
     ensures { λ r. ⌜ r ≡ anyZero (nums 2 n (now (s .entry)) at) ⌝ }
@@ -44,7 +26,7 @@ fn any_zero(s: &[u8], at: usize, n: usize) -> bool
     let mut found = false;
     let mut i: usize = 0;
     while i < n {
-        if swapped(s, at + 2 * i) == 0 {
+        if crate::number::swapped(s, at + 2 * i) == 0 {
             found = true;
         }
         i += 1;
@@ -84,36 +66,14 @@ fn is_closed(s: &[u8], at: usize, n: usize) -> bool
     if any_zero(s, at, n - 1) {
         return false;
     }
-    swapped(s, at + 2 * (n - 1)) == 0
+    crate::number::swapped(s, at + 2 * (n - 1)) == 0
 }
 
-// The name at `at`, with a count of 16 bits.
-pub fn name16_at(s: &[u8], at: usize) -> NameAt
-    ensures { λ r. ⌜ toldName r ≡ place (name 2 (now (s .entry)) at) ⌝ }
+// A name's n units from `first`, behind a count that stands at `at`.
+fn units_at(s: &[u8], at: usize, first: usize, n: u32) -> NameAt
+    requires { ⌜ first ≤ length (now s) ⌝ }
+    ensures { λ r. ⌜ toldName r ≡ place (closedUnits at n (now (s .entry)) first) ⌝ }
 {
-    let Number16::Is(n, first) = crate::number::u16_at(s, at) else {
-        return NameAt::Refused(2, at);
-    };
-    if n == 0 {
-        return NameAt::Refused(8, at);
-    }
-    let k = n as usize;
-    if s.len() - first < 2 * k {
-        return NameAt::Refused(2, first);
-    }
-    if is_closed(s, first, k) {
-        return NameAt::Is(first, (n - 1) as u32, first + 2 * k);
-    }
-    NameAt::Refused(8, at)
-}
-
-// The name at `at`, with a count of 32 bits.
-pub fn name32_at(s: &[u8], at: usize) -> NameAt
-    ensures { λ r. ⌜ toldName r ≡ place (name 4 (now (s .entry)) at) ⌝ }
-{
-    let Number32::Is(n, first) = crate::number::u32_at(s, at) else {
-        return NameAt::Refused(2, at);
-    };
     if n == 0 {
         return NameAt::Refused(8, at);
     }
@@ -125,4 +85,24 @@ pub fn name32_at(s: &[u8], at: usize) -> NameAt
         return NameAt::Is(first, n - 1, first + 2 * k);
     }
     NameAt::Refused(8, at)
+}
+
+// The name at `at`, with a count of 16 bits.
+pub fn name16_at(s: &[u8], at: usize) -> NameAt
+    ensures { λ r. ⌜ toldName r ≡ place (name 2 (now (s .entry)) at) ⌝ }
+{
+    let Number16::Is(n, first) = crate::number::u16_at(s, at) else {
+        return NameAt::Refused(2, at);
+    };
+    units_at(s, at, first, n as u32)
+}
+
+// The name at `at`, with a count of 32 bits.
+pub fn name32_at(s: &[u8], at: usize) -> NameAt
+    ensures { λ r. ⌜ toldName r ≡ place (name 4 (now (s .entry)) at) ⌝ }
+{
+    let Number32::Is(n, first) = crate::number::u32_at(s, at) else {
+        return NameAt::Refused(2, at);
+    };
+    units_at(s, at, first, n)
 }

@@ -1,6 +1,7 @@
-use Rattle.descriptor.proofs.Fields.{run-short, run-is}
+use mathlib.Core.Path.{refl}
 use Rattle.fields.specs.Answer.{told32}
-use mathlib.Core.Path.{sym, ap, _∙_}
+use Rattle.descriptor.specs.Reading.{run}
+use Rattle.descriptor.proofs.Fields.{after}
 use borrow.Author.Needs.{needs}
 use Rattle.descriptor.proofs.bytes_at.Statement.{statement}
 use Rattle.descriptor.proofs.bytes_at.Tie as tie
@@ -15,10 +16,10 @@ enum-told : tie.Need-enum-told
 enum-told c = search needs
 
 returns : tie.Need-returns
+unfolding run
 returns c =
     let call = c .before .before in
-    let a = call .before .before .args in
-    sym (run-short (a .file .now) (a .at) (sym (ap (told32 (a .at)) (c .enum-told .given .1)) ∙ call .u32-at .ensures))
+    after (told32 (call .before .before .args .at)) (call .u32-at .ensures) (c .enum-told .given .1) _ refl
 
 cast-run-at : tie.Need-cast-run-at
 cast-run-at c = search needs
@@ -27,11 +28,12 @@ run-at-requires : tie.Need-run-at-requires
 run-at-requires c κs = search needs
 
 returns-2 : tie.Need-returns-2
+unfolding run
 returns-2 c =
     let nn = c .before .before in
     let call = nn .before .before in
     let a = call .before .before .args in
-    c .run-at .ensures ∙ sym (run-is (a .file .now) (a .at) _ _ (sym (ap (told32 (a .at)) (nn .n .given .1)) ∙ call .u32-at .ensures))
+    after (told32 (a .at)) (call .u32-at .ensures) (nn .n .given .1) _ (c .run-at .ensures)
 
 pub bytes-at-spec : {M : Type 1} → statement M
 bytes-at-spec =

@@ -1,6 +1,7 @@
-use Rattle.descriptor.proofs.Fields.{class-no, class-id}
+use mathlib.Core.Path.{refl}
 use Rattle.fields.specs.Answer.{toldStep}
-use mathlib.Core.Path.{sym, ap, _∙_}
+use Rattle.descriptor.specs.Reading.{class}
+use Rattle.descriptor.proofs.Fields.{after}
 use borrow.Author.Needs.{needs}
 use Rattle.descriptor.proofs.class_at.Statement.{statement}
 use Rattle.descriptor.proofs.class_at.Tie as tie
@@ -18,16 +19,12 @@ id-at-requires : tie.Need-id-at-requires
 id-at-requires c κs = search needs
 
 returns : tie.Need-returns
-returns c =
-    let call = c .before .before .before in
-    let a = call .before .before .args in
-    sym (class-no (a .file .now) (a .at) (sym (call .unicode-at .ensures) ∙ ap toldStep (c .before .x .given .1)))
+unfolding class
+returns c = after toldStep (c .before .before .before .unicode-at .ensures) (c .before .x .given .1) _ refl
 
 returns-2 : tie.Need-returns-2
-returns-2 c =
-    let call = c .before .before .before .before in
-    let a = call .before .before .args in
-    c .id-at .ensures ∙ sym (class-id (a .file .now) (a .at) (sym (call .unicode-at .ensures) ∙ ap toldStep (c .before .before .next .given .1)))
+unfolding class
+returns-2 c = after toldStep (c .before .before .before .before .unicode-at .ensures) (c .before .before .next .given .1) _ (c .id-at .ensures)
 
 pub class-at-spec : {M : Type 1} → statement M
 class-at-spec =

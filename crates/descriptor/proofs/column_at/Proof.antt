@@ -1,6 +1,8 @@
-use Rattle.descriptor.proofs.Fields.{column-short, column-bad, column-is}
+use mathlib.Core.Path.{sym, _∙_}
 use Rattle.fields.specs.Answer.{told32}
-use mathlib.Core.Path.{sym, ap, _∙_}
+use Rattle.descriptor.specs.Reading.{isArrayUnit, column}
+use Rattle.descriptor.specs.Answer.{counted}
+use Rattle.descriptor.proofs.Fields.{heard, tested-short, tested-bad, tested-to}
 use borrow.Author.Needs.{needs}
 use Rattle.descriptor.proofs.column_at.Statement.{statement}
 use Rattle.descriptor.proofs.column_at.Tie as tie
@@ -15,10 +17,11 @@ enum-told : tie.Need-enum-told
 enum-told c = search needs
 
 returns : tie.Need-returns
+unfolding column counted
 returns c =
     let call = c .before .before in
     let a = call .before .before .args in
-    sym (column-short (a .file .now) (a .at) (a .objects) (sym (ap (told32 (a .at)) (c .enum-told .given .1)) ∙ call .u32-at .ensures))
+    tested-short 4 (a .file .now) (a .at) isArrayUnit 4 _ (heard (told32 (a .at)) (call .u32-at .ensures) (c .enum-told .given .1))
 
 is-array-unit-requires : tie.Need-is-array-unit-requires
 is-array-unit-requires c κs = search needs
@@ -27,18 +30,20 @@ counted-at-requires : tie.Need-counted-at-requires
 counted-at-requires c κs = search needs
 
 returns-2 : tie.Need-returns-2
+unfolding column counted
 returns-2 c =
     let nn = c .before .before .before .before in
     let call = nn .before .before in
     let a = call .before .before .args in
-    c .counted-at .ensures ∙ sym (column-is (a .file .now) (a .at) (a .objects) (sym (ap (told32 (a .at)) (nn .unit .given .1)) ∙ call .u32-at .ensures) (sym (c .before .before .is-array-unit .ensures) ∙ c .before .if1 .taken))
+    tested-to 4 (a .file .now) (a .at) isArrayUnit 4 _ (heard (told32 (a .at)) (call .u32-at .ensures) (nn .unit .given .1)) (sym (c .before .before .is-array-unit .ensures) ∙ c .before .if1 .taken) (c .counted-at .ensures)
 
 returns-3 : tie.Need-returns-3
+unfolding column counted
 returns-3 c =
     let nn = c .before .before .before in
     let call = nn .before .before in
     let a = call .before .before .args in
-    sym (column-bad (a .file .now) (a .at) (a .objects) (sym (ap (told32 (a .at)) (nn .unit .given .1)) ∙ call .u32-at .ensures) (sym (c .before .is-array-unit .ensures) ∙ c .if1 .left))
+    tested-bad 4 (a .file .now) (a .at) isArrayUnit 4 _ (heard (told32 (a .at)) (call .u32-at .ensures) (nn .unit .given .1)) (sym (c .before .is-array-unit .ensures) ∙ c .if1 .left)
 
 pub column-at-spec : {M : Type 1} → statement M
 column-at-spec =

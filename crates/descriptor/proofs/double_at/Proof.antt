@@ -1,6 +1,9 @@
-use Rattle.descriptor.proofs.Fields.{double-short, double-bad, double-is}
+use mathlib.Core.Path.{refl, sym, _∙_}
+use lib.Ieee.{binary64, ofBits}
+use lib.Ieee.Scale.{finite}
+use Rattle.fields.specs.Reader.{ok}
 use Rattle.fields.specs.Answer.{told64}
-use mathlib.Core.Path.{sym, ap, _∙_}
+use Rattle.descriptor.proofs.Fields.{double-tested, heard, tested-short, tested-bad, tested-to}
 use borrow.Author.Needs.{needs}
 use Rattle.descriptor.proofs.double_at.Statement.{statement}
 use Rattle.descriptor.proofs.double_at.Tie as tie
@@ -18,7 +21,7 @@ returns : tie.Need-returns
 returns c =
     let call = c .before .before in
     let a = call .before .before .args in
-    sym (double-short (a .file .now) (a .at) (sym (ap (told64 (a .at)) (c .enum-told .given .1)) ∙ call .u64-at .ensures))
+    tested-short 8 (a .file .now) (a .at) (λ v. finite (ofBits binary64 v)) 5 (λ v q. ok tt q) (heard (told64 (a .at)) (call .u64-at .ensures) (c .enum-told .given .1)) ∙ double-tested (a .file .now) (a .at)
 
 is-finite-requires : tie.Need-is-finite-requires
 is-finite-requires c κs = search needs
@@ -28,14 +31,14 @@ returns-2 c =
     let nn = c .before .before .before in
     let call = nn .before .before in
     let a = call .before .before .args in
-    sym (double-is (a .file .now) (a .at) (sym (ap (told64 (a .at)) (nn .bits .given .1)) ∙ call .u64-at .ensures) (sym (c .before .is-finite .ensures) ∙ c .if1 .taken))
+    tested-to 8 (a .file .now) (a .at) (λ v. finite (ofBits binary64 v)) 5 (λ v q. ok tt q) (heard (told64 (a .at)) (call .u64-at .ensures) (nn .bits .given .1)) (sym (c .before .is-finite .ensures) ∙ c .if1 .taken) refl ∙ double-tested (a .file .now) (a .at)
 
 returns-3 : tie.Need-returns-3
 returns-3 c =
     let nn = c .before .before .before in
     let call = nn .before .before in
     let a = call .before .before .args in
-    sym (double-bad (a .file .now) (a .at) (sym (ap (told64 (a .at)) (nn .bits .given .1)) ∙ call .u64-at .ensures) (sym (c .before .is-finite .ensures) ∙ c .if1 .left))
+    tested-bad 8 (a .file .now) (a .at) (λ v. finite (ofBits binary64 v)) 5 (λ v q. ok tt q) (heard (told64 (a .at)) (call .u64-at .ensures) (nn .bits .given .1)) (sym (c .before .is-finite .ensures) ∙ c .if1 .left) ∙ double-tested (a .file .now) (a .at)
 
 pub double-at-spec : {M : Type 1} → statement M
 double-at-spec =

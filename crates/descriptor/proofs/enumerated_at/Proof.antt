@@ -1,6 +1,7 @@
-use Rattle.descriptor.proofs.Fields.{enum-no, enum-id}
+use mathlib.Core.Path.{refl}
 use Rattle.fields.specs.Answer.{toldStep}
-use mathlib.Core.Path.{sym, ap, _∙_}
+use Rattle.descriptor.specs.Reading.{enumerated}
+use Rattle.descriptor.proofs.Fields.{after}
 use borrow.Author.Needs.{needs}
 use Rattle.descriptor.proofs.enumerated_at.Statement.{statement}
 use Rattle.descriptor.proofs.enumerated_at.Tie as tie
@@ -18,16 +19,12 @@ id-at-requires-2 : tie.Need-id-at-requires-2
 id-at-requires-2 c κs = search needs
 
 returns : tie.Need-returns
-returns c =
-    let call = c .before .before .before in
-    let a = call .before .before .args in
-    sym (enum-no (a .file .now) (a .at) (sym (call .id-at .ensures) ∙ ap toldStep (c .before .x .given .1)))
+unfolding enumerated
+returns c = after toldStep (c .before .before .before .id-at .ensures) (c .before .x .given .1) _ refl
 
 returns-2 : tie.Need-returns-2
-returns-2 c =
-    let call = c .before .before .before .before in
-    let a = call .before .before .args in
-    c .id-at2 .ensures ∙ sym (enum-id (a .file .now) (a .at) (sym (call .id-at .ensures) ∙ ap toldStep (c .before .before .next .given .1)))
+unfolding enumerated
+returns-2 c = after toldStep (c .before .before .before .before .id-at .ensures) (c .before .before .next .given .1) _ (c .id-at2 .ensures)
 
 pub enumerated-at-spec : {M : Type 1} → statement M
 enumerated-at-spec =

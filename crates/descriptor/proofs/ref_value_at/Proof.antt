@@ -1,7 +1,7 @@
-use Rattle.descriptor.proofs.Fields.{ref-no, ref-class}
-use Rattle.descriptor.specs.Answer.{readerOf}
+use mathlib.Core.Path.{refl}
 use Rattle.fields.specs.Answer.{toldStep}
-use mathlib.Core.Path.{sym, ap, _∙_}
+use Rattle.descriptor.specs.Reading.{refValue}
+use Rattle.descriptor.proofs.Fields.{after}
 use borrow.Author.Needs.{needs}
 use Rattle.descriptor.proofs.ref_value_at.Statement.{statement}
 use Rattle.descriptor.proofs.ref_value_at.Tie as tie
@@ -19,16 +19,12 @@ form-at-requires : tie.Need-form-at-requires
 form-at-requires c κs = search needs
 
 returns : tie.Need-returns
-returns c =
-    let call = c .before .before .before in
-    let a = call .before .before .args in
-    sym (ref-no (a .file .now) (a .at) (readerOf (a .form)) (sym (call .class-at .ensures) ∙ ap toldStep (c .before .x .given .1)))
+unfolding refValue
+returns c = after toldStep (c .before .before .before .class-at .ensures) (c .before .x .given .1) _ refl
 
 returns-2 : tie.Need-returns-2
-returns-2 c =
-    let call = c .before .before .before .before in
-    let a = call .before .before .args in
-    c .form-at .ensures ∙ sym (ref-class (a .file .now) (a .at) (readerOf (a .form)) (sym (call .class-at .ensures) ∙ ap toldStep (c .before .before .next .given .1)))
+unfolding refValue
+returns-2 c = after toldStep (c .before .before .before .before .class-at .ensures) (c .before .before .next .given .1) _ (c .form-at .ensures)
 
 pub ref-value-at-spec : {M : Type 1} → statement M
 ref-value-at-spec =

@@ -1,8 +1,9 @@
-use Rattle.descriptor.proofs.Fields.{unicode-short, unicode-none, unicode-cut, unicode-open, unicode-is}
+use Rattle.descriptor.proofs.Fields.{after, unicode-none, unicode-cut, unicode-open, unicode-is}
+use Rattle.descriptor.specs.Reading.{unicode}
 use Rattle.fields.proofs.Laws.{field-next}
 use Rattle.fields.specs.Answer.{told32}
 use native.Mathlib.Omega.{arith}
-use mathlib.Core.Path.{sym, ap, _∙_}
+use mathlib.Core.Path.{refl, sym, ap, _∙_}
 use borrow.Author.Needs.{needs}
 use Rattle.descriptor.proofs.unicode_at.Statement.{statement}
 use Rattle.descriptor.proofs.unicode_at.Tie as tie
@@ -17,10 +18,10 @@ enum-told : tie.Need-enum-told
 enum-told c = search needs
 
 returns : tie.Need-returns
+unfolding unicode
 returns c =
     let call = c .before .before in
-    let a = call .before .before .args in
-    sym (unicode-short (a .file .now) (a .at) (sym (ap (told32 (a .at)) (c .enum-told .given .1)) ∙ call .u32-at .ensures))
+    after (told32 (call .before .before .args .at)) (call .u32-at .ensures) (c .enum-told .given .1) _ refl
 
 returns-2 : tie.Need-returns-2
 returns-2 c =

@@ -1,6 +1,7 @@
-use Rattle.descriptor.proofs.Fields.{unit-short, unit-bad, unit-is}
+use mathlib.Core.Path.{sym, _∙_}
 use Rattle.fields.specs.Answer.{told32}
-use mathlib.Core.Path.{sym, ap, _∙_}
+use Rattle.descriptor.specs.Reading.{isUnit, unitDouble}
+use Rattle.descriptor.proofs.Fields.{heard, tested-short, tested-bad, tested-to}
 use borrow.Author.Needs.{needs}
 use Rattle.descriptor.proofs.unit_double_at.Statement.{statement}
 use Rattle.descriptor.proofs.unit_double_at.Tie as tie
@@ -15,10 +16,11 @@ enum-told : tie.Need-enum-told
 enum-told c = search needs
 
 returns : tie.Need-returns
+unfolding unitDouble
 returns c =
     let call = c .before .before in
     let a = call .before .before .args in
-    sym (unit-short (a .file .now) (a .at) (sym (ap (told32 (a .at)) (c .enum-told .given .1)) ∙ call .u32-at .ensures))
+    tested-short 4 (a .file .now) (a .at) isUnit 4 _ (heard (told32 (a .at)) (call .u32-at .ensures) (c .enum-told .given .1))
 
 is-unit-requires : tie.Need-is-unit-requires
 is-unit-requires c κs = search needs
@@ -27,18 +29,20 @@ double-at-requires : tie.Need-double-at-requires
 double-at-requires c κs = search needs
 
 returns-2 : tie.Need-returns-2
+unfolding unitDouble
 returns-2 c =
     let nn = c .before .before .before .before in
     let call = nn .before .before in
     let a = call .before .before .args in
-    c .double-at .ensures ∙ sym (unit-is (a .file .now) (a .at) (sym (ap (told32 (a .at)) (nn .unit .given .1)) ∙ call .u32-at .ensures) (sym (c .before .before .is-unit .ensures) ∙ c .before .if1 .taken))
+    tested-to 4 (a .file .now) (a .at) isUnit 4 _ (heard (told32 (a .at)) (call .u32-at .ensures) (nn .unit .given .1)) (sym (c .before .before .is-unit .ensures) ∙ c .before .if1 .taken) (c .double-at .ensures)
 
 returns-3 : tie.Need-returns-3
+unfolding unitDouble
 returns-3 c =
     let nn = c .before .before .before in
     let call = nn .before .before in
     let a = call .before .before .args in
-    sym (unit-bad (a .file .now) (a .at) (sym (ap (told32 (a .at)) (nn .unit .given .1)) ∙ call .u32-at .ensures) (sym (c .before .is-unit .ensures) ∙ c .if1 .left))
+    tested-bad 4 (a .file .now) (a .at) isUnit 4 _ (heard (told32 (a .at)) (call .u32-at .ensures) (nn .unit .given .1)) (sym (c .before .is-unit .ensures) ∙ c .if1 .left)
 
 pub unit-double-at-spec : {M : Type 1} → statement M
 unit-double-at-spec =

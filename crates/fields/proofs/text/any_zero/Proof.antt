@@ -1,6 +1,6 @@
 use borrow.Author.Tests.{eq-eqb, ne-eqb}
 use mathlib.Core.Logic.{⊎-elim}
-use Rattle.fields.proofs.Texts.{any-start, any-found, any-on, any-end}
+use Rattle.fields.proofs.Texts.{swapped-zero, any-start, any-found, any-on, any-end}
 use borrow.Author.Needs.{needs}
 use Prim.Native.Nat.{_+_, _-_, _*_, _≤_}
 use mathlib.Core.Bool.{true}
@@ -40,7 +40,7 @@ loop-again : tie.Need-loop-again Inv-loop μ-loop
 loop-again c =
     let l = c .before .before .before .loop in
     let a = c .before .before .before .before .before .args in
-    let e = sym (c .before .swapped .ensures) in (
+    let e = sym (swapped-zero _ _ (c .before .swapped .ensures)) in (
       omega arith,
       ⊎-elim
           (λ w. rw (w .1) (any-found (a .s .now) (a .at) (a .n) _ (l .found) (l .i) (l .inv .1) (c .before .before .loop-test .taken) (e ∙ eq-eqb _ _ (w .0 .taken))))

@@ -1,6 +1,6 @@
 use mathlib.Core.Path.{sym, _∙_}
 use native.Mathlib.Omega.{arith}
-use Rattle.fields.proofs.Texts.{closed-none, closed-early, closed-is}
+use Rattle.fields.proofs.Texts.{swapped-zero, closed-none, closed-early, closed-is}
 use borrow.Author.Needs.{needs}
 use Rattle.fields.proofs.text.is_closed.Statement.{statement}
 use Rattle.fields.proofs.text.is_closed.Tie as tie
@@ -30,7 +30,7 @@ swapped-requires : tie.Need-swapped-requires
 swapped-requires c κs = search needs
 
 returns-3 : tie.Need-returns-3
-returns-3 c = c .swapped .ensures ∙ sym (closed-is _ _ _ (omega arith) (sym (c .before .before .any-zero .ensures) ∙ c .before .if2 .left))
+returns-3 c = swapped-zero _ _ (c .swapped .ensures) ∙ sym (closed-is _ _ _ (omega arith) (sym (c .before .before .any-zero .ensures) ∙ c .before .if2 .left))
 
 pub is-closed-spec : {M : Type 1} → statement M
 is-closed-spec =

@@ -1,9 +1,8 @@
 use mathlib.Core.Path.{sym, ap, _∙_}
 use native.Mathlib.Omega.{arith}
-use denote.Ref.{now}
 use Rattle.fields.specs.Answer.{told32}
 use Rattle.fields.proofs.Laws.{field-next}
-use Rattle.fields.proofs.Texts.{name-short, name-none, name-cut, name-open, name-is}
+use Rattle.fields.proofs.Texts.{name-short, name-counted}
 use borrow.Author.Needs.{needs}
 use Rattle.fields.proofs.text.name32_at.Statement.{statement}
 use Rattle.fields.proofs.text.name32_at.Tie as tie
@@ -23,85 +22,19 @@ returns c =
     let a = call .before .before .args in
     sym (name-short 4 (a .s .now) (a .at) (sym (ap (told32 (a .at)) (c .enum-told .given .1)) ∙ call .u32-at .ensures))
 
-returns-2 : tie.Need-returns-2
-returns-2 c =
-    let nn = c .before .before in
-    let call = nn .before .before in
+units-at-requires : tie.Need-units-at-requires
+units-at-requires c κs =
+    let call = c .before .before .before in
     let a = call .before .before .args in
-    let e = sym (ap (told32 (a .at)) (nn .n .given .1)) ∙ call .u32-at .ensures in
-    let f = field-next 4 (a .s .now) (a .at) _ _ e in
-    sym (name-none 4 (a .s .now) (a .at) _ _ e (c .if1 .taken))
-
-cast-k : tie.Need-cast-k
-cast-k c = search needs
-
-sub-if2 : tie.Need-sub-if2
-sub-if2 c =
-    let nn = c .before .before in
-    let call = nn .before .before in
-    let a = call .before .before .args in
-    let e = sym (ap (told32 (a .at)) (nn .n .given .1)) ∙ call .u32-at .ensures in
-    let f = field-next 4 (a .s .now) (a .at) _ _ e in
+    let f = field-next 4 (a .s .now) (a .at) _ _ (sym (ap (told32 (a .at)) (c .before .n .given .1)) ∙ call .u32-at .ensures) in
     omega arith
 
-mul-if2 : tie.Need-mul-if2
-mul-if2 c = search needs
-
-returns-3 : tie.Need-returns-3
-returns-3 c =
-    let nn = c .before .before .before in
-    let call = nn .before .before in
+returns-2 : tie.Need-returns-2
+returns-2 c =
+    let call = c .before .before .before .before in
     let a = call .before .before .args in
-    let e = sym (ap (told32 (a .at)) (nn .n .given .1)) ∙ call .u32-at .ensures in
-    let f = field-next 4 (a .s .now) (a .at) _ _ e in
-    sym (name-cut 4 (a .s .now) (a .at) _ _ e (omega arith) (omega arith))
-
-is-closed-requires : tie.Need-is-closed-requires
-is-closed-requires c κs = search needs
-
-sub-t12 : tie.Need-sub-t12
-sub-t12 c = search needs
-
-mul-t13 : tie.Need-mul-t13
-mul-t13 c = search needs
-
-add-t14 : tie.Need-add-t14
-add-t14 c = search needs
-
-returns-4 : tie.Need-returns-4
-returns-4 c =
-    let nn = c .before .before .before .before .before in
-    let call = nn .before .before in
-    let a = call .before .before .args in
-    let e = sym (ap (told32 (a .at)) (nn .n .given .1)) ∙ call .u32-at .ensures in
-    let f = field-next 4 (a .s .now) (a .at) _ _ e in
-    sym (name-is 4 (a .s .now) (a .at) _ _ e _ (omega arith) (omega arith) (sym (c .before .is-closed .ensures) ∙ c .if3 .taken) (omega arith))
-
-returns-5 : tie.Need-returns-5
-returns-5 c =
-    let nn = c .before .before .before .before .before in
-    let call = nn .before .before in
-    let a = call .before .before .args in
-    let e = sym (ap (told32 (a .at)) (nn .n .given .1)) ∙ call .u32-at .ensures in
-    let f = field-next 4 (a .s .now) (a .at) _ _ e in
-    sym (name-open 4 (a .s .now) (a .at) _ _ e (omega arith) (omega arith) (sym (c .before .is-closed .ensures) ∙ c .if3 .left))
+    c .units-at .ensures ∙ sym (name-counted 4 (a .s .now) (a .at) _ _ (sym (ap (told32 (a .at)) (c .before .before .n .given .1)) ∙ call .u32-at .ensures))
 
 pub name32-at-spec : {M : Type 1} → statement M
 name32-at-spec =
-    tie.close
-    (tie.spec
-    u32-at-requires
-    enum-known-n
-    enum-told
-    returns
-    returns-2
-    cast-k
-    sub-if2
-    mul-if2
-    returns-3
-    is-closed-requires
-    sub-t12
-    mul-t13
-    add-t14
-    returns-4
-    returns-5)
+    tie.close (tie.spec u32-at-requires enum-known-n enum-told returns units-at-requires returns-2)
