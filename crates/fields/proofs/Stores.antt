@@ -58,13 +58,13 @@ module _ (all run out : List ℕ) (at i : ℕ) where
   pub copy-end : all ≡ sets out (at + i) (drop i run) → length run ≤ i → all ≡ out
   copy-end e h = e ∙ ap (λ (l : List ℕ). sets out (at + i) l) (drop-of-length-le run h)
 
--- room for k bytes, by what is left before the end
-pub room-left : (n at k : ℕ) → k ≤ n → leb at (n - k) ≡ leb (at + k) n
-room-left n at k h = go (leb (at + k) n) refl
+-- room for w bytes and k, by what is left before the end
+pub room-left : (n at w k : ℕ) → w + k ≤ n → leb at (n - w - k) ≡ leb (at + (w + k)) n
+room-left n at w k h = go (leb (at + (w + k)) n) refl
   where
-    go : (b : Bool) → leb (at + k) n ≡ b → leb at (n - k) ≡ b
-    go true e = le-leb at (n - k) (omega (arith, leb-true (at + k) n e))
-    go false e = lt-leb at (n - k) (omega (arith, leb-false (at + k) n e))
+    go : (b : Bool) → leb (at + (w + k)) n ≡ b → leb at (n - w - k) ≡ b
+    go true e = le-leb at (n - w - k) (omega (arith, leb-true (at + (w + k)) n e))
+    go false e = lt-leb at (n - w - k) (omega (arith, leb-false (at + (w + k)) n e))
 
 -- the bytes of the units and the closing zero, stored one after the other
 pub put-closing : (out : List ℕ) (at : ℕ) (b o₁ o₂ : List ℕ) → at + (length b + 2) ≤ length out → o₁ ≡ stored out at b → o₂ ≡ stored o₁ (at + length b) (be 2 0) → o₂ ≡ stored out at (b ++ be 2 0)

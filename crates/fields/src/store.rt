@@ -62,14 +62,18 @@ pub fn put_run(out: &mut [u8], at: usize, run: &[u8])
     }
 }
 
-// Whether n bytes have room for k from `at`.
-fn has_room(n: usize, at: usize, k: usize) -> bool
-    ensures { λ r. ⌜ r ≡ leb (at + k) n ⌝ }
+// Whether n bytes have room from `at` for w bytes and k. What n has beyond w comes first, which a
+// loop over names asks once.
+fn has_room(n: usize, at: usize, w: usize, k: usize) -> bool
+    ensures { λ r. ⌜ r ≡ leb (at + (w + k)) n ⌝ }
 {
-    if n < k {
+    if n < w {
         return false;
     }
-    at <= n - k
+    if n - w < k {
+        return false;
+    }
+    at <= n - w - k
 }
 
 // The bytes of a name's units, and the closing zero.
@@ -85,7 +89,7 @@ fn put_closed(out: &mut [u8], at: usize, units: &[u8])
 pub fn put_name32(out: &mut [u8], at: usize, count: u32, units: &[u8])
     ensures { λ _. ⌜ now (out .exit) ≡ stored (now (out .entry)) at (countedUnits 4 count (now (units .entry))) ⌝ }
 {
-    if !has_room(out.len(), at, 6 + units.len()) {
+    if !has_room(out.len(), at, 6, units.len()) {
         return;
     }
     put_u32(out, at, count);
@@ -96,7 +100,7 @@ pub fn put_name32(out: &mut [u8], at: usize, count: u32, units: &[u8])
 pub fn put_name16(out: &mut [u8], at: usize, count: u16, units: &[u8])
     ensures { λ _. ⌜ now (out .exit) ≡ stored (now (out .entry)) at (countedUnits 2 count (now (units .entry))) ⌝ }
 {
-    if !has_room(out.len(), at, 4 + units.len()) {
+    if !has_room(out.len(), at, 4, units.len()) {
         return;
     }
     put_u16(out, at, count);

@@ -8,9 +8,6 @@ use borrow.Author.Needs.{needs}
 use Rattle.fields.proofs.store.put_name32.Statement.{statement}
 use Rattle.fields.proofs.store.put_name32.Tie as tie
 
-add-has-room : tie.Need-add-has-room
-add-has-room c = search needs
-
 has-room-requires : tie.Need-has-room-requires
 has-room-requires c κs = search needs
 
@@ -47,7 +44,6 @@ pub put-name32-spec : {M : Type 1} → statement M
 put-name32-spec =
     tie.close
     (tie.spec
-    add-has-room
     has-room-requires
     returns
     put-u32-requires
