@@ -1,7 +1,7 @@
 -- A refused ACO file has a number of the table and a place of the file. Assumes nothing.
 use Prim.Native.Nat.{ℕ, _≤_}
 use mathlib.Core.Path.{_≡_}
-use mathlib.Core.List.{List, map}
+use mathlib.Core.List.{List}
 use lib.ListN.{length, getD}
 use lib.Dec.{leb, eqb}
 use native.Mathlib.Omega.{arith}

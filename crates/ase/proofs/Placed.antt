@@ -8,14 +8,14 @@ use lib.Seq.{length-take-le}
 use lib.Dec.{leb, ltb, eqb}
 use borrow.Author.Tests.{leb-true}
 use native.Mathlib.Omega.{arith}
-use Rattle.fields.specs.Reader.{Res, Reader, ok, refuse, pick, field, rule, Judged, unless, judged, each, stateAfter, chain}
+use Rattle.fields.specs.Reader.{Res, Reader, ok, refuse, pick, field, Judged, unless, judged, each, stateAfter, chain}
 use Rattle.fields.specs.Text.{name}
 use Rattle.fields.specs.Refusal.{OfTable, Placed, ends, fails, Places}
 use Rattle.fields.proofs.Inverse.{field-inv}
 use Rattle.fields.proofs.Placed.{of-table, unless-tabled, refusal-placed, placed-then, placed-from, placed-pick, placed-rule, field-placed, judged-placed, ended-placed, name-placed, each-placed, chain-placed, limited-placed}
 use Rattle.colour.specs.Models.{isModel, channelsOf}
 use Rattle.colour.specs.Channels.{allowsBits}
-use Rattle.ase.specs.Reading.{Entry, stopped, group, model, channel, type, shade, inside, within, deepest, isType, content, block, standingAfter, heading, blocks, palette, ase}
+use Rattle.ase.specs.Reading.{group, model, channel, type, shade, inside, within, deepest, isType, content, block, standingAfter, heading, blocks, palette, ase}
 
 three : OfTable 3
 three = of-table 3 (omega arith) (omega arith)

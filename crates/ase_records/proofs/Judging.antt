@@ -3,7 +3,7 @@ use Rattle.fields.proofs.Counted.{counted-end, counted-start, counted-turn}
 use Prim.Native.Nat.{ℕ, zero, suc, _+_, _*_, _-_, _/_, _≤_, _<_}
 use mathlib.Core.Path.{_≡_, refl, sym, ap, _∙_, subst}
 use mathlib.Core.List.{List, [], _∷_}
-use mathlib.Core.Bool.{Bool, true, false, not}
+use mathlib.Core.Bool.{Bool, true, false, not, _&&_}
 use lib.Dec.{leb, ltb, eqb}
 use lib.ListN.{length}
 use lib.Ieee.{binary32, ofBits}
@@ -16,8 +16,8 @@ use Rattle.fields.specs.Text.{text}
 use Rattle.fields.specs.Faults.{firstOf, faults, faultsFrom, faultsIn}
 use Rattle.fields.proofs.Tells.{first-none, first-zero, first-inv, pick-none}
 use Rattle.fields.proofs.Texts.{text-short}
-use Rattle.colour.specs.Models.{modelOf, traitsOf, countIn, isModel, channelsOf}
-use Rattle.colour.specs.Channels.{allows, allowsBits}
+use Rattle.colour.specs.Models.{modelOf, countIn, isModel, channelsOf}
+use Rattle.colour.specs.Channels.{allows, allowsBits, allowsAll}
 use Rattle.colour.specs.declared.model.Known.{Known}
 use Rattle.colour.specs.declared.model.Known.the-variants.{Is, Unknown}
 use Rattle.colour.specs.declared.model.Model.{Model}
@@ -112,21 +112,29 @@ module _ (names : List ℕ) (g : Given) where
 
 -- ---- a colour's model, channels and type
 
--- the channels one by one: one, three or four of them
-abbrev counted : Bool → Bool → Bool → Bool → ℕ → ℕ
-counted a b c d n = pick a (pick (eqb n 1) 0 (pick b (pick c (pick (eqb n 3) 0 (pick d 0 5)) 5) 5)) 5
+-- as many channels as the model has: one, three or four
+one-fault : (x : Bool) → pick x 0 5 ≡ firstOf (pick x 0 5) 0
+one-fault true = refl
+one-fault false = refl
 
-link : (t : Bool) {x y : ℕ} → x ≡ y → firstOf (pick t 0 5) x ≡ pick t y 5
-link true e = e
-link false e = refl
+three-faults : (x y z : Bool) → pick (x && y && z) 0 5 ≡ firstOf (pick x 0 5) (firstOf (pick y 0 5) (firstOf (pick z 0 5) 0))
+three-faults true true z = one-fault z
+three-faults true false z = refl
+three-faults false y z = refl
 
-channels-one : (m : Model) (a b c d : ℕ) → channelsFault m (a ∷ b ∷ c ∷ d ∷ [])
-    ≡ counted (allows m (ofBits binary32 a)) (allows m (ofBits binary32 b)) (allows m (ofBits binary32 c)) (allows m (ofBits binary32 d)) (traitsOf m .channels)
+four-faults : (x y z w : Bool) → pick (x && y && z && w) 0 5 ≡ firstOf (pick x 0 5) (firstOf (pick y 0 5) (firstOf (pick z 0 5) (firstOf (pick w 0 5) 0)))
+four-faults true y z w = three-faults y z w
+four-faults false y z w = refl
+
+channels-all : (m : Model) (a b c d : ℕ) → pick (allowsAll m a b c d) 0 5 ≡ channelsFault m (a ∷ b ∷ c ∷ d ∷ [])
 unfolding channelsFault faultsFrom
-channels-one Rgb a b c d = link (allows Rgb (ofBits binary32 a)) (link (allows Rgb (ofBits binary32 b)) (link (allows Rgb (ofBits binary32 c)) refl))
-channels-one Cmyk a b c d = link (allows Cmyk (ofBits binary32 a)) (link (allows Cmyk (ofBits binary32 b)) (link (allows Cmyk (ofBits binary32 c)) (link (allows Cmyk (ofBits binary32 d)) refl)))
-channels-one Lab a b c d = link (allows Lab (ofBits binary32 a)) (link (allows Lab (ofBits binary32 b)) (link (allows Lab (ofBits binary32 c)) refl))
-channels-one Gray a b c d = link (allows Gray (ofBits binary32 a)) refl
+channels-all Rgb a b c d = three-faults (allows Rgb (ofBits binary32 a)) (allows Rgb (ofBits binary32 b)) (allows Rgb (ofBits binary32 c))
+channels-all Cmyk a b c d = four-faults (allows Cmyk (ofBits binary32 a)) (allows Cmyk (ofBits binary32 b)) (allows Cmyk (ofBits binary32 c)) (allows Cmyk (ofBits binary32 d))
+channels-all Lab a b c d = three-faults (allows Lab (ofBits binary32 a)) (allows Lab (ofBits binary32 b)) (allows Lab (ofBits binary32 c))
+channels-all Gray a b c d = one-fault (allows Gray (ofBits binary32 a))
+
+pub channels-by : (m : Model) (a b c d : ℕ) (x : Bool) → x ≡ allowsAll m a b c d → pick x 0 5 ≡ channelsFault m (a ∷ b ∷ c ∷ d ∷ [])
+channels-by m a b c d x e = ap (λ (t : Bool). pick t 0 5) e ∙ channels-all m a b c d
 
 -- as the code tests it
 failed : (t : Bool) → not t ≡ true → t ≡ false
@@ -136,35 +144,6 @@ failed false e = refl
 held : (t : Bool) → not t ≡ false → t ≡ true
 held true e = refl
 held false e = sym e
-
-module _ (m : Model) (a b c d n : ℕ) (count : n ≡ traitsOf m .channels) where
-  by-count : counted (allows m (ofBits binary32 a)) (allows m (ofBits binary32 b)) (allows m (ofBits binary32 c)) (allows m (ofBits binary32 d)) n ≡ channelsFault m (a ∷ b ∷ c ∷ d ∷ [])
-  by-count =
-      ap (counted (allows m (ofBits binary32 a)) (allows m (ofBits binary32 b)) (allows m (ofBits binary32 c)) (allows m (ofBits binary32 d))) count
-      ∙ sym (channels-one m a b c d)
-
-  module _ (x : Bool) (first : x ≡ allows m (ofBits binary32 a)) where
-    pub first-bad : not x ≡ true → 5 ≡ channelsFault m (a ∷ b ∷ c ∷ d ∷ [])
-    first-bad e = sym (rw (sym first ∙ failed x e)) ∙ by-count
-
-    module _ (p : not x ≡ false) where
-      pub one-fine : n ≡ 1 → 0 ≡ channelsFault m (a ∷ b ∷ c ∷ d ∷ [])
-      one-fine k = sym (rw (sym first ∙ held x p, eq-eqb n 1 k)) ∙ by-count
-
-      module _ (more : n ≡ 1 → ⊥) (y : Bool) (second : y ≡ allows m (ofBits binary32 b)) where
-        pub second-bad : not y ≡ true → 5 ≡ channelsFault m (a ∷ b ∷ c ∷ d ∷ [])
-        second-bad e = sym (rw (sym first ∙ held x p, ne-eqb n 1 more, sym second ∙ failed y e)) ∙ by-count
-
-        module _ (q : not y ≡ false) (z : Bool) (third : z ≡ allows m (ofBits binary32 c)) where
-          pub third-bad : not z ≡ true → 5 ≡ channelsFault m (a ∷ b ∷ c ∷ d ∷ [])
-          third-bad e = sym (rw (sym first ∙ held x p, ne-eqb n 1 more, sym second ∙ held y q, sym third ∙ failed z e)) ∙ by-count
-
-          module _ (r : not z ≡ false) where
-            pub three-fine : n ≡ 3 → 0 ≡ channelsFault m (a ∷ b ∷ c ∷ d ∷ [])
-            three-fine k = sym (rw (sym first ∙ held x p, ne-eqb n 1 more, sym second ∙ held y q, sym third ∙ held z r, eq-eqb n 3 k)) ∙ by-count
-
-            pub four-by : (n ≡ 3 → ⊥) → (w : Bool) → w ≡ allows m (ofBits binary32 d) → pick w 0 5 ≡ channelsFault m (a ∷ b ∷ c ∷ d ∷ [])
-            four-by k w fourth = sym (rw (sym first ∙ held x p, ne-eqb n 1 more, sym second ∙ held y q, sym third ∙ held z r, ne-eqb n 3 k) (ap (λ (t : Bool). pick t 0 5) (sym fourth))) ∙ by-count
 
 -- the fault of a colour of an unknown model, and of a known one
 module _ (g : Given) where

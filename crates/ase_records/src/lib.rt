@@ -1,7 +1,5 @@
 // ASE palettes: the records of a run of numbers, judged as the reader would judge the file made of them.
 ghost use mathlib.Core.Path.{_≡_};
-ghost use mathlib.Core.Bool.{true};
-ghost use mathlib.Core.List.{[], _∷_};
 ghost use Prim.Native.Nat.{_+_, _*_, _≤_, _<_};
 ghost use lib.Dec.{leb};
 ghost use lib.ListN.{length};
@@ -11,7 +9,7 @@ ghost use Rattle.colour.specs.Models.{channelsOf};
 ghost use Rattle.ase.specs.Reading.{deepest};
 ghost use Rattle.ase_records.specs.Writing.{givenAt, givens, given, sizeIn, size, nameFault, blockFault, needed};
 ghost use Rattle.fields.specs.Answer.{toldWritten};
-ghost use Rattle.ase_records.specs.Parts.{givenOf, noRecord, recordIn, headFault, channelsFault, shadeFault, depthAfter, blocksFault};
+ghost use Rattle.ase_records.specs.Parts.{givenOf, noRecord, recordIn, headFault, shadeFault, depthAfter, blocksFault};
 use ase::WIDTH;
 use colour::Known;
 use colour::Model;
@@ -143,29 +141,6 @@ fn name_fault(text: &[u8], given: Record) -> u32
     }
 }
 
-// Whether a model allows the channels that it has.
-fn allows_all(model: Model, a: u32, b: u32, c: u32, d: u32) -> bool
-    ensures { λ r. ⌜ pick r 0 5 ≡ channelsFault model (a ∷ b ∷ c ∷ d ∷ []) ⌝ }
-{
-    let n = model.traits().channels;
-    if !model.allows(a) {
-        return false;
-    }
-    if n == 1 {
-        return true;
-    }
-    if !model.allows(b) {
-        return false;
-    }
-    if !model.allows(c) {
-        return false;
-    }
-    if n == 3 {
-        return true;
-    }
-    model.allows(d)
-}
-
 // The fault of what stands behind a colour's name: its model, its channels, its type.
 fn shade_fault(given: Record) -> u32
     ensures { λ r. ⌜ r ≡ shadeFault (givenOf given) ⌝ }
@@ -173,7 +148,7 @@ fn shade_fault(given: Record) -> u32
     let Known::Is(model) = Model::from_tag(given.model) else {
         return 4;
     };
-    if !allows_all(model, given.a, given.b, given.c, given.d) {
+    if !model.allows_all(given.a, given.b, given.c, given.d) {
         return 5;
     }
     if 2 < given.kind {

@@ -21,7 +21,6 @@ use Rattle.fields.proofs.Texts.{text-short, text-zero, text-fine}
 use Rattle.fields.proofs.Chain.{in-map, in-both, all-in, in-all, in-inv, state-map}
 use Rattle.colour.specs.Models.{isModel, channelsOf}
 use Rattle.colour.specs.Channels.{allowsBits}
-use Rattle.colour.specs.declared.model.Model.the-variants as vm
 use Rattle.ase.specs.Grammar.{Block, start, stop, colour, payload, blockBytes}
 use Rattle.ase.specs.Reading.{deepest, standing}
 use Rattle.ase.specs.Faults.{paletteFault, NameFits, BlockFits}

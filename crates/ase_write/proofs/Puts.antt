@@ -3,7 +3,7 @@ use Rattle.fields.proofs.Counted.{counted-end, counted-start, counted-turn, len
 use Prim.Native.Nat.{ℕ, zero, suc, _+_, _*_, _-_, _≤_, _<_}
 use mathlib.Core.Path.{_≡_, refl, sym, ap, ap₂, _∙_}
 use mathlib.Core.List.{List, [], _∷_, _++_, map}
-use mathlib.Core.Bool.{true, false, true≢false}
+use mathlib.Core.Bool.{true, true≢false}
 use lib.ListN.{length, take, drop, length-append}
 use lib.Seq.{sets, sets-eq}
 use borrow.Author.Tests.{ne-eqb}

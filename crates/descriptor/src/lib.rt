@@ -2,8 +2,7 @@
 //
 // Each reader takes any place, and answers where its field ends, or a refusal.
 ghost use mathlib.Core.Path.{_≡_};
-ghost use Prim.Native.Nat.{_+_, _*_, _≤_, _<_};
-ghost use lib.Dec.{eqb};
+ghost use Prim.Native.Nat.{_+_, _*_, _<_};
 ghost use lib.ListN.{length};
 ghost use Rattle.fields.specs.Numbers.{num};
 ghost use Rattle.fields.specs.Answer.{toldStep};

@@ -4,14 +4,13 @@ use mathlib.Core.Path.{_≡_, ap₂, subst, sym, _∙_}
 use mathlib.Core.List.{List}
 use mathlib.Core.Bool.{Bool, true, false}
 use lib.ListN.{length}
-use lib.Dec.{ltb}
 use borrow.Author.Tests.{lt-ltb, le-ltb}
 use native.Mathlib.Omega.{arith}
 use Rattle.fields.specs.Reader.{Res, ok, refuse}
 use Rattle.fields.specs.Refusal.{Placed, ends, fails}
 use Rattle.fields.proofs.Placed.{refusal-placed}
 use Rattle.descriptor.specs.Reading.{Row, item, refItem}
-use Rattle.descriptor.proofs.Ends.{Accepts, yes, no}
+use Rattle.descriptor.proofs.Ends.{Accepts, yes}
 use Rattle.descriptor.proofs.Tiling.{Reach, list-reach, object-reach, reference-reach, array-reach}
 use Rattle.descriptor.proofs.Placed.{children-placed, ref-placed, array-placed, object-placed, item-placed}
 use Rattle.descriptor_read.specs.declared.Walk.{Walk}

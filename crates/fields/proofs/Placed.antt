@@ -1,7 +1,7 @@
 -- Refusals have a number of the table and a place of the file: each combinator. Assumes nothing.
 use Prim.Native.Nat.{ℕ, zero, suc, _+_, _-_, _*_, _≤_}
 use mathlib.Core.Path.{_≡_, refl, subst}
-use mathlib.Core.List.{List, _∷_}
+use mathlib.Core.List.{List}
 use mathlib.Core.Bool.{Bool, true, false}
 use lib.ListN.{length}
 use lib.Dec.{leb, ltb, eqb}
@@ -9,7 +9,7 @@ use borrow.Author.Tests.{leb-true}
 use native.Mathlib.Omega.{arith}
 use Rattle.fields.specs.Numbers.{num, nums}
 use Rattle.fields.specs.Reader.{Res, Reader, ok, refuse, then, pick, field, body, Judged, fine, fault, unless, rule, judged, each, chain, ended, done, limit}
-use Rattle.fields.specs.Text.{Name, closed, name}
+use Rattle.fields.specs.Text.{closed, name}
 use Rattle.fields.specs.Refusal.{OfTable, Placed, ends, fails, Tabled}
 
 -- ---- numbers

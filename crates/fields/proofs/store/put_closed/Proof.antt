@@ -1,4 +1,3 @@
-use native.Mathlib.Omega.{arith}
 use Rattle.fields.proofs.Stores.{put-closing}
 use borrow.Author.Needs.{needs}
 use Rattle.fields.proofs.store.put_closed.Statement.{statement}
