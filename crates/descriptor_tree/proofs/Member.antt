@@ -1,5 +1,5 @@
 -- The reader of one member accepts exactly the heads that may stand in its place, and then the member's children. Assumes nothing.
-use Prim.Native.Nat.{ℕ, suc, _+_, _≤_}
+use Prim.Native.Nat.{ℕ, suc, _+_, _^_, _≤_, _<_}
 use mathlib.Core.Path.{_≡_, refl, sym, ap, ap₂, _∙_, subst}
 use mathlib.Core.List.{List, [], _∷_, _++_}
 use mathlib.Core.Logic.{⊎-elim}
@@ -51,24 +51,28 @@ module _ (s : List ℕ) (bytes : Bytes s) (d k : ℕ) where
     pub stands : At s v fields
     pub children : siblings (reader below d k) number (k + 1) s (v + length fields) ≡ ok kids e
 
+  -- a count and the members that it counts
+  counted-behind : {kind v e : ℕ} {kids : List Row} (below : Place) → v ≤ length s → ((n : ℕ) → n < 256 ^ 4 → Item kind below n (be 4 n)) → children (reader below d k) k s v ≡ ok kids e → Behind kind v kids e
+  counted-behind {v = v} below le may h =
+      let u = children-inv s bytes (reader below d k) k v le h in
+      let n : ℕ = u .0 in
+      let z : v + 4 ≡ v + length (be 4 n) = omega (arith, length-be 4 n) in
+      record {
+        below = below;
+        number = n;
+        fields = be 4 n;
+        may = may n (u .1 .small);
+        stands = u .1 .stands;
+        children = ap (λ (i : ℕ). siblings (reader below d k) n (k + 1) s i) (sym z) ∙ u .2;
+      }
+
   pub value-sound : (kind v e : ℕ) (kids : List Row) (sort : Sort) → v ≤ length s → Sorted s bytes kind sort → valueOf (item d) d k sort s v ≡ ok kids e → Behind kind v kids e
   unfolding siblings objectOf arrayOf
   value-sound kind v e kids (leaf p) le t h =
       let u = plain-inv p s v h in
       let x = t v le tt e (u .0) in
       record { below = Place.nowhere; number = 0; fields = x .0; may = Item.leaf (x .1); stands = x .2; children = ap₂ (λ (i : ℕ) (l : List Row). ok l i) (x .3) (u .1) }
-  value-sound kind v e kids list le t h =
-      let u = children-inv s bytes (reader Place.items d k) k v le h in
-      let n : ℕ = u .0 in
-      let z : v + 4 ≡ v + length (be 4 n) = omega (arith, length-be 4 n) in
-      record {
-        below = Place.items;
-        number = n;
-        fields = be 4 n;
-        may = subst (λ (i : ℕ). Item i Place.items n (be 4 n)) (sym t) (Item.list n (u .1 .small));
-        stands = u .1 .stands;
-        children = ap (λ (i : ℕ). siblings (reader Place.items d k) n (k + 1) s i) (sym z) ∙ u .2;
-      }
+  value-sound kind v e kids list le t h = counted-behind Place.items le (λ n l. subst (λ (i : ℕ). Item i Place.items n (be 4 n)) (sym t) (Item.list n l)) h
   value-sound kind v e kids object le t h =
       let u = class-inv s bytes (reader Place.pairs d k) k v le h in
       let b : List ℕ = u .0 in
@@ -77,18 +81,7 @@ module _ (s : List ℕ) (bytes : Bytes s) (d k : ℕ) where
       (λ z. subst (λ (i : ℕ). Item i Place.pairs n (b ++ be 4 n)) (sym z) (Item.object n (u .3) (u .2)))
       (λ z. subst (λ (i : ℕ). Item i Place.pairs n (b ++ be 4 n)) (sym z) (Item.global n (u .3) (u .2))) t in
       record { below = Place.pairs; number = n; fields = b ++ be 4 n; may = i; stands = u .4; children = u .5 }
-  value-sound kind v e kids reference le t h =
-      let u = children-inv s bytes (reader Place.forms d k) k v le h in
-      let n : ℕ = u .0 in
-      let z : v + 4 ≡ v + length (be 4 n) = omega (arith, length-be 4 n) in
-      record {
-        below = Place.forms;
-        number = n;
-        fields = be 4 n;
-        may = subst (λ (i : ℕ). Item i Place.forms n (be 4 n)) (sym t) (Item.reference n (u .1 .small));
-        stands = u .1 .stands;
-        children = ap (λ (i : ℕ). siblings (reader Place.forms d k) n (k + 1) s i) (sym z) ∙ u .2;
-      }
+  value-sound kind v e kids reference le t h = counted-behind Place.forms le (λ n l. subst (λ (i : ℕ). Item i Place.forms n (be 4 n)) (sym t) (Item.reference n l)) h
   value-sound kind v e kids array le t h =
       let w = then-inv (field 4 s v) _ h in
       let m : ℕ = w .0 in
