@@ -2,7 +2,7 @@
 use Prim.Native.Nat.{ℕ, zero, suc, _+_, _*_, _-_, _/_, _%_, _≤_, _<_}
 use mathlib.Core.Path.{_≡_, refl, sym, ap, ap₂, _∙_}
 use mathlib.Core.List.{List, [], _∷_}
-use mathlib.Core.Bool.{Bool, true, false}
+use mathlib.Core.Bool.{Bool, true, false, not}
 use lib.Dec.{eqb}
 use lib.ListN.{length}
 use borrow.Author.Tests.{eq-eqb, ne-eqb, lt-ltb}
@@ -86,11 +86,19 @@ module _ (n : ℕ) (s : List ℕ) (at : ℕ) where
   closed-pos : 0 < n → closed (nums 2 n s at) ≡ pick (anyZero (nums 2 (n - 1) s at)) false (eqb (num 2 s (at + 2 * (n - 1))) 0)
   closed-pos h = let e : n ≡ suc (n - 1) = omega arith in ap (λ (k : ℕ). closed (nums 2 k s at)) e ∙ closed-last (n - 1) s at
 
-  pub closed-early : 0 < n → anyZero (nums 2 (n - 1) s at) ≡ true → closed (nums 2 n s at) ≡ false
-  closed-early h e = closed-pos h ∙ rw e
+  pub closed-open : 0 < n → eqb (num 2 s (at + 2 * (n - 1))) 0 ≡ false → closed (nums 2 n s at) ≡ false
+  closed-open h e = closed-pos h ∙ rw e (go (anyZero (nums 2 (n - 1) s at)))
+    where
+      go : (b : Bool) → pick b false false ≡ false
+      go true = refl
+      go false = refl
 
-  pub closed-is : 0 < n → anyZero (nums 2 (n - 1) s at) ≡ false → closed (nums 2 n s at) ≡ eqb (num 2 s (at + 2 * (n - 1))) 0
-  closed-is h e = closed-pos h ∙ rw e
+  pub closed-is : 0 < n → eqb (num 2 s (at + 2 * (n - 1))) 0 ≡ true → closed (nums 2 n s at) ≡ not (anyZero (nums 2 (n - 1) s at))
+  closed-is h e = closed-pos h ∙ rw e (go (anyZero (nums 2 (n - 1) s at)))
+    where
+      go : (b : Bool) → pick b false true ≡ not b
+      go true = refl
+      go false = refl
 
 -- ---- units with no zero
 

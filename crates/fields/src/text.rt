@@ -63,10 +63,11 @@ fn is_closed(s: &[u8], at: usize, n: usize) -> bool
     if n == 0 {
         return false;
     }
-    if any_zero(s, at, n - 1) {
+    // The last unit first: in a long file what stands behind the name is then on its way.
+    if crate::number::swapped(s, at + 2 * (n - 1)) != 0 {
         return false;
     }
-    crate::number::swapped(s, at + 2 * (n - 1)) == 0
+    !any_zero(s, at, n - 1)
 }
 
 // A name's n units from `first`, behind a count that stands at `at`.
