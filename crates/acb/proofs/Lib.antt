@@ -4,3 +4,4 @@ pub mod Whole
 pub mod Faultless
 pub mod RoundTrip
 pub mod Placed
+pub mod Cut

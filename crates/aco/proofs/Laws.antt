@@ -109,10 +109,10 @@ pub painted-allowed : (w : Swatch) → Painted (hue w) → Named 4 (w .name) →
 painted-allowed w p n = record { used = p .used; space = p .of; four = p .four; samples = p .fit; name = n }
 
 -- the same by the reader's tests
-abbrev Tested : Colour → Type 0
+abbrev pub Tested : Colour → Type 0
 Tested c = ((c .space < 256 ^ 2) × (space (c .space) ≡ fine)) × ((length (c .samples) ≡ 4) × All (λ k v. (v < 256 ^ 2) × (sample (c .space) k v ≡ fine)) 0 (c .samples))
 
-painted-tested : (c : Colour) → Painted c → Tested c
+pub painted-tested : (c : Colour) → Painted c → Tested c
 painted-tested c p = (
   (space-small (p .of), ap (λ (b : Bool). unless b 4) (space-known (p .of))),
   (

@@ -7,3 +7,6 @@ pub mod Written
 pub mod Faultless
 pub mod RoundTrip
 pub mod Placed
+pub mod Cut
+pub mod Behind
+pub mod Refused

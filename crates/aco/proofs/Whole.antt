@@ -26,7 +26,7 @@ pub hues-bytes : (ws : List Swatch) → joined paint (map hue ws) ≡ joined col
 unfolding colourBytes
 hues-bytes ws = joined-map paint hue ws
 
-all-painted : (i : ℕ) (ws : List Swatch) → All (λ k w. Allowed w) i ws → All (λ k c. Painted c) i (map hue ws)
+pub all-painted : (i : ℕ) (ws : List Swatch) → All (λ k w. Allowed w) i ws → All (λ k c. Painted c) i (map hue ws)
 all-painted i [] h = tt
 all-painted i (w ∷ ws) h = (allowed-painted w (h .0), all-painted (i + 1) ws (h .1))
 
@@ -37,7 +37,7 @@ all-allowed i (w ∷ ws) h g = (painted-allowed w (h .0) (g .0), all-allowed (i 
 black-painted : Painted black
 black-painted = record { used = 3; of = rgb; four = refl; fit = ((omega arith, λ l. refl), ((omega arith, λ l. refl), ((omega arith, λ l. refl), ((omega arith, λ l. refl), tt)))) }
 
-painted-at : (i : ℕ) (cs : List Colour) → All (λ k c. Painted c) i cs → (k : ℕ) → Painted (getD cs k black)
+pub painted-at : (i : ℕ) (cs : List Colour) → All (λ k c. Painted c) i cs → (k : ℕ) → Painted (getD cs k black)
 painted-at i [] h k = black-painted
 painted-at i (c ∷ cs) h zero = h .0
 painted-at i (c ∷ cs) h (suc k) = painted-at (i + 1) cs (h .1) k
@@ -80,7 +80,7 @@ bytes-colour : (w : Swatch) → Bytes (colourBytes w)
 unfolding colourBytes
 bytes-colour w = bytes-append (be 2 (w .space)) (joined (be 2) (w .samples)) (bytes-be 2 (w .space)) (bytes-joined (be 2) (bytes-be 2) (w .samples))
 
-bytes-entry : (w : Swatch) → Bytes (entryBytes w)
+pub bytes-entry : (w : Swatch) → Bytes (entryBytes w)
 unfolding entryBytes nameBytes
 bytes-entry w =
     let n : List ℕ = be 4 (length (w .name) + 1) in
@@ -104,7 +104,7 @@ bytes-two ws =
 
 module _ (s : List ℕ) (bytes : Bytes s) (ws : List Swatch) (pal : Palette ws) where
   -- a heading, before anything
-  heading-reads : (v : ℕ) → v < 256 ^ 2 → (count : ℕ → Judged) → count (length ws) ≡ fine → (at : ℕ) (more : List ℕ) → At s at (be 2 v ++ (be 2 (length ws) ++ more)) → (heading v count s at ≡ ok (length ws) (at + 4)) × At s (at + 4) more
+  pub heading-reads : (v : ℕ) → v < 256 ^ 2 → (count : ℕ → Judged) → count (length ws) ≡ fine → (at : ℕ) (more : List ℕ) → At s at (be 2 v ++ (be 2 (length ws) ++ more)) → (heading v count s at ≡ ok (length ws) (at + 4)) × At s (at + 4) more
   heading-reads v small count f at more h =
       let n : ℕ = length ws in
       let hd : List ℕ = be 2 v ++ be 2 n in

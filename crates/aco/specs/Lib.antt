@@ -3,3 +3,5 @@ pub mod Reading
 pub mod Faults
 pub mod Raw
 pub mod Places
+pub mod Widths
+pub mod Differing

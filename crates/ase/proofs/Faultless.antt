@@ -15,7 +15,7 @@ use Rattle.fields.proofs.Tells.{first-none, first-inv, pick-none, pick-some, fa
 use Rattle.fields.proofs.Chain.{in-map, in-both, all-in, in-all, in-inv, in-none}
 use Rattle.colour.specs.Models.{isModel, channelsOf}
 use Rattle.colour.specs.Channels.{allowsBits}
-use Rattle.ase.specs.Grammar.{Block, start, stop, colour, Channel, Colour, Allowed, Nested}
+use Rattle.ase.specs.Grammar.{Block, start, stop, colour, other, Channel, Colour, Allowed, Nested}
 use Rattle.ase.specs.Reading.{deepest, standing}
 use Rattle.ase.specs.Faults.{nameFault, channelFault, colourFault, blockFault, paletteFault, NameFits, ColourFits, BlockFits}
 use Rattle.ase.proofs.Tables.{model-known, model-count, known-model, model-small, channel-allowed, allowed-channel, channel-small}
@@ -53,6 +53,7 @@ block-sound d (start us) f e =
     (name-sound us f (i .1), ltb-true d 16 (pick-none (ltb d 16) 10 (omega arith) (i .0)))
 block-sound d stop f e = (tt, ltb-true 0 d (pick-none (ltb 0 d) 9 (omega arith) e))
 block-sound d (colour us t bs k) f e = (colour-sound us t bs k f e, tt)
+block-sound d (other t) f e = absurd (omega arith)
 
 pub faultless-allowed : (bs : List Block) → All (λ i b. BlockFits b) 0 bs → paletteFault bs ≡ 0 → All (λ i b. Allowed b) 0 bs × Nested 0 bs
 unfolding paletteFault
@@ -85,6 +86,7 @@ unfolding blockFault
 block-complete d (start us) a st = first-none (pick (ltb d deepest) 0 10) (nameFault us) (ap (λ (b : Bool). pick b 0 10) (lt-ltb d 16 st)) ∙ name-complete us a
 block-complete d stop a st = ap (λ (b : Bool). pick b 0 9) (lt-ltb 0 d st)
 block-complete d (colour us t bs k) a st = colour-complete us t bs k a
+block-complete d (other t) a st = absurd a
 
 pub allowed-faultless : (bs : List Block) → All (λ i b. Allowed b) 0 bs → Nested 0 bs → paletteFault bs ≡ 0
 unfolding paletteFault
@@ -104,6 +106,7 @@ name-fits us a = record { counted = a .counted; units = all-map (λ k u. (0 < u)
 pub allowed-fits : (b : Block) → Allowed b → BlockFits b
 allowed-fits (start us) a = name-fits us a
 allowed-fits stop a = tt
+allowed-fits (other t) a = absurd a
 allowed-fits (colour us t bs k) a = record {
   name = name-fits us (a .name);
   model = model-small (a .model);

@@ -19,7 +19,7 @@ use Rattle.fields.proofs.Lawful.{same-num, judged-lawful, name-lawful, give-law
 use Rattle.fields.proofs.Exact.{all-map, map-id, judged-exact, each-exact, name-exact}
 use Rattle.colour.specs.Models.{isModel, channelsOf}
 use Rattle.colour.specs.Channels.{allowsBits}
-use Rattle.ase.specs.Grammar.{Block, start, stop, colour, typeOf, payload, blockBytes, Channel, Colour, Allowed}
+use Rattle.ase.specs.Grammar.{Block, start, stop, colour, other, typeOf, payload, blockBytes, Channel, Colour, Allowed}
 use Rattle.ase.specs.Reading.{Entry, started, stopped, coloured, blockOf, group, model, channel, type, shade, within, deepest, isType, content, block}
 use Rattle.ase.proofs.Tables.{model-known, model-count, known-model, model-small, channel-allowed, allowed-channel, channel-small}
 use Rattle.ase.proofs.Payload.{bytes-cut, within-reads, within-writes, within-ends}
@@ -31,14 +31,16 @@ abbrev pub Grouped : Block → Type 0
 Grouped (start us) = Named 2 us
 Grouped stop = ⊥
 Grouped (colour us t bs k) = ⊥
+Grouped (other t) = ⊥
 
 abbrev pub Shaded : Block → Type 0
 Shaded (start us) = ⊥
 Shaded stop = ⊥
 Shaded (colour us t bs k) = Colour us t bs k
+Shaded (other t) = ⊥
 
 -- the grammar's channels by the reader's test
-channels-fine : (t : ℕ) (bs : List ℕ) → isModel t ≡ true → All (λ i b. Channel t b) 0 bs → All (λ i b. (b < 256 ^ 4) × (channel t b ≡ fine)) 0 bs
+pub channels-fine : (t : ℕ) (bs : List ℕ) → isModel t ≡ true → All (λ i b. Channel t b) 0 bs → All (λ i b. (b < 256 ^ 4) × (channel t b ≡ fine)) 0 bs
 channels-fine t bs k h = all-map (λ i b. Channel t b) (λ i b. (b < 256 ^ 4) × (channel t b ≡ fine)) (λ i b c. (channel-small c, ap (λ (x : Bool). unless x 5) (channel-allowed k c))) 0 bs h
 
 fine-channels : (t : ℕ) (bs : List ℕ) → All (λ i b. (b < 256 ^ 4) × (channel t b ≡ fine)) 0 bs → All (λ i b. Channel t b) 0 bs
@@ -50,6 +52,7 @@ module _ (s : List ℕ) (bytes : Bytes s) where
   group-reads at (start us) fit h = let x = name-exact s 2 bytes .reads at us fit h in (started (x .0), rw (x .1), ap start (x .2))
   group-reads at stop fit h = absurd fit
   group-reads at (colour us t bs k) fit h = absurd fit
+  group-reads at (other t) fit h = absurd fit
 
   group-writes : (at : ℕ) → at ≤ length s → (e : Entry) (q : ℕ) → group s at ≡ ok e q → Grouped (blockOf e) × At s at (payload (blockOf e)) × (at + length (payload (blockOf e)) ≡ q)
   unfolding group
@@ -70,6 +73,7 @@ module _ (s : List ℕ) (bytes : Bytes s) where
   unfolding shade
   shade-reads at (start us) fit h = absurd fit
   shade-reads at stop fit h = absurd fit
+  shade-reads at (other t) fit h = absurd fit
   shade-reads at (colour us t bs k) fit h =
       let n : List ℕ = nameBytes 2 us in
       let c : List ℕ = joined (be 4) bs in
@@ -136,19 +140,35 @@ abbrev pub Steps : ℕ → Block → Type 0
 Steps d (start us) = d < 16
 Steps d stop = 0 < d
 Steps d (colour us t bs k) = Unit
+Steps d (other t) = Unit
 
 abbrev pub Sound : ℕ → Block → Type 0
 Sound d b = (Allowed b × Steps d b) × (length (payload b) < 256 ^ 4)
 
-pub type-small : (b : Block) → typeOf b < 256 ^ 2
-type-small (start us) = omega arith
-type-small stop = omega arith
-type-small (colour us t bs k) = omega arith
+-- one of the three types
+abbrev pub Known : Block → Type 0
+Known (start us) = Unit
+Known stop = Unit
+Known (colour us t bs k) = Unit
+Known (other t) = ⊥
 
-pub type-is : (b : Block) → isType (typeOf b) ≡ true
-type-is (start us) = refl
-type-is stop = refl
-type-is (colour us t bs k) = refl
+pub allowed-known : (b : Block) → Allowed b → Known b
+allowed-known (start us) a = tt
+allowed-known stop a = tt
+allowed-known (colour us t bs k) a = tt
+allowed-known (other t) a = a
+
+pub type-small : (b : Block) → Known b → typeOf b < 256 ^ 2
+type-small (start us) k = omega arith
+type-small stop k = omega arith
+type-small (colour us t bs j) k = omega arith
+type-small (other t) k = absurd k
+
+pub type-is : (b : Block) → Known b → isType (typeOf b) ≡ true
+type-is (start us) k = refl
+type-is stop k = refl
+type-is (colour us t bs j) k = refl
+type-is (other t) k = absurd k
 
 pub length-block : (b : Block) → length (blockBytes b) ≡ 6 + length (payload b)
 unfolding blockBytes
@@ -182,19 +202,19 @@ block-inv s d at {e} {q} h =
     go t n x y room known c = (omega arith, ap isType x ∙ known, ap₂ (λ (a b : ℕ). content a d b s at) x y ∙ c)
 
 -- where a block's bytes stand, its content is read
-pub block-passes : (s : List ℕ) (d at : ℕ) (b : Block) → length (payload b) < 256 ^ 4 → At s at (blockBytes b)
+pub block-passes : (s : List ℕ) (d at : ℕ) (b : Block) → Known b → length (payload b) < 256 ^ 4 → At s at (blockBytes b)
     → (block d s at ≡ content (typeOf b) d (length (payload b)) s at) × At s (at + 6) (payload b)
 unfolding blockBytes
-block-passes s d at b small h =
+block-passes s d at b known small h =
     let t : ℕ = typeOf b in
     let l : List ℕ = payload b in
     let n : ℕ = length l in
     let h2 : At s (at + 2) (be 4 n ++ l) = at-after s at (be 2 t) (be 4 n ++ l) (at + 2) (ap (λ (k : ℕ). at + k) (length-be 2 t)) h in
     let six : at + 2 + length (be 4 n) ≡ at + 6 = omega (arith, length-be 4 n) in
     let h6 : At s (at + 6) l = at-after s (at + 2) (be 4 n) l (at + 6) six h2 in
-    let x : num 2 s at ≡ t = num-be s 2 at t (type-small b) (at-left s at (be 2 t) (be 4 n ++ l) h) in
+    let x : num 2 s at ≡ t = num-be s 2 at t (type-small b known) (at-left s at (be 2 t) (be 4 n ++ l) h) in
     let y : num 4 s (at + 2) ≡ n = num-be s 4 (at + 2) n small (at-left s (at + 2) (be 4 n) l h2) in
-    (block-in s d at (omega (arith, at-in s (at + 6) l h6)) (ap isType x ∙ type-is b) ∙ ap₂ (λ (a b : ℕ). content a d b s at) x y, h6)
+    (block-in s d at (omega (arith, at-in s (at + 6) l h6)) (ap isType x ∙ type-is b known) ∙ ap₂ (λ (a b : ℕ). content a d b s at) x y, h6)
 
 module _ (s : List ℕ) (bytes : Bytes s) where
   content-reads : (d at : ℕ) (b : Block) → Allowed b → Steps d b → At s (at + 6) (payload b) → (e : Entry) × (content (typeOf b) d (length (payload b)) s at ≡ ok e (at + 6 + length (payload b))) × (blockOf e ≡ b)
@@ -204,6 +224,7 @@ module _ (s : List ℕ) (bytes : Bytes s) where
       let n : ℕ = length l in
       let x = within-reads s n at (at-in s (at + 6) l h) group (group-exact (take (at + 6 + n) s) (bytes-cut (at + 6 + n) s bytes)) (start us) fit refl h in
       (x .0, rw (lt-ltb d 16 st) (x .1), x .2)
+  content-reads d at (other t) fit st h = absurd fit
   content-reads d at stop fit st h = (stopped, rw (lt-ltb 0 d st) (ap (λ (k : ℕ). ok stopped k) (sym (add-zero (at + 6)))), refl)
   content-reads d at (colour us t bs k) fit st h =
       let l : List ℕ = payload (colour us t bs k) in
@@ -212,7 +233,7 @@ module _ (s : List ℕ) (bytes : Bytes s) where
 
   pub block-reads : (d at : ℕ) (b : Block) → Sound d b → At s at (blockBytes b) → (e : Entry) × (block d s at ≡ ok e (at + length (blockBytes b))) × (blockOf e ≡ b)
   block-reads d at b fit h =
-      let x = block-passes s d at b (fit .1) h in
+      let x = block-passes s d at b (allowed-known b (fit .0 .0)) (fit .1) h in
       let y = content-reads d at b (fit .0 .0) (fit .0 .1) (x .1) in
       let l : at + 6 + length (payload b) ≡ at + length (blockBytes b) = omega (arith, length-block b) in
       (y .0, x .0 ∙ y .1 ∙ ap (λ (k : ℕ). ok (y .0) k) l, y .2)
@@ -231,10 +252,12 @@ module _ (s : List ℕ) (at d n : ℕ) where
   grouped-held (start us) q l h = record { is = refl; allowed = h .0; steps = l; stands = h .1; sized = h .2; end = h .3 }
   grouped-held stop q l h = absurd (h .0)
   grouped-held (colour us t bs k) q l h = absurd (h .0)
+  grouped-held (other t) q l h = absurd (h .0)
 
   shaded-held : (b : Block) (q : ℕ) → Shaded b × At s (at + 6) (payload b) × (length (payload b) ≡ n) × (q ≡ at + 6 + n) → Held s at 0x0001 d n b q
   shaded-held (start us) q h = absurd (h .0)
   shaded-held stop q h = absurd (h .0)
+  shaded-held (other t) q h = absurd (h .0)
   shaded-held (colour us t bs k) q h = record { is = refl; allowed = h .0; steps = tt; stands = h .1; sized = h .2; end = h .3 }
 
   module _ (bytes : Bytes s) (room : at + 6 + n ≤ length s) where

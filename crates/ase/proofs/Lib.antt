@@ -7,3 +7,6 @@ pub mod Faultless
 pub mod Written
 pub mod RoundTrip
 pub mod Placed
+pub mod Cut
+pub mod Refused
+pub mod Lengths

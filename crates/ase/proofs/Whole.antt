@@ -15,7 +15,7 @@ use Rattle.fields.proofs.Inverse.{then-inv, rule-inv, pick-inv, unless-fine, fi
 use Rattle.fields.proofs.Exact.{all-map}
 use Rattle.fields.proofs.Sequence.{field-exact, mark-exact}
 use Rattle.fields.proofs.Chain.{in-map, in-both, all-in, in-all, chain-exact, state-map}
-use Rattle.ase.specs.Grammar.{Block, start, stop, colour, typeOf, payload, blockBytes, fileBytes, Allowed, Nested, File, file}
+use Rattle.ase.specs.Grammar.{Block, start, stop, colour, other, typeOf, payload, blockBytes, fileBytes, Allowed, Nested, File, file}
 use Rattle.ase.specs.Reading.{Entry, blockOf, block, standing, standingAfter, heading, blocks, palette, ase}
 use Rattle.ase.proofs.Laws.{Steps, Sound, length-block, block-exact}
 
@@ -55,6 +55,7 @@ nested-steps d [] h = (tt, h)
 nested-steps d (start us ∷ bs) h = let r = nested-steps (d + 1) bs (h .1) in ((h .0, r .0), r .1)
 nested-steps d (stop ∷ bs) h = let r = nested-steps (d - 1) bs (h .1) in ((h .0, r .0), r .1)
 nested-steps d (colour us t cs k ∷ bs) h = let r = nested-steps d bs h in ((tt, r .0), r .1)
+nested-steps d (other t ∷ bs) h = let r = nested-steps d bs h in ((tt, r .0), r .1)
 
 pub steps-nested : (d : ℕ) (bs : List Block) → AllIn standing Steps d bs → stateAfter standing d bs ≡ 0 → Nested d bs
 unfolding stateAfter
@@ -62,6 +63,7 @@ steps-nested d [] h e = e
 steps-nested d (start us ∷ bs) h e = (h .0, steps-nested (d + 1) bs (h .1) e)
 steps-nested d (stop ∷ bs) h e = (h .0, steps-nested (d - 1) bs (h .1) e)
 steps-nested d (colour us t cs k ∷ bs) h e = steps-nested d bs (h .1) e
+steps-nested d (other t ∷ bs) h e = steps-nested d bs (h .1) e
 
 -- a block's bytes are at least six, and its payload is part of them
 blocks-length : (bs : List Block) → length bs ≤ length (joined blockBytes bs)
@@ -99,11 +101,12 @@ bytes-name us =
 bytes-payload : (b : Block) → Bytes (payload b)
 bytes-payload (start us) = bytes-name us
 bytes-payload stop = bytes-nil
+bytes-payload (other t) = bytes-nil
 bytes-payload (colour us t bs k) =
     let c : List ℕ = joined (be 4) bs in
     bytes-append (nameBytes 2 us) (be 4 t ++ (c ++ be 2 k)) (bytes-name us) (bytes-append (be 4 t) (c ++ be 2 k) (bytes-be 4 t) (bytes-append c (be 2 k) (bytes-joined (be 4) (bytes-be 4) bs) (bytes-be 2 k)))
 
-bytes-block : (b : Block) → Bytes (blockBytes b)
+pub bytes-block : (b : Block) → Bytes (blockBytes b)
 unfolding blockBytes
 bytes-block b =
     let n : List ℕ = be 4 (length (payload b)) in
@@ -120,7 +123,7 @@ bytes-file bs =
 -- ---- the grammar's bytes are read
 
 module _ (bs : List Block) (allowed : All (λ i b. Allowed b) 0 bs) (nested : Nested 0 bs) (short : length (fileBytes bs) ≤ 16777216) where
-  sound : AllIn standing Sound 0 bs
+  pub sound : AllIn standing Sound 0 bs
   sound =
       in-both standing (λ d b. Allowed b × Steps d b) (λ d b. length (payload b) < 256 ^ 4) 0 bs
       (in-both standing (λ d b. Allowed b) Steps 0 bs (all-in standing Allowed 0 0 bs allowed) (nested-steps 0 bs nested .0))

@@ -10,7 +10,7 @@ use Rattle.fields.specs.Text.{anyZero}
 use Rattle.fields.specs.Faults.{firstOf, faultsFrom, faultsIn}
 use Rattle.colour.specs.Models.{isModel, channelsOf}
 use Rattle.colour.specs.Channels.{allowsBits}
-use Rattle.ase.specs.Grammar.{Block, start, stop, colour}
+use Rattle.ase.specs.Grammar.{Block, start, stop, colour, other}
 use Rattle.ase.specs.Reading.{deepest, standing}
 
 -- a name with a zero unit is 8
@@ -25,11 +25,12 @@ channelFault t b = pick (allowsBits t b) 0 5
 abbrev pub colourFault : List ℕ → ℕ → List ℕ → ℕ → ℕ
 colourFault us t bs k = firstOf (nameFault us) (firstOf (pick (isModel t) 0 4) (firstOf (faultsFrom (λ i. channelFault t) 0 bs) (pick (leb k 2) 0 5)))
 
--- a block, where d groups stand open
+-- a block, where d groups stand open; an unknown type is 4
 unfoldable pub blockFault : ℕ → Block → ℕ
 blockFault d (start us) = firstOf (pick (ltb d deepest) 0 10) (nameFault us)
 blockFault d stop = pick (ltb 0 d) 0 9
 blockFault d (colour us t bs k) = colourFault us t bs k
+blockFault d (other t) = 4
 
 -- blocks in their order, and after the last a group that is left open
 unfoldable pub paletteFault : List Block → ℕ
@@ -48,7 +49,15 @@ pub record ColourFits (us : List ℕ) (t : ℕ) (bs : List ℕ) (k : ℕ) : Type
   pub channels : All (λ i b. b < 256 ^ 4) 0 bs
   pub type : k < 256 ^ 2
 
+-- a type that is none of the three, and has 16 bits
+pub record Unknown (t : ℕ) : Type 0 where
+  pub small : t < 256 ^ 2
+  pub no-start : t ≡ 0xC001 → ⊥
+  pub no-stop : t ≡ 0xC002 → ⊥
+  pub no-colour : t ≡ 0x0001 → ⊥
+
 abbrev pub BlockFits : Block → Type 0
 BlockFits (start us) = NameFits us
 BlockFits stop = Unit
 BlockFits (colour us t bs k) = ColourFits us t bs k
+BlockFits (other t) = Unknown t

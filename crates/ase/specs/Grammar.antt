@@ -8,11 +8,13 @@ use Rattle.fields.specs.Numbers.{be, joined, All}
 use Rattle.fields.specs.Text.{nameBytes, Named}
 
 -- a block: the start of a group with the units of its name; the end of a group;
--- or a colour: the units of its name, the tag of its model, the bits of its channels, and its type
+-- a colour: the units of its name, the tag of its model, the bits of its channels, and its type;
+-- or a block of another type, without a payload, which no file has and a writer may be given
 pub data Block : Type 0 where
   start : List ℕ → Block
   stop : Block
   colour : List ℕ → ℕ → List ℕ → ℕ → Block
+  other : ℕ → Block
 
 -- ---- its bytes
 
@@ -20,12 +22,14 @@ abbrev pub typeOf : Block → ℕ
 typeOf (start us) = 0xC001
 typeOf stop = 0xC002
 typeOf (colour us t bs k) = 0x0001
+typeOf (other t) = t
 
 -- a name with a 16-bit count; in a colour then model, channels and type
 abbrev pub payload : Block → List ℕ
 payload (start us) = nameBytes 2 us
 payload stop = []
 payload (colour us t bs k) = nameBytes 2 us ++ (be 4 t ++ (joined (be 4) bs ++ be 2 k))
+payload (other t) = []
 
 -- the length does not count the six bytes before the payload
 unfoldable pub blockBytes : Block → List ℕ
@@ -63,6 +67,7 @@ abbrev pub Allowed : Block → Type 0
 Allowed (start us) = Named 2 us
 Allowed stop = Unit
 Allowed (colour us t bs k) = Colour us t bs k
+Allowed (other t) = ⊥
 
 -- where d groups stand open: at most 16 do at once, every end closes one, and none is left open
 abbrev pub Nested : ℕ → List Block → Type 0
@@ -70,6 +75,7 @@ Nested d [] = d ≡ 0
 Nested d (start us ∷ bs) = (d < 16) × Nested (d + 1) bs
 Nested d (stop ∷ bs) = (0 < d) × Nested (d - 1) bs
 Nested d (colour us t cs k ∷ bs) = Nested d bs
+Nested d (other t ∷ bs) = Nested d bs
 
 -- ---- a file: at most 16,777,216 bytes
 pub data File : List Block → List ℕ → Type 0 where

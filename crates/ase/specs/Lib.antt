@@ -1,3 +1,5 @@
 pub mod Grammar
 pub mod Reading
 pub mod Faults
+pub mod Widths
+pub mod Damaged

@@ -8,7 +8,7 @@ use Rattle.fields.specs.Reader.{Res, ok, refuse, Reader, then, pick, field, rul
 use Rattle.fields.specs.Text.{Name, name}
 use Rattle.colour.specs.Models.{isModel, channelsOf}
 use Rattle.colour.specs.Channels.{allowsBits}
-use Rattle.ase.specs.Grammar.{Block, start, stop, colour}
+use Rattle.ase.specs.Grammar.{Block, start, stop, colour, other}
 
 -- a record: a block, and of its name the place of the first unit
 pub data Entry : Type 0 where
@@ -90,6 +90,7 @@ abbrev pub standing : ℕ → Block → ℕ
 standing d (start us) = d + 1
 standing d stop = d - 1
 standing d (colour us t bs k) = d
+standing d (other t) = d
 
 abbrev pub standingAfter : ℕ → Entry → ℕ
 standingAfter d e = standing d (blockOf e)

@@ -271,7 +271,10 @@ module _ (names : List ℕ) (d : ℕ) (g : Given) where
     | yes a ↦ rw a
     | no a ↦ elim (ℕ-discrete (g .block) 0xC002) [
       | yes b ↦ rw b
-      | no b ↦ rw (ne-eqb (g .block) _ a, ne-eqb (g .block) _ b)
+      | no b ↦ elim (ℕ-discrete (g .block) 0x0001) [
+        | yes c ↦ rw c
+        | no c ↦ simp (ne-eqb (g .block) 0xC001 a, ne-eqb (g .block) 0xC002 b, ne-eqb (g .block) 0x0001 c)
+      ]
     ]
   ]
 

@@ -10,7 +10,7 @@ use Rattle.fields.specs.Faults.{firstOf, faultsFrom, faultsIn}
 use Rattle.fields.specs.Writing.{Outcome, needs, writes}
 use Rattle.colour.specs.Models.{isModel, channelsOf}
 use Rattle.colour.specs.Channels.{allowsBits}
-use Rattle.ase.specs.Grammar.{Block, start, stop, colour, fileBytes}
+use Rattle.ase.specs.Grammar.{Block, start, stop, colour, other, fileBytes}
 use Rattle.ase.specs.Reading.{deepest, standing}
 
 -- ---- the records of a run
@@ -56,7 +56,8 @@ abbrev pub blockIn : List ℕ → Given → Block
 blockIn names g =
     pick (eqb (g .block) 0xC001) (start (unitsIn names g))
     (pick (eqb (g .block) 0xC002) stop
-    (colour (unitsIn names g) (g .model) (channelsIn g) (g .type)))
+    (pick (eqb (g .block) 0x0001) (colour (unitsIn names g) (g .model) (channelsIn g) (g .type))
+    (other (g .block))))
 
 -- ---- how long the file is
 

@@ -6,7 +6,7 @@ use mathlib.Core.Bool.{Bool, true, false}
 use lib.Dec.{leb, ltb, eqb}
 use lib.ListN.{length, take, length-append}
 use lib.Seq.{length-take-le}
-use borrow.Author.Tests.{leb-true, le-leb, eqb-true}
+use borrow.Author.Tests.{leb-true, le-leb, eqb-true, ne-eqb}
 use native.Mathlib.Omega.{arith}
 use native.Mathlib.Nat.{lt-of-not-le}
 use native.Mathlib.Decide.{ℕ-discrete, decLe}
@@ -21,15 +21,15 @@ use Rattle.fields.proofs.Texts.{text-short, text-zero, text-fine}
 use Rattle.fields.proofs.Chain.{in-map, in-both, all-in, in-all, in-inv, state-map}
 use Rattle.colour.specs.Models.{isModel, channelsOf}
 use Rattle.colour.specs.Channels.{allowsBits}
-use Rattle.ase.specs.Grammar.{Block, start, stop, colour, payload, blockBytes}
+use Rattle.ase.specs.Grammar.{Block, start, stop, colour, other, payload, blockBytes}
 use Rattle.ase.specs.Reading.{deepest, standing}
-use Rattle.ase.specs.Faults.{paletteFault, NameFits, BlockFits}
+use Rattle.ase.specs.Faults.{paletteFault, NameFits, Unknown, BlockFits}
 use Rattle.ase.specs.Faults as a
 use Rattle.ase.proofs.Tables.{known-model, model-small}
 use Rattle.ase.proofs.Laws.{length-block}
 use Rattle.ase.proofs.Whole.{length-file}
 use Rattle.ase_records.specs.Writing.{Given, givens, unitsIn, channelsIn, blockIn, sizeIn, sizes, size, nameFault, colourFault, blockFault, standingIn, fault}
-use Rattle.ase_roundtrip.specs.Tie.{Words, made, NameFitting, ColourFitting, Fitting, a-start, an-end, a-colour}
+use Rattle.ase_roundtrip.specs.Tie.{Words, made, NameFitting, ColourFitting, Fitting, a-start, an-end, a-colour, another}
 use Rattle.fields.proofs.Firsts.{test-holds, all-image}
 use Rattle.ase_records.proofs.Judging.{channels-few}
 
@@ -63,6 +63,14 @@ unfolding counted
 givens-words run h zero k i = tt
 givens-words run h (suc n) k i = ((refl, (h _, (h _, (h _, (h _, tt))))), givens-words run h n (k + 1) (i + 1))
 
+-- ---- a record of an unknown type
+
+unknown-in : (names : List ℕ) (g : Given) → Unknown (g .block) → blockIn names g ≡ other (g .block)
+unknown-in names g u = simp (ne-eqb (g .block) 0xC001 (u .no-start), ne-eqb (g .block) 0xC002 (u .no-stop), ne-eqb (g .block) 0x0001 (u .no-colour))
+
+unknown-size : (g : Given) → Unknown (g .block) → sizeIn g ≡ 6
+unknown-size g u = simp (ne-eqb (g .block) 0xC001 (u .no-start), ne-eqb (g .block) 0xC002 (u .no-stop), ne-eqb (g .block) 0x0001 (u .no-colour))
+
 -- ---- a record that fits is as long as its block, and has its block's faults
 
 module _ (names : List ℕ) where
@@ -80,6 +88,7 @@ module _ (names : List ℕ) where
   size-is : (g : Given) → Fitting names g → length (blockBytes (blockIn names g)) ≡ sizeIn g
   size-is g (a-start e n) = rw e (omega (arith, length-block (start (unitsIn names g)), length-name g))
   size-is g (an-end e) = rw e (length-block stop)
+  size-is g (another u) = rw (unknown-in names g u) (rw (unknown-size g u) (length-block (other (g .block))))
   size-is g (a-colour e n c) = rw e (omega (arith, length-block (colour (unitsIn names g) (g .model) (channelsIn g) (g .type)), length-colour g (c .four)))
 
   sizes-are : (i : ℕ) (gs : List Given) → All (λ k g. Fitting names g) i gs → length (joined blockBytes (map (blockIn names) gs)) ≡ sizes gs
@@ -115,12 +124,14 @@ module _ (names : List ℕ) where
   unfolding blockFault a.blockFault
   block-same g (a-start e n) d = rw e (ap (λ (x : ℕ). firstOf (pick (ltb d 16) 0 10) x) (name-same g n))
   block-same g (an-end e) d = rw e
+  block-same g (another u) d = rw (unknown-in names g u) (simp (ne-eqb (g .block) 0xC001 (u .no-start), ne-eqb (g .block) 0xC002 (u .no-stop), ne-eqb (g .block) 0x0001 (u .no-colour)))
   block-same g (a-colour e n c) d =
       rw e (ap (λ (x : ℕ). firstOf x (firstOf (pick (isModel (g .model)) 0 4) (firstOf (faultsFrom (λ i b. pick (allowsBits (g .model) b) 0 5) 0 (channelsIn g)) (pick (leb (g .type) 2) 0 5)))) (name-same g n))
 
   block-fits : Bytes names → (g : Given) → Fitting names g → BlockFits (blockIn names g)
   block-fits bytes g (a-start e n) = rw e (name-fits g n bytes)
   block-fits bytes g (an-end e) = rw e tt
+  block-fits bytes g (another u) = rw (unknown-in names g u) u
   block-fits bytes g (a-colour e n c) = rw e (record {
     name = name-fits g n bytes;
     model = c .model-small;

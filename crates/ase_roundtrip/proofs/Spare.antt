@@ -10,7 +10,7 @@ use Rattle.fields.specs.Faults.{firstOf, faultsFrom, faultsIn}
 use Rattle.fields.specs.Writing.{needs, writes}
 use Rattle.colour.specs.Models.{isModel, channelsOf}
 use Rattle.colour.specs.Channels.{allowsBits}
-use Rattle.ase.specs.Grammar.{Block, start, stop, colour, fileBytes}
+use Rattle.ase.specs.Grammar.{Block, start, stop, colour, other, fileBytes}
 use Rattle.ase.specs.Reading.{deepest, standing}
 use Rattle.ase_records.specs.Writing.{Given, unitsIn, blockIn, sizeIn, sizes, nameFault, blockFault, standingIn, fault, needed, written}
 use Rattle.ase_roundtrip.specs.Tie.{Alike, starts, ends, colours, AllAlike}
@@ -26,7 +26,7 @@ module _ (names : List ℕ) where
   block-alike g h (starts x y a b) = rw (x, y) (ap start (units-alike g h a b))
   block-alike g h (ends x y) = rw (x, y)
   block-alike g h (colours x a b m c k) =
-      λ i. pick (eqb (x i) 0xC001) (start (units-alike g h a b i)) (pick (eqb (x i) 0xC002) stop (colour (units-alike g h a b i) (m i) (c i) (k i)))
+      λ i. pick (eqb (x i) 0xC001) (start (units-alike g h a b i)) (pick (eqb (x i) 0xC002) stop (pick (eqb (x i) 0x0001) (colour (units-alike g h a b i) (m i) (c i) (k i)) (other (x i))))
 
   pub fault-alike : (d : ℕ) (g h : Given) → Alike g h → blockFault names d g ≡ blockFault names d h
   unfolding blockFault

@@ -6,6 +6,7 @@ use lib.ListN.{length, getD}
 use Rattle.fields.specs.Numbers.{All}
 use Rattle.fields.specs.Reader.{ok}
 use Rattle.ase.specs.Grammar.{Block, fileBytes}
+use Rattle.ase.specs.Faults.{Unknown}
 use Rattle.ase.specs.Reading.{Entry, started, stopped, coloured, blockOf, ase}
 use Rattle.ase_read.specs.Table.{fourOf}
 use Rattle.ase_records.specs.Writing.{Given, blockIn, channelsIn}
@@ -47,11 +48,12 @@ pub record ColourFitting (g : Given) : Type 0 where
   pub each-small : All (λ i b. b < 256 ^ 4) 0 (channelsIn g)
   pub type-small : g .type < 65536
 
--- a group start, a group end or a colour: of each, what is written
+-- a group start, a group end or a colour: of each, what is written; or a block of another type, which is refused
 pub data Fitting (text : List ℕ) (g : Given) : Type 0 where
   a-start : g .block ≡ 0xC001 → NameFitting text g → Fitting text g
   an-end : g .block ≡ 0xC002 → Fitting text g
   a-colour : g .block ≡ 0x0001 → NameFitting text g → ColourFitting g → Fitting text g
+  another : Unknown (g .block) → Fitting text g
 
 -- ---- records that differ only in spare places
 

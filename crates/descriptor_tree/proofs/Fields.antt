@@ -51,7 +51,7 @@ among-each P (c ∷ cs) h t e = go (eqb t c) refl e (among-each P cs (h .1) t)
     go true q x rec = subst P (sym (eqb-true t c q)) (h .0)
     go false q x rec = rec x
 
-measure-known : {u : ℕ} → Measure u → isUnit u ≡ true
+pub measure-known : {u : ℕ} → Measure u → isUnit u ≡ true
 unfolding isUnit
 measure-known Measure.angle = refl
 measure-known Measure.density = refl
@@ -60,17 +60,17 @@ measure-known Measure.plain = refl
 measure-known Measure.percent = refl
 measure-known Measure.pixels = refl
 
-known-measure : (u : ℕ) → isUnit u ≡ true → Measure u
+pub known-measure : (u : ℕ) → isUnit u ≡ true → Measure u
 unfolding isUnit
 known-measure u e = among-each Measure units (Measure.angle, (Measure.density, (Measure.distance, (Measure.plain, (Measure.percent, (Measure.pixels, tt)))))) u e
 
-array-known : {u : ℕ} → ArrayMeasure u → isArrayUnit u ≡ true
+pub array-known : {u : ℕ} → ArrayMeasure u → isArrayUnit u ≡ true
 unfolding isArrayUnit
 array-known ArrayMeasure.distance = refl
 array-known ArrayMeasure.percent = refl
 array-known ArrayMeasure.pixels = refl
 
-known-array : (u : ℕ) → isArrayUnit u ≡ true → ArrayMeasure u
+pub known-array : (u : ℕ) → isArrayUnit u ≡ true → ArrayMeasure u
 unfolding isArrayUnit
 known-array u e = among-each ArrayMeasure arrayUnits (ArrayMeasure.distance, (ArrayMeasure.percent, (ArrayMeasure.pixels, tt))) u e
 

@@ -10,3 +10,5 @@ pub mod RoundTrip
 pub mod Values
 pub mod Rows
 pub mod Examples
+pub mod Cut
+pub mod CutTree

@@ -20,21 +20,21 @@ use Rattle.descriptor_tree.proofs.Heads.{reader, rowOf, item-small, ref
 module _ (s : List ℕ) (bytes : Bytes s) (d k : ℕ) where
   -- ---- what follows an item's type
 
-  pub value-whole : {kind n : ℕ} {c : Place} {b : List ℕ} → Item kind c n b → (v e : ℕ) (kids : List Row) → At s v b → siblings (reader c d k) n (k + 1) s (v + length b) ≡ ok kids e
-      → (sort : Sort) × (sortOf kind ≡ is sort) × (valueOf (item d) d k sort s v ≡ ok kids e)
+  pub value-whole : {kind n : ℕ} {c : Place} {b : List ℕ} → Item kind c n b → (v : ℕ) (out : Res (List Row)) → At s v b → siblings (reader c d k) n (k + 1) s (v + length b) ≡ out
+      → (sort : Sort) × (sortOf kind ≡ is sort) × (valueOf (item d) d k sort s v ≡ out)
   unfolding sortOf siblings objectOf arrayOf
-  value-whole {b = b} (Item.leaf x) v e kids h g =
+  value-whole {b = b} (Item.leaf x) v out h g =
       let u = leaf-whole s bytes x v h in
       (leaf (u .0), u .1, ap (λ (r : Res Unit). then r (λ a q. ok [] q)) (u .2) ∙ g)
-  value-whole (Item.list n l) v e kids h g =
+  value-whole (Item.list n l) v out h g =
       let z : v + 4 ≡ v + length (be 4 n) = omega (arith, length-be 4 n) in
       (list, refl, children-at s bytes (reader Place.items d k) k v n l h ∙ ap (λ (i : ℕ). siblings (reader Place.items d k) n (k + 1) s i) z ∙ g)
-  value-whole (Item.object n {b = b} l c) v e kids h g = (object, refl, class-at s bytes (reader Place.pairs d k) k v n b l c h ∙ g)
-  value-whole (Item.global n {b = b} l c) v e kids h g = (object, refl, class-at s bytes (reader Place.pairs d k) k v n b l c h ∙ g)
-  value-whole (Item.reference n l) v e kids h g =
+  value-whole (Item.object n {b = b} l c) v out h g = (object, refl, class-at s bytes (reader Place.pairs d k) k v n b l c h ∙ g)
+  value-whole (Item.global n {b = b} l c) v out h g = (object, refl, class-at s bytes (reader Place.pairs d k) k v n b l c h ∙ g)
+  value-whole (Item.reference n l) v out h g =
       let z : v + 4 ≡ v + length (be 4 n) = omega (arith, length-be 4 n) in
       (reference, refl, children-at s bytes (reader Place.forms d k) k v n l h ∙ ap (λ (i : ℕ). siblings (reader Place.forms d k) n (k + 1) s i) z ∙ g)
-  value-whole (Item.array m n {b = b} i l c) v e kids h g =
+  value-whole (Item.array m n {b = b} i l c) v out h g =
       let f : ℕ → Reader (List Row) = reader (Place.columns m) d k in
       let w : v + length (be 4 m) ≡ v + 4 = ap (λ (z : ℕ). v + z) (length-be 4 m) in
       let hb : At s (v + 4) (b ++ be 4 n) = at-after s v (be 4 m) (b ++ be 4 n) (v + 4) w h in
@@ -104,13 +104,13 @@ module _ (s : List ℕ) (bytes : Bytes s) (d k : ℕ) where
   -- ---- an item, whose row starts at lo
 
   module _ (p lo : ℕ) where
-    item-whole : (at e : ℕ) {kind n : ℕ} {c : Place} {b : List ℕ} (kids : List Row) → Item kind c n b → At s at (be 4 kind ++ b) → siblings (reader c d k) n (k + 1) s (at + length (be 4 kind ++ b)) ≡ ok kids e
-        → item (suc d) p k lo s at ≡ ok (rowOf kind d p lo (at + 4) e ∷ kids) e
+    item-whole : (at : ℕ) {kind n : ℕ} {c : Place} {b : List ℕ} (out : Res (List Row)) → Item kind c n b → At s at (be 4 kind ++ b) → siblings (reader c d k) n (k + 1) s (at + length (be 4 kind ++ b)) ≡ out
+        → item (suc d) p k lo s at ≡ headed kind d p lo (at + 4) out
     unfolding item
-    item-whole at e {kind} {n} {c} {b} kids i h g =
+    item-whole at {kind} {n} {c} {b} out i h g =
         let w : at + length (be 4 kind) ≡ at + 4 = ap (λ (z : ℕ). at + z) (length-be 4 kind) in
         let z : at + 4 + length b ≡ at + length (be 4 kind ++ b) = omega (arith, length-append (be 4 kind) b) in
-        let u = value-whole i (at + 4) e kids (at-after s at (be 4 kind) b (at + 4) w h) (ap (λ (q : ℕ). siblings (reader c d k) n (k + 1) s q) z ∙ g) in
+        let u = value-whole i (at + 4) out (at-after s at (be 4 kind) b (at + 4) w h) (ap (λ (q : ℕ). siblings (reader c d k) n (k + 1) s q) z ∙ g) in
         rw (number-whole 4 (field-numbers s bytes 4) at kind (item-small i) tt (at-left s at (be 4 kind) b h)) (rw (u .1) (ap (headed kind d p lo (at + 4)) (u .2)))
 
     pub record Read-item (at : ℕ) (rs : List Row) (e : ℕ) : Type 0 where
@@ -149,25 +149,25 @@ module _ (s : List ℕ) (bytes : Bytes s) (d k : ℕ) where
 
     -- ---- a member
 
-    pub one-whole : {c below : Place} {key b : List ℕ} {kind n : ℕ} → Member c key kind below n b → (e : ℕ) (kids : List Row) → At s lo (head key kind b)
-        → siblings (reader below d k) n (k + 1) s (lo + length (head key kind b)) ≡ ok kids e → reader c (suc d) p k s lo ≡ ok (rowOf kind d p lo (lo + length key + 4) e ∷ kids) e
+    pub one-whole : {c below : Place} {key b : List ℕ} {kind n : ℕ} → Member c key kind below n b → (out : Res (List Row)) → At s lo (head key kind b)
+        → siblings (reader below d k) n (k + 1) s (lo + length (head key kind b)) ≡ out → reader c (suc d) p k s lo ≡ headed kind d p lo (lo + length key + 4) out
     unfolding keyed refItem arrayPair siblings
-    one-whole (Member.item {kind = kind} i) e kids h g =
+    one-whole (Member.item {kind = kind} i) out h g =
         let z : lo + 4 ≡ lo + 0 + 4 = omega arith in
-        item-whole lo e kids i h g ∙ ap (λ (v : ℕ). ok (rowOf kind d p lo v e ∷ kids) e) z
-    one-whole (Member.pair {key = key} {kind = kind} {n = n} {c = c} {b = b} y i) e kids h g =
+        item-whole lo out i h g ∙ ap (λ (v : ℕ). headed kind d p lo v out) z
+    one-whole (Member.pair {key = key} {kind = kind} {n = n} {c = c} {b = b} y i) out h g =
         let u = id-reads s bytes .complete lo key y (at-left s lo key (be 4 kind ++ b) h) in
         let z : lo + length key + length (be 4 kind ++ b) ≡ lo + length (head key kind b) = omega (arith, length-append key (be 4 kind ++ b)) in
-        let x = item-whole (lo + length key) e kids i (at-right s lo key (be 4 kind ++ b) h) (ap (λ (q : ℕ). siblings (reader c d k) n (k + 1) s q) z ∙ g) in
+        let x = item-whole (lo + length key) out i (at-right s lo key (be 4 kind ++ b) h) (ap (λ (q : ℕ). siblings (reader c d k) n (k + 1) s q) z ∙ g) in
         ap (λ (r : Res Unit). then r (λ a q. item (suc d) p k lo s q)) (u .1) ∙ x
-    one-whole (Member.form {kind = kind} {b = b} x) e kids h g =
+    one-whole (Member.form {kind = kind} {b = b} x) out h g =
         let w : lo + length (be 4 kind) ≡ lo + 4 = ap (λ (z : ℕ). lo + z) (length-be 4 kind) in
         let u = ref-whole s bytes kind b x (lo + 4) (at-after s lo (be 4 kind) b (lo + 4) w h) in
         let z : lo + 4 + length b ≡ lo + length (be 4 kind ++ b) = omega (arith, length-append (be 4 kind) b) in
         let v : lo + 4 ≡ lo + 0 + 4 = omega arith in
-        let o : plain (refValue (u .0)) s (lo + 4) ≡ ok kids e = ap (λ (r : Res Unit). then r (λ a q. ok [] q)) (u .2) ∙ ap (λ (i : ℕ). ok [] i) z ∙ g in
-        rw (number-whole 4 (field-numbers s bytes 4) lo kind (ref-small x) tt (at-left s lo (be 4 kind) b h)) (rw (u .1) (ap (headed kind d p lo (lo + 4)) o ∙ ap (λ (i : ℕ). ok (rowOf kind d p lo i e ∷ kids) e) v))
-    one-whole (Member.column {m = m} {key = key} {b = b} y x) e kids h g =
+        let o : plain (refValue (u .0)) s (lo + 4) ≡ out = ap (λ (r : Res Unit). then r (λ a q. ok [] q)) (u .2) ∙ ap (λ (i : ℕ). ok [] i) z ∙ g in
+        rw (number-whole 4 (field-numbers s bytes 4) lo kind (ref-small x) tt (at-left s lo (be 4 kind) b h)) (rw (u .1) (ap (headed kind d p lo (lo + 4)) o ∙ ap (λ (i : ℕ). headed kind d p lo i out) v))
+    one-whole (Member.column {m = m} {key = key} {b = b} y x) out h g =
         let t : ℕ = 0x556E_466C in
         let u = id-reads s bytes .complete lo key y (at-left s lo key (be 4 t ++ b) h) in
         let at : ℕ = lo + length key in
@@ -176,7 +176,7 @@ module _ (s : List ℕ) (bytes : Bytes s) (d k : ℕ) where
         let a = number-whole 4 (tag-numbers s bytes 4 t 4) at t (omega arith) refl (at-left s at (be 4 t) b ht) in
         let v = column-reads s bytes m .complete (at + 4) b x (at-after s at (be 4 t) b (at + 4) w ht) in
         let z : at + 4 + length b ≡ lo + length (head key t b) = omega (arith, length-head key t b) in
-        let o : plain (column m) s (at + 4) ≡ ok kids e = ap (λ (r : Res Unit). then r (λ a q. ok [] q)) (v .1) ∙ ap (λ (i : ℕ). ok [] i) z ∙ g in
+        let o : plain (column m) s (at + 4) ≡ out = ap (λ (r : Res Unit). then r (λ a q. ok [] q)) (v .1) ∙ ap (λ (i : ℕ). ok [] i) z ∙ g in
         ap (λ (r : Res Unit). then r (λ u e. then (judged 4 (λ t. unless (eqb t 0x556e_466c) 4) s e) (λ t v. headed t d p lo v (plain (column m) s v)))) (u .1)
         ∙ ap (λ (r : Res ℕ). then r (λ t v. headed t d p lo v (plain (column m) s v))) a ∙ ap (headed t d p lo (at + 4)) o
 

@@ -52,7 +52,7 @@ module _ (s : List ℕ) (octets : Bytes s) where
       let mid : lo + length hd + length (bytes children) ≡ lo + n = omega arith in
       let tr = at-right s lo hd (bytes children ++ bytes rest) t in
       let x = forest-whole children (a .0) left (d + 1) k (k + 1) (lo + length hd) (omega arith) (a .3) (at-left s (lo + length hd) (bytes children) (bytes rest) tr) in
-      let y = one-whole s octets left k p lo (a .2) (lo + n) below (at-left s lo hd (bytes children ++ bytes rest) t) (x ∙ ap (λ (z : ℕ). ok below z) mid) in
+      let y = one-whole s octets left k p lo (a .2) (ok below (lo + n)) (at-left s lo hd (bytes children ++ bytes rest) t) (x ∙ ap (λ (z : ℕ). ok below z) mid) in
       let y′ : reader c (suc left) p k s lo ≡ ok (row ∷ below) (lo + n) = y ∙ ap (λ (r : Row). ok (r ∷ below) (lo + n)) (row-same kind left d p lo n (lo + length key + 4) (lo + n) h refl) in
       let next : k + 1 + length below ≡ k + length (row ∷ below) = omega arith in
       let v = forest-whole rest c (suc left) d p (k + 1 + length below) (lo + n) h (a .4) (subst (λ (z : ℕ). At s z (bytes rest)) mid (at-right s (lo + length hd) (bytes children) (bytes rest) tr)) in

@@ -1,3 +1,4 @@
 pub mod Grammar
 pub mod Tree
 pub mod Promise
+pub mod Widths

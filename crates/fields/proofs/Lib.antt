@@ -18,3 +18,6 @@ pub mod Storing
 pub mod Firsts
 pub mod Counted
 pub mod Rows
+pub mod Cuts
+pub mod Stops
+pub mod SetCuts

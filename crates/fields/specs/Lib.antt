@@ -8,3 +8,5 @@ pub mod Algebra
 pub mod Refusal
 pub mod Answer
 pub mod Sets
+pub mod Cut
+pub mod Wide
