@@ -12,11 +12,12 @@ use native.Mathlib.Nat.{add-zero}
 use Rattle.fields.specs.Numbers.{num, nums}
 use Rattle.fields.specs.Reader.{ok, pick, Judged, fine, fault, unless, judged, each}
 use Rattle.fields.specs.Text.{Name, name, front}
-use Rattle.fields.proofs.Inverse.{then-inv, pick-inv, judged-inv, name-inv, front-nums, ended-inv, each-none, each-inv, each-length, fields-inv, fields-fine, unless-fine, pick-fine, ok-value, ok-place}
+use Rattle.fields.proofs.Inverse.{then-inv, pick-inv, judged-inv, name-inv, front-nums, ended-inv, each-none, each-inv, each-length, fields-inv, fields-fine, ok-value, ok-place}
 use Rattle.colour.specs.declared.space.Colour.{Colour}
-use Rattle.aco.specs.Reading.{most, colour, heading, fieldOf, twin, Entry, entry, Contents, black, second, unnamed, after, lists, aco}
+use Rattle.aco.specs.Reading.{most, colour, heading, fieldOf, twin, Entry, entry, Contents, black, second, unnamed, after, lists, aco, version, firstCount, compared, secondCount}
 use Rattle.aco.specs.Raw.{rawColours}
 use Rattle.aco.specs.Places.{nextEntry, entryPlace}
+use Rattle.aco.proofs.Fine.{fine-version, fine-first, fine-second, fine-compared}
 use Rattle.aco.proofs.Raw.{colours-raw, colours-inside}
 
 -- ---- headings
@@ -24,10 +25,10 @@ use Rattle.aco.proofs.Raw.{colours-raw, colours-inside}
 pub heading-inv : (v : ℕ) (count : ℕ → Judged) (s : List ℕ) (at : ℕ) {n q : ℕ} → heading v count s at ≡ ok n q → (num 2 s at ≡ v) × (num 2 s (at + 2) ≡ n) × (at + 4 ≡ q) × (at + 4 ≤ length s) × (count n ≡ fine)
 unfolding heading
 heading-inv v count s at e =
-    let t = then-inv (judged 2 (λ x. unless (eqb x v) 3) s at) _ e in
-    let x = judged-inv 2 s at (λ x. unless (eqb x v) 3) (t .2) in
+    let t = then-inv (judged 2 (version v) s at) _ e in
+    let x = judged-inv 2 s at (version v) (t .2) in
     let y = judged-inv 2 s (t .1) count (t .3) in
-    (x .1 ∙ eqb-true (t .0) v (unless-fine (eqb (t .0) v) 3 (x .3)), ap (λ (p : ℕ). num 2 s p) (x .2) ∙ y .1, omega arith, omega arith, y .3)
+    (x .1 ∙ fine-version v (t .0) (x .3), ap (λ (p : ℕ). num 2 s p) (x .2) ∙ y .1, omega arith, omega arith, y .3)
 
 -- ---- records
 
@@ -44,7 +45,7 @@ pub record Entered (s : List ℕ) (c : Colour) (at : ℕ) (e : Entry) (q : ℕ) 
 pub entry-inv : (i : ℕ) (c : Colour) (s : List ℕ) (at : ℕ) {e : Entry} {q : ℕ} → entry i c s at ≡ ok e q → Entered s c at e q
 unfolding entry
 entry-inv i c s at {e} {q} h =
-    let j : ℕ → ℕ → Judged = λ f v. pick (eqb v (fieldOf c f)) fine (fault 7 i f) in
+    let j : ℕ → ℕ → Judged = compared i c in
     let t = then-inv (each 5 0 (twin i c) s at) _ h in
     let x = fields-inv 2 j s 5 0 at (t .2) in
     let u = then-inv (name 4 s (t .1)) _ (t .3) in
@@ -53,7 +54,7 @@ entry-inv i c s at {e} {q} h =
     let y = name-inv 4 s (at + 10) nm in
     go (y .0) (y .1 .count) (y .1 .some) (ap (λ (z : Name). z .first) (y .1 .is)) (ap (λ (z : Name). z .units) (y .1 .is)) (y .1 .inside) (y .1 .room) (y .1 .end) (u .3)
     (λ f l. let z : f ≡ 0 + f = omega arith in
-    ap (λ (k : ℕ). num 2 s (at + 2 * f)) z ∙ eqb-true (num 2 s (at + 2 * f)) (fieldOf c (0 + f)) (pick-fine (eqb (num 2 s (at + 2 * f)) (fieldOf c (0 + f))) 7 i (0 + f) (fields-fine 2 j s 5 0 at (t .2) f l)) ∙ ap (fieldOf c) (sym z))
+    ap (λ (k : ℕ). num 2 s (at + 2 * f)) z ∙ fine-compared i c (0 + f) (num 2 s (at + 2 * f)) (fields-fine 2 j s 5 0 at (t .2) f l) ∙ ap (fieldOf c) (sym z))
   where
     go : {nm : Name} {r : ℕ} (n : ℕ) → num 4 s (at + 10) ≡ n → 0 < n → at + 10 + 4 ≡ nm .first → front (nums 2 n s (at + 10 + 4)) ≡ nm .units → n * 2 ≤ length s - (at + 10 + 4) → 4 ≤ length s - (at + 10) → at + 10 + 4 + n * 2 ≡ r
         → ok (record { colour = c; name = nm }) r ≡ ok e q → ((f : ℕ) → f < 5 → num 2 s (at + 2 * f) ≡ fieldOf c f) → Entered s c at e q
@@ -104,7 +105,7 @@ module _ (s : List ℕ) (cs : List Colour) (n : ℕ) (d : Entry) where
 -- list 1 of an accepted file: its colours cs end at r
 pub record First (s : List ℕ) (cs : List Colour) (r : ℕ) : Type 0 where
   pub short : length s ≤ 16777216
-  pub head : heading 1 (λ n. unless (leb n most) 5) s 0 ≡ ok (length cs) 4
+  pub head : heading 1 firstCount s 0 ≡ ok (length cs) 4
   pub list : each (length cs) 0 (λ i. colour) s 4 ≡ ok cs r
   pub count : num 2 s 2 ≡ length cs
   pub few : length cs ≤ 4096
@@ -115,12 +116,12 @@ pub record First (s : List ℕ) (cs : List Colour) (r : ℕ) : Type 0 where
 -- what follows it: the file's end, or list 2 with the records es
 pub data Then (s : List ℕ) (cs : List Colour) (r : ℕ) (c : Contents) (q : ℕ) : Type 0 where
   one : r ≡ length s → record { lists = 1; records = map unnamed cs } ≡ c → r ≡ q → Then s cs r c q
-  two : (es : List Entry) (z : ℕ) → heading 2 (λ n. pick (eqb n (length cs)) fine (fault 7 0 5)) s r ≡ ok (length cs) (r + 4) → each (length cs) 0 (λ i. entry i (getD cs i black)) s (r + 4) ≡ ok es z
+  two : (es : List Entry) (z : ℕ) → heading 2 (secondCount (length cs)) s r ≡ ok (length cs) (r + 4) → each (length cs) 0 (λ i. entry i (getD cs i black)) s (r + 4) ≡ ok es z
       → z ≡ length s → record { lists = 2; records = es } ≡ c → z ≡ q → Then s cs r c q
 
-first-of : (s : List ℕ) (cs : List Colour) (r n m : ℕ) → length s ≤ 16777216 → heading 1 (λ n. unless (leb n most) 5) s 0 ≡ ok n m → each n 0 (λ i. colour) s m ≡ ok cs r → First s cs r
+first-of : (s : List ℕ) (cs : List Colour) (r n m : ℕ) → length s ≤ 16777216 → heading 1 firstCount s 0 ≡ ok n m → each n 0 (λ i. colour) s m ≡ ok cs r → First s cs r
 first-of s cs r n m short h e =
-    let x = heading-inv 1 (λ n. unless (leb n most) 5) s 0 h in
+    let x = heading-inv 1 firstCount s 0 h in
     let l : n ≡ length cs = sym (each-length (λ i. colour) s n 0 m e) in
     let four : m ≡ 4 = omega arith in
     let e4 : each (length cs) 0 (λ i. colour) s 4 ≡ ok cs r = subst₂ (λ (a b : ℕ). each a 0 (λ i. colour) s b ≡ ok cs r) l four e in
@@ -129,7 +130,7 @@ first-of s cs r n m short h e =
       head = h ∙ ap₂ (λ (a b : ℕ). ok a b) l four;
       list = e4;
       count = x .1 ∙ l;
-      few = leb-true (length cs) 4096 (unless-fine (leb (length cs) 4096) 5 (subst (λ (a : ℕ). unless (leb a most) 5 ≡ fine) l (x .4)));
+      few = fine-first (length cs) (subst (λ (a : ℕ). firstCount a ≡ fine) l (x .4));
       are = y .0;
       end = y .1;
       inside = colours-inside s (length cs) 0 4 (omega arith) e4;
@@ -138,10 +139,10 @@ first-of s cs r n m short h e =
 second-inv : (s : List ℕ) (cs : List Colour) (r : ℕ) (c : Contents) (q : ℕ) → second cs s r ≡ ok c q → Then s cs r c q
 unfolding second
 second-inv s cs r c q e =
-    let j : ℕ → Judged = λ n. pick (eqb n (length cs)) fine (fault 7 0 5) in
+    let j : ℕ → Judged = secondCount (length cs) in
     let t = then-inv (heading 2 j s r) _ e in
     let x = heading-inv 2 j s r (t .2) in
-    let l : t .0 ≡ length cs = eqb-true (t .0) (length cs) (pick-fine (eqb (t .0) (length cs)) 7 0 5 (x .4)) in
+    let l : t .0 ≡ length cs = fine-second (length cs) (t .0) (x .4) in
     let u = then-inv (each (length cs) 0 (λ i. entry i (getD cs i black)) s (t .1)) _ (t .3) in
     let z = ended-inv (record { lists = 2; records = u .0 }) s (u .1) (u .3) in
     two (u .0) (u .1) (t .2 ∙ ap₂ (λ (a b : ℕ). ok a b) l (sym (x .2))) (ap (λ (p : ℕ). each (length cs) 0 (λ i. entry i (getD cs i black)) s p) (x .2) ∙ u .2) (z .0) (z .1) (z .2)
@@ -159,6 +160,6 @@ pub aco-inv : (s : List ℕ) {c : Contents} {q : ℕ} → aco s ≡ ok c q → (
 unfolding aco lists
 aco-inv s {c} {q} e =
     let i = pick-inv (leb (length s) 16777216) (lists s 0) 1 0 0 0 e in
-    let t = then-inv (heading 1 (λ n. unless (leb n most) 5) s 0) _ (i .1) in
+    let t = then-inv (heading 1 firstCount s 0) _ (i .1) in
     let u = then-inv (each (t .0) 0 (λ i. colour) s (t .1)) _ (t .3) in
     (u .0, u .1, first-of s (u .0) (u .1) (t .0) (t .1) (leb-true (length s) 16777216 (i .0)) (t .2) (u .2), after-inv s (u .0) (u .1) c q (u .3))

@@ -13,14 +13,14 @@ use Rattle.fields.specs.Numbers.{be, joined, Bytes, All}
 use Rattle.fields.specs.Reader.{pick, Judged, fine, fault, unless, judged, give, _>>=_, each}
 use Rattle.fields.specs.Text.{Name, name, nameBytes, Named}
 use Rattle.fields.specs.Algebra.{Lawful, Exact}
-use Rattle.fields.proofs.Inverse.{unless-fine, pick-fine}
 use Rattle.fields.proofs.Lawful.{judged-lawful, give-lawful, bind-lawful, each-lawful, name-lawful}
 use Rattle.fields.proofs.Exact.{all-map, all-from, all-at, all-by, map-id, judged-exact, same-exact, one-exact, give-exact, bind-exact, each-exact, name-exact}
 use Rattle.colour.specs.declared.space.Colour.{Colour}
 use Rattle.colour.specs.Spaces.{uses, known, allowed}
 use Rattle.colour.proofs.Laws.{sample-by}
-use Rattle.aco.specs.Grammar.{Swatch, Space, rgb, hsb, cmyk, lab, gray, Allowed, colourBytes, entryBytes}
-use Rattle.aco.specs.Reading.{space, sample, samples, colour, heading, fieldOf, twin, Entry, entry, swatch}
+use Rattle.aco.specs.Grammar.{Sample, Swatch, Space, rgb, hsb, cmyk, lab, gray, Allowed, colourBytes, entryBytes}
+use Rattle.aco.specs.Reading.{space, sample, samples, colour, heading, fieldOf, twin, Entry, entry, swatch, version, compared}
+use Rattle.aco.proofs.Fine.{space-fine, sample-fine, version-fine, compared-fine, fine-space, fine-sample, fine-version, fine-compared}
 
 -- ---- the reader's table of spaces and the grammar's
 
@@ -80,7 +80,7 @@ pub record Painted (c : Colour) : Type 0 where
   pub used : ℕ
   pub of : Space (c .space) used
   pub four : length (c .samples) ≡ 4
-  pub fit : All (λ k v. (v ≤ 65535) × (used ≤ k → v ≡ 0)) 0 (c .samples)
+  pub fit : All (Sample used) 0 (c .samples)
 
 -- a colour whose numbers fit their fields
 pub record Sized (c : Colour) : Type 0 where
@@ -88,7 +88,7 @@ pub record Sized (c : Colour) : Type 0 where
   pub four : length (c .samples) ≡ 4
   pub each-small : All (λ k v. v < 256 ^ 2) 0 (c .samples)
 
-space-small : {x u : ℕ} → Space x u → x < 256 ^ 2
+pub space-small : {x u : ℕ} → Space x u → x < 256 ^ 2
 space-small rgb = omega arith
 space-small hsb = omega arith
 space-small cmyk = omega arith
@@ -99,7 +99,7 @@ pub painted-sized : (c : Colour) → Painted c → Sized c
 painted-sized c p = record {
   small = space-small (p .of);
   four = p .four;
-  each-small = all-map (λ k v. (v ≤ 65535) × (p .used ≤ k → v ≡ 0)) (λ k v. v < 256 ^ 2) (λ k v h. omega (arith, h .0)) 0 (c .samples) (p .fit);
+  each-small = all-map (Sample (p .used)) (λ k v. v < 256 ^ 2) (λ k v h. omega (arith, h .0)) 0 (c .samples) (p .fit);
 }
 
 pub allowed-painted : (w : Swatch) → Allowed w → Painted (hue w)
@@ -114,21 +114,21 @@ Tested c = ((c .space < 256 ^ 2) × (space (c .space) ≡ fine)) × ((length (c 
 
 pub painted-tested : (c : Colour) → Painted c → Tested c
 painted-tested c p = (
-  (space-small (p .of), ap (λ (b : Bool). unless b 4) (space-known (p .of))),
+  (space-small (p .of), space-fine (c .space) (space-known (p .of))),
   (
     p .four,
-    all-map (λ k v. (v ≤ 65535) × (p .used ≤ k → v ≡ 0)) (λ k v. (v < 256 ^ 2) × (sample (c .space) k v ≡ fine))
-        (λ k v h. let f = h .1 in (omega (arith, h .0), ap (λ (b : Bool). unless b 5) (unused-allowed (c .space) k v (h .0) (λ l. f (subst (λ (u : ℕ). u ≤ k) (space-uses (p .of)) l))))) 0 (c .samples) (p .fit),
+    all-map (Sample (p .used)) (λ k v. (v < 256 ^ 2) × (sample (c .space) k v ≡ fine))
+        (λ k v h. let f = h .1 in (omega (arith, h .0), sample-fine (c .space) k v (unused-allowed (c .space) k v (h .0) (λ l. f (subst (λ (u : ℕ). u ≤ k) (space-uses (p .of)) l))))) 0 (c .samples) (p .fit),
   ),
 )
 
 tested-painted : (c : Colour) → Tested c → Painted c
 tested-painted c t = record {
   used = uses (c .space);
-  of = known-space (c .space) (unless-fine (known (c .space)) 4 (t .0 .1));
+  of = known-space (c .space) (fine-space (c .space) (t .0 .1));
   four = t .1 .0;
-  fit = all-map (λ k v. (v < 256 ^ 2) × (sample (c .space) k v ≡ fine)) (λ k v. (v ≤ 65535) × (uses (c .space) ≤ k → v ≡ 0))
-      (λ k v h. (omega (arith, h .0), λ l. allowed-unused (c .space) k v (unless-fine (allowed (c .space) k v) 5 (h .1)) l)) 0 (c .samples) (t .1 .1);
+  fit = all-map (λ k v. (v < 256 ^ 2) × (sample (c .space) k v ≡ fine)) (Sample (uses (c .space)))
+      (λ k v h. (omega (arith, h .0), λ l. allowed-unused (c .space) k v (fine-sample (c .space) k v (h .1)) l)) 0 (c .samples) (t .1 .1);
 }
 
 -- a swatch and a record by their parts
@@ -169,7 +169,7 @@ module _ (s : List ℕ) (bytes : Bytes s) where
   heading-exact v small count =
       same-exact
       (bind-exact {k = λ x. judged 2 count} {OkD = λ n. (n < 256 ^ 2) × (count n ≡ fine)} {rest = be 2} (λ n. tt {0})
-      (one-exact (judged-exact s bytes 2 (λ x. unless (eqb x v) 3)) v (small, ap (λ (b : Bool). unless b 3) (eq-eqb v v refl)) (λ x h. eqb-true x v (unless-fine (eqb x v) 3 (h .1))))
+      (one-exact (judged-exact s bytes 2 (version v)) v (small, version-fine v) (λ x h. fine-version v x (h .1)))
       (λ x. same-exact (judged-exact s bytes 2 count) (λ n. ((n < 256 ^ 2) × (count n ≡ fine)) × (tt {0} ≡ tt)) (be 2) (λ n h. (h, refl)) (λ n h. h .0) (λ n h. refl)))
       (λ n. (n < 256 ^ 2) × (count n ≡ fine)) (λ n. be 2 v ++ be 2 n) (λ n h. h .1) (λ n h. (tt, h)) (λ n h. refl)
 
@@ -177,16 +177,16 @@ module _ (s : List ℕ) (bytes : Bytes s) where
   pub twins-exact : (i : ℕ) (c : Colour) → Sized c → Exact s (each 5 0 (twin i c)) (λ vs. tt {0}) (λ u. Unit {0}) (λ u. paint c)
   unfolding joined
   twins-exact i c p =
-      one-exact (each-exact {p = twin i c} {Ok = Twin} (λ f. judged-exact s bytes 2 (λ v. pick (eqb v (fieldOf c f)) fine (fault 7 i f))) 5 0) l
-      (len, all-by Twin 0 0 l (λ k h. (all-at (λ k v. v < 256 ^ 2) 0 0 l small k h, ap (λ (b : Bool). pick b fine (fault 7 i (0 + k))) (eq-eqb (getD l k 0) (getD l (0 + k) 0) (ap (λ (n : ℕ). getD l n 0) (sym (zero-add k)))))))
+      one-exact (each-exact {p = twin i c} {Ok = Twin} (λ f. judged-exact s bytes 2 (compared i c f)) 5 0) l
+      (len, all-by Twin 0 0 l (λ k h. (all-at (λ k v. v < 256 ^ 2) 0 0 l small k h, compared-fine i c (0 + k) (getD l k 0) (ap (λ (n : ℕ). getD l n 0) (sym (zero-add k))))))
       (λ bs h. ext-getD 0 bs l (h .0 ∙ sym len) (λ k g.
-      eqb-true (getD bs k 0) (getD l (0 + k) 0) (pick-fine (eqb (getD bs k 0) (getD l (0 + k) 0)) 7 i (0 + k) (all-at Twin 0 0 bs (h .1) k g .1)) ∙ ap (λ (n : ℕ). getD l n 0) (zero-add k)))
+      fine-compared i c (0 + k) (getD bs k 0) (all-at Twin 0 0 bs (h .1) k g .1) ∙ ap (λ (n : ℕ). getD l n 0) (zero-add k)))
     where
       l : List ℕ
       l = c .space ∷ c .samples
 
       Twin : ℕ → ℕ → Type 0
-      Twin f v = (v < 256 ^ 2) × (pick (eqb v (fieldOf c f)) fine (fault 7 i f) ≡ fine)
+      Twin f v = (v < 256 ^ 2) × (compared i c f v ≡ fine)
 
       len : length l ≡ 5
       len = ap suc (p .four)
@@ -220,8 +220,8 @@ colour-lawful = bind-lawful (judged 2 space) _ (judged-lawful 2 space) (λ x. bi
 
 pub heading-lawful : (v : ℕ) (count : ℕ → Judged) → Lawful (heading v count)
 unfolding heading
-heading-lawful v count = bind-lawful (judged 2 (λ x. unless (eqb x v) 3)) _ (judged-lawful 2 (λ x. unless (eqb x v) 3)) (λ x. judged-lawful 2 count)
+heading-lawful v count = bind-lawful (judged 2 (version v)) _ (judged-lawful 2 (version v)) (λ x. judged-lawful 2 count)
 
 pub entry-lawful : (i : ℕ) (c : Colour) → Lawful (entry i c)
 unfolding entry
-entry-lawful i c = bind-lawful (each 5 0 (twin i c)) _ (each-lawful (twin i c) (λ f. judged-lawful 2 (λ v. pick (eqb v (fieldOf c f)) fine (fault 7 i f))) 5 0) (λ vs. bind-lawful (name 4) _ (name-lawful 4) (λ nm. give-lawful (titled c nm)))
+entry-lawful i c = bind-lawful (each 5 0 (twin i c)) _ (each-lawful (twin i c) (λ f. judged-lawful 2 (compared i c f)) 5 0) (λ vs. bind-lawful (name 4) _ (name-lawful 4) (λ nm. give-lawful (titled c nm)))

@@ -1,4 +1,5 @@
 -- Laws of the definitions of specs/. The theorems that a user cares about stand in RoundTrip.
+pub mod Fine
 pub mod Raw
 pub mod Inverse
 pub mod Laws
@@ -10,3 +11,4 @@ pub mod Placed
 pub mod Cut
 pub mod Behind
 pub mod Refused
+pub mod Wrong

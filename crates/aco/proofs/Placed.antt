@@ -11,7 +11,7 @@ use Rattle.fields.specs.Refusal.{Of, among, Placed, ends, Numbered}
 use Rattle.fields.proofs.Placed.{unless-numbered, differ-numbered, refusal-placed, placed-then, placed-pick, judged-placed, ended-placed, name-placed, each-placed, limited-placed}
 use Rattle.colour.specs.declared.space.Colour.{Colour}
 use Rattle.colour.specs.Spaces.{known, allowed}
-use Rattle.aco.specs.Reading.{most, space, sample, samples, colour, heading, fieldOf, twin, entry, second, after, lists, aco, black}
+use Rattle.aco.specs.Reading.{most, space, sample, samples, colour, heading, fieldOf, twin, entry, second, after, lists, aco, black, version, firstCount, compared, secondCount}
 use Rattle.aco.specs.Refusals.{refusals}
 
 module _ {s : List ℕ} where
@@ -25,20 +25,20 @@ module _ {s : List ℕ} where
   heading-placed : (v : ℕ) (count : ℕ → Judged) → ((n : ℕ) → Numbered refusals (count n)) → (at : ℕ) → at ≤ length s → Placed refusals s (heading v count s at)
   unfolding heading
   heading-placed v count t at l =
-      let j : ℕ → Judged = λ x. unless (eqb x v) 3 in
+      let j : ℕ → Judged = version v in
       placed-then (judged 2 j s at) _ (judged-placed (among refl) 2 j at (λ x. unless-numbered (eqb x v) (among refl)) l) (λ x q h. judged-placed (among refl) 2 count q t h)
 
   entry-placed : (i : ℕ) (c : Colour) (at : ℕ) → at ≤ length s → Placed refusals s (entry i c s at)
   unfolding entry
   entry-placed i c at l =
-      placed-then (each 5 0 (twin i c) s at) _ (each-placed (twin i c) (λ f r g. judged-placed (among refl) 2 (λ v. pick (eqb v (fieldOf c f)) fine (fault 7 i f)) r (λ v. differ-numbered (eqb v (fieldOf c f)) i f (among refl)) g) 5 0 at l)
+      placed-then (each 5 0 (twin i c) s at) _ (each-placed (twin i c) (λ f r g. judged-placed (among refl) 2 (compared i c f) r (λ v. differ-numbered (eqb v (fieldOf c f)) _ _ (among refl)) g) 5 0 at l)
       (λ vs q h. placed-then (name 4 s q) _ (name-placed (among refl) (among refl) 4 q h) (λ nm e g. ends g))
 
   second-placed : (cs : List Colour) (at : ℕ) → at ≤ length s → Placed refusals s (second cs s at)
   unfolding second
   second-placed cs at l =
-      let j : ℕ → Judged = λ n. pick (eqb n (length cs)) fine (fault 7 0 5) in
-      placed-then (heading 2 j s at) _ (heading-placed 2 j (λ n. differ-numbered (eqb n (length cs)) 0 5 (among refl)) at l)
+      let j : ℕ → Judged = secondCount (length cs) in
+      placed-then (heading 2 j s at) _ (heading-placed 2 j (λ n. differ-numbered (eqb n (length cs)) _ _ (among refl)) at l)
       (λ n q h. placed-then (each (length cs) 0 (λ i. entry i (getD cs i black)) s q) _
       (each-placed (λ i. entry i (getD cs i black)) (λ i r g. entry-placed i (getD cs i black) r g) (length cs) 0 q h) (λ es e g. ended-placed (among refl) (record { lists = 2; records = es }) e g))
 
@@ -49,7 +49,7 @@ module _ {s : List ℕ} where
   lists-placed : (at : ℕ) → at ≤ length s → Placed refusals s (lists s at)
   unfolding lists
   lists-placed at l =
-      let j : ℕ → Judged = λ n. unless (leb n most) 5 in
+      let j : ℕ → Judged = firstCount in
       placed-then (heading 1 j s at) _ (heading-placed 1 j (λ n. unless-numbered (leb n most) (among refl)) at l)
       (λ n q h. placed-then (each n 0 (λ i. colour) s q) _ (each-placed (λ i. colour) (λ i r g. colour-placed r g) n 0 q h) (λ cs e g. after-placed cs e g))
 

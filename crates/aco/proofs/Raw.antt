@@ -9,11 +9,12 @@ use native.Mathlib.Nat.{add-zero}
 use Rattle.fields.specs.Numbers.{num, nums}
 use Rattle.fields.specs.Reader.{ok, fine, judged, each}
 use Rattle.fields.proofs.Places.{getD-nums}
-use Rattle.fields.proofs.Inverse.{then-inv, judged-inv, fields-inv, fields-fine, fields-inside, each-none, each-inv, each-moves, unless-fine, ok-value, ok-place}
+use Rattle.fields.proofs.Inverse.{then-inv, judged-inv, fields-inv, fields-fine, fields-inside, each-none, each-inv, each-moves, ok-value, ok-place}
 use Rattle.colour.specs.declared.space.Colour.{Colour}
 use Rattle.colour.specs.Spaces.{known, allowed}
 use Rattle.aco.specs.Reading.{space, sample, samples, colour, fieldOf, black}
 use Rattle.aco.specs.Raw.{rawColour, rawColours}
+use Rattle.aco.proofs.Fine.{fine-space, fine-sample}
 
 -- ---- one colour
 
@@ -30,11 +31,11 @@ colour-parts s at c q x r vs z f g le each-fine e = (
   omega (arith, ok-place e),
   record {
     inside = omega arith;
-    is-known = ap known (f .1) ∙ unless-fine (known x) 4 (f .3);
+    is-known = ap known (f .1) ∙ fine-space x (f .3);
     are-allowed = λ k h.
         let i : k ≡ 0 + k = omega arith in
         let p : at + 2 + 2 * k ≡ r + 2 * k = omega arith in
-        ap (λ (v : ℕ). allowed v k (num 2 s (at + 2 + 2 * k))) (f .1) ∙ ap₂ (λ (j n : ℕ). allowed x j (num 2 s n)) i p ∙ unless-fine (allowed x (0 + k) (num 2 s (r + 2 * k))) 5 (each-fine k h);
+        ap (λ (v : ℕ). allowed v k (num 2 s (at + 2 + 2 * k))) (f .1) ∙ ap₂ (λ (j n : ℕ). allowed x j (num 2 s n)) i p ∙ fine-sample x (0 + k) (num 2 s (r + 2 * k)) (each-fine k h);
   },
 )
 

@@ -15,7 +15,7 @@ use Rattle.fields.proofs.Exact.{length-map}
 use Rattle.fields.proofs.Tells.{outcome-number}
 use Rattle.colour.specs.declared.space.Colour.{Colour}
 use Rattle.aco.specs.Grammar.{Swatch, File, plain, named, twoLists}
-use Rattle.aco.specs.Reading.{fieldOf, Entry, entry, Contents, black, unnamed, lists, aco, swatch}
+use Rattle.aco.specs.Reading.{fieldOf, Entry, entry, Contents, black, unnamed, lists, aco, swatch, secondCount}
 use Rattle.aco.specs.Raw.{rawColour, rawColours}
 use Rattle.aco.specs.Places.{entryPlace}
 use Rattle.aco.specs.Faults.{paletteFault, Fits}
@@ -87,7 +87,7 @@ two-lists s {c} {q} e l = let x = aco-inv s e in go (x .0) (x .1) (x .2) (x .3)
     go cs r f (two es y hd list end x z) =
         let n : ℕ = num 2 s 2 in
         let start : r + 4 ≡ entryPlace s n 0 = omega (arith, f .end, f .count) in
-        let h = heading-inv 2 (λ n. pick (eqb n (length cs)) fine (fault 7 0 5)) s r hd in
+        let h = heading-inv 2 (secondCount (length cs)) s r hd in
         let k : n ≡ 0 + length cs = omega (arith, f .count) in
         (omega (arith, f .end, f .count, h .3), ap (entryPlace s n) k ∙ entries-end s cs n (unnamed black) (length cs) 0 {es = es} {q = y} (subst (λ (p : ℕ). each (length cs) 0 (λ k. entry k (getD cs k black)) s p ≡ ok es y) start list) ∙ end)
 

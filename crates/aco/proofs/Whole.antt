@@ -16,7 +16,8 @@ use Rattle.fields.proofs.Places.{length-be, length-bes, joined-map, at-in, at-l
 use Rattle.fields.proofs.Exact.{all-map, all-at, all-by, length-map, map-id, length-nameBytes, each-exact}
 use Rattle.colour.specs.declared.space.Colour.{Colour}
 use Rattle.aco.specs.Grammar.{Swatch, rgb, Allowed, Palette, File, plain, named, colourBytes, entryBytes, listOne, listTwo, twoLists}
-use Rattle.aco.specs.Reading.{most, colour, heading, Entry, entry, Contents, black, second, unnamed, after, lists, aco, swatch}
+use Rattle.aco.specs.Reading.{most, colour, heading, Entry, entry, Contents, black, second, unnamed, after, lists, aco, swatch, firstCount, secondCount}
+use Rattle.aco.proofs.Fine.{first-fine, second-fine}
 use Rattle.aco.proofs.Laws.{hue, paint, label, Painted, painted-sized, allowed-painted, painted-allowed, colour-exact, heading-exact, entry-exact}
 use Rattle.aco.proofs.Inverse.{First, Then, one, two}
 
@@ -76,7 +77,7 @@ length-two ws =
 
 -- ---- what is written is bytes
 
-bytes-colour : (w : Swatch) → Bytes (colourBytes w)
+pub bytes-colour : (w : Swatch) → Bytes (colourBytes w)
 unfolding colourBytes
 bytes-colour w = bytes-append (be 2 (w .space)) (joined (be 2) (w .samples)) (bytes-be 2 (w .space)) (bytes-joined (be 2) (bytes-be 2) (w .samples))
 
@@ -120,7 +121,7 @@ module _ (s : List ℕ) (bytes : Bytes s) (ws : List Swatch) (pal : Palette ws) 
       let n : ℕ = length ws in
       let cs : List Colour = map hue ws in
       let l : List ℕ = joined colourBytes ws in
-      let x = heading-reads 1 (omega arith) (λ n. unless (leb n most) 5) (ap (λ (b : Bool). unless b 5) (le-leb n 4096 (pal .count))) 0 l h in
+      let x = heading-reads 1 (omega arith) firstCount (first-fine n (pal .count)) 0 l h in
       let y = each-exact {p = λ i. colour} {Ok = λ i c. Painted c} (λ i. colour-exact s bytes) n 0 .reads 4 cs (length-map hue ws, all-painted 0 ws (pal .swatches)) (subst (λ (z : List ℕ). At s 4 z) (sym (hues-bytes ws)) (x .1)) in
       let q : 4 + length (joined paint cs) ≡ length (be 2 1 ++ (be 2 n ++ l)) =
       omega (arith, length-append (be 2 1) (be 2 n ++ l), length-append (be 2 n) l, length-be 2 1, length-be 2 n, ap length (hues-bytes ws)) in
@@ -134,7 +135,7 @@ module _ (s : List ℕ) (bytes : Bytes s) (ws : List Swatch) (pal : Palette ws) 
       let cs : List Colour = map hue ws in
       let l : List ℕ = joined entryBytes ws in
       let len : length cs ≡ n = length-map hue ws in
-      let x = heading-reads 2 (omega arith) (λ n. pick (eqb n (length cs)) fine (fault 7 0 5)) (ap (λ (b : Bool). pick b fine (fault 7 0 5)) (eq-eqb n (length cs) (sym len))) q l h in
+      let x = heading-reads 2 (omega arith) (secondCount (length cs)) (second-fine (length cs) n (sym len)) q l h in
       let Ok : ℕ → Swatch → Type 0 = λ i w. (hue w ≡ getD cs i black) × Named 4 (w .name) in
       let fit : All Ok 0 ws =
       all-by Ok (label black []) 0 ws (λ k g.
@@ -190,7 +191,7 @@ module _ (s : List ℕ) (bytes : Bytes s) (cs : List Colour) (r : ℕ) (f : Firs
   first-writes ws same =
       let n : ℕ = length cs in
       let len : n ≡ length ws = sym (ap length same) ∙ length-map hue ws in
-      let x = heading-exact s bytes 1 (omega arith) (λ n. unless (leb n most) 5) .writes 0 (omega arith) n 4 (f .head) in
+      let x = heading-exact s bytes 1 (omega arith) firstCount .writes 0 (omega arith) n 4 (f .head) in
       let y = each-exact {p = λ i. colour} {Ok = λ i c. Painted c} (λ i. colour-exact s bytes) n 0 .writes 4 (omega (arith, f .inside, f .end)) cs r (f .list) in
       let bs : joined paint (map (λ (c : Colour). c) cs) ≡ joined colourBytes ws = ap (joined paint) (map-id cs ∙ sym same) ∙ hues-bytes ws in
       let m : List ℕ = be 2 (length ws) in
@@ -217,14 +218,14 @@ module _ (s : List ℕ) (bytes : Bytes s) (cs : List Colour) (r : ℕ) (f : Firs
       subst (λ (b : List ℕ). File 1 ws b) (sym e)
       (plain (palette-of ws (bare-hues cs) (x .0) (bare-named 0 ws (bare-names 0 cs))) (bare-names 0 cs) (omega (arith, x .2, f .short)))
 
-  two-writes : (es : List Entry) (z : ℕ) → heading 2 (λ n. pick (eqb n (length cs)) fine (fault 7 0 5)) s r ≡ ok (length cs) (r + 4)
+  two-writes : (es : List Entry) (z : ℕ) → heading 2 (secondCount (length cs)) s r ≡ ok (length cs) (r + 4)
       → each (length cs) 0 (λ i. entry i (getD cs i black)) s (r + 4) ≡ ok es z → z ≡ length s → All (λ k c. Painted c) 0 cs → File 2 (map swatch es) s
   unfolding twoLists listTwo
   two-writes es z hd list end p =
       let n : ℕ = length cs in
       let ws : List Swatch = map swatch es in
       let Ok : ℕ → Swatch → Type 0 = λ i w. (hue w ≡ getD cs i black) × Named 4 (w .name) in
-      let j : ℕ → Judged = λ n. pick (eqb n (length cs)) fine (fault 7 0 5) in
+      let j : ℕ → Judged = secondCount (length cs) in
       let x = heading-exact s bytes 2 (omega arith) j .writes r (f .inside) n (r + 4) hd in
       let four : length (be 2 2 ++ be 2 n) ≡ 4 = omega (arith, length-append (be 2 2) (be 2 n), length-be 2 2, length-be 2 n) in
       let y = each-exact {p = λ i. entry i (getD cs i black)} {Ok = Ok} (λ i. entry-exact s bytes i (getD cs i black) (painted-sized (getD cs i black) (painted-at 0 cs p i))) n 0 .writes (r + 4) (omega (arith, at-in s r (be 2 2 ++ be 2 n) (x .1))) es z list in

@@ -21,8 +21,9 @@ use Rattle.fields.proofs.Tells.{Outcome, good, outcome-fault, outcome-then, out
 use Rattle.colour.specs.declared.space.Colour.{Colour}
 use Rattle.colour.specs.Spaces.{known, allowed}
 use Rattle.aco.specs.Grammar.{Swatch, colourBytes, entryBytes, listOne, listTwo, twoLists}
-use Rattle.aco.specs.Reading.{most, space, sample, samples, colour, heading, entry, black, second, after, lists}
+use Rattle.aco.specs.Reading.{most, space, sample, samples, colour, heading, entry, black, second, after, lists, version, firstCount, secondCount}
 use Rattle.aco.specs.Faults.{sampleFault, fieldsFault, colourFault, nameFault, paletteFault, Fits}
+use Rattle.aco.proofs.Fine.{version-fine, second-fine}
 use Rattle.aco.proofs.Raw.{colour-inv}
 use Rattle.aco.proofs.Laws.{hue, paint, mix, label, titled, Sized, twins-exact}
 use Rattle.aco.proofs.Whole.{hues-bytes, hue-at, length-two}
@@ -105,8 +106,8 @@ heading-passes s v n lv ln count at more h =
     let h2 : At s (at + 2) (be 2 n ++ more) = at-after s at (be 2 v) (be 2 n ++ more) (at + 2) (ap (λ (k : ℕ). at + k) (length-be 2 v)) h in
     let two : at + 2 + length (be 2 n) ≡ at + 4 = omega (arith, length-be 2 n) in
     let room : at + 4 ≤ length s = omega (arith, at-in s (at + 2) (be 2 n ++ more) h2, length-append (be 2 n) more, length-be 2 n) in
-    let x : judged 2 (λ x. unless (eqb x v) 3) s at ≡ ok v (at + 2) =
-    judged-ok 2 s at (λ x. unless (eqb x v) 3) (sym (field-in 2 s at (omega arith) ∙ ap (λ (k : ℕ). ok k (at + 2)) (num-be s 2 at v lv (at-left s at (be 2 v) (be 2 n ++ more) h)))) (ap (λ (b : Bool). unless b 3) (eq-eqb v v refl)) in
+    let x : judged 2 (version v) s at ≡ ok v (at + 2) =
+    judged-ok 2 s at (version v) (sym (field-in 2 s at (omega arith) ∙ ap (λ (k : ℕ). ok k (at + 2)) (num-be s 2 at v lv (at-left s at (be 2 v) (be 2 n ++ more) h)))) (version-fine v) in
     let four : at + 2 + 2 ≡ at + 4 = omega arith in
     (rw x (rw (field-in 2 s (at + 2) (omega arith)) (rw (num-be s 2 (at + 2) n ln (at-left s (at + 2) (be 2 n) more h2)) (rw four))), at-after s (at + 2) (be 2 n) more (at + 4) two h2)
 
@@ -118,9 +119,9 @@ module _ (s : List ℕ) (bytes : Bytes s) (ws : List Swatch) (few : length ws < 
       let cs : List Colour = map hue ws in
       let l : List ℕ = joined entryBytes ws in
       let len : length cs ≡ n = length-map hue ws in
-      let j : ℕ → Judged = λ n. pick (eqb n (length cs)) fine (fault 7 0 5) in
+      let j : ℕ → Judged = secondCount (length cs) in
       let x = heading-passes s 2 n (omega arith) few j q l h in
-      let hd : heading 2 j s q ≡ ok n (q + 4) = x .0 ∙ ap (λ (b : Bool). rule (pick b fine (fault 7 0 5)) (q + 2) (ok n (q + 4))) (eq-eqb n (length cs) (sym len)) in
+      let hd : heading 2 j s q ≡ ok n (q + 4) = x .0 ∙ ap (λ (j : Judged). rule j (q + 2) (ok n (q + 4))) (second-fine (length cs) n (sym len)) in
       let Ok : ℕ → Swatch → Type 0 = λ i w. (hue w ≡ getD cs i black) × Fits w in
       let fit : All Ok 0 ws =
       all-by Ok (label black []) 0 ws (λ k g. (sym (hue-at ws k) ∙ ap (λ (i : ℕ). getD cs i black) (sym (zero-add k)), all-at (λ k w. Fits w) (label black []) 0 ws fits k g)) in
@@ -153,7 +154,7 @@ module _ (s : List ℕ) (bytes : Bytes s) (ws : List Swatch) (few : length ws < 
   lists-outcome h len =
       let n : ℕ = length ws in
       let l : List ℕ = joined colourBytes ws in
-      let j : ℕ → Judged = λ n. unless (leb n most) 5 in
+      let j : ℕ → Judged = firstCount in
       let first : List ℕ = be 2 1 ++ (be 2 n ++ l) in
       let x = heading-passes s 1 n (omega arith) few j 0 l (at-left s 0 first (listTwo ws) h) in
       let q : ℕ = 4 + length l in

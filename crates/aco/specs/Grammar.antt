@@ -45,12 +45,15 @@ pub data Space : ℕ → ℕ → Type 0 where
   lab : Space 7 3
   gray : Space 8 1
 
+-- sample k of a space that uses so many: from 0 to 65,535, and 0 where it is not used
+abbrev pub Sample : ℕ → ℕ → ℕ → Type 0
+Sample used k v = (v ≤ 65535) × (used ≤ k → v ≡ 0)
+
 pub record Allowed (w : Swatch) : Type 0 where
   pub used : ℕ
   pub space : Space (w .space) used
   pub four : length (w .samples) ≡ 4
-  -- samples run 0 to 65,535, unused ones are 0
-  pub samples : All (λ k v. (v ≤ 65535) × (used ≤ k → v ≡ 0)) 0 (w .samples)
+  pub samples : All (Sample used) 0 (w .samples)
   -- no unit is zero
   pub name : Named 4 (w .name)
 

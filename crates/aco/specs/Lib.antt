@@ -6,3 +6,4 @@ pub mod Places
 pub mod Widths
 pub mod Differing
 pub mod Refusals
+pub mod Damaged

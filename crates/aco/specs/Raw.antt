@@ -7,7 +7,7 @@ use lib.ListN.{length}
 use Rattle.fields.specs.Numbers.{num, nums}
 use Rattle.fields.specs.Reader.{Reader, ok, then, done, judged, unless, field, each}
 use Rattle.colour.specs.declared.space.Colour.{Colour}
-use Rattle.aco.specs.Reading.{Contents, colour, after}
+use Rattle.aco.specs.Reading.{Contents, colour, after, version}
 
 -- the ten bytes from `at`
 abbrev pub rawColour : List ℕ → ℕ → Colour
@@ -20,7 +20,7 @@ rawColours (suc n) s at = rawColour s at ∷ rawColours n s (at + 10)
 
 -- a list's version, and its count before it is judged
 unfoldable pub headed : ℕ → Reader ℕ
-headed v s at = then (judged 2 (λ x. unless (eqb x v) 3) s at) (λ x a. field 2 s a)
+headed v s at = then (judged 2 (version v) s at) (λ x a. field 2 s a)
 
 -- what stands after the first heading
 unfoldable pub afterHeading : ℕ → Reader Contents

@@ -33,11 +33,19 @@ colour = do
   vs ← samples x
   give (record { space = x; samples = vs })
 
--- a list's version, else 3, and its count
+-- a list's version is v, else 3
+abbrev pub version : ℕ → ℕ → Judged
+version v x = unless (eqb x v) 3
+
+-- a list's version and its count
 unfoldable pub heading : ℕ → (ℕ → Judged) → Reader ℕ
 heading v count = do
-  x ← judged 2 (λ x. unless (eqb x v) 3)
+  x ← judged 2 (version v)
   judged 2 count
+
+-- more than 4,096 colours are 5
+abbrev pub firstCount : ℕ → Judged
+firstCount n = unless (leb n most) 5
 
 -- ---- list 2
 
@@ -46,8 +54,11 @@ abbrev pub fieldOf : Colour → ℕ → ℕ
 fieldOf c f = getD (c .space ∷ c .samples) f 0
 
 -- field f of record i, compared with list 1's colour and not judged by 4 or 5
+abbrev pub compared : ℕ → Colour → ℕ → ℕ → Judged
+compared i c f v = pick (eqb v (fieldOf c f)) fine (fault 7 i f)
+
 abbrev pub twin : ℕ → Colour → ℕ → Reader ℕ
-twin i c f = judged 2 (λ v. pick (eqb v (fieldOf c f)) fine (fault 7 i f))
+twin i c f = judged 2 (compared i c f)
 
 -- a record: its colour, and its name with the place of its first unit
 pub record Entry : Type 0 where
@@ -69,10 +80,14 @@ pub record Contents : Type 0 where
 abbrev pub black : Colour
 black = record { space = 0; samples = 0 ∷ 0 ∷ 0 ∷ 0 ∷ [] }
 
--- list 2, where list 1 has the colours cs: the same count, else 7 with record 0 and field 5; its records; the file's end
+-- the count of list 1, n, else 7 with record 0 and field 5
+abbrev pub secondCount : ℕ → ℕ → Judged
+secondCount n m = pick (eqb m n) fine (fault 7 0 5)
+
+-- list 2, where list 1 has the colours cs: the same count; its records; the file's end
 unfoldable pub second : List Colour → Reader Contents
 second cs = do
-  n ← heading 2 (λ n. pick (eqb n (length cs)) fine (fault 7 0 5))
+  n ← heading 2 (secondCount (length cs))
   es ← each (length cs) 0 (λ i. entry i (getD cs i black))
   ended (record { lists = 2; records = es })
 
@@ -88,7 +103,7 @@ after cs s at = pick (eqb at (length s)) (ok (record { lists = 1; records = map 
 
 unfoldable pub lists : Reader Contents
 lists = do
-  n ← heading 1 (λ n. unless (leb n most) 5)
+  n ← heading 1 firstCount
   cs ← each n 0 (λ i. colour)
   after cs
 

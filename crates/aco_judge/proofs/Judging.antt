@@ -17,7 +17,7 @@ use Rattle.fields.proofs.Inverse.{then-inv, field-inv, judged-inv, ended-inv, d
 use Rattle.colour.specs.declared.space.Colour.{Colour}
 use Rattle.colour.specs.Spaces.{known, allowed, sound}
 use Rattle.colour.proofs.Laws.{sound-inv}
-use Rattle.aco.specs.Reading.{most, space, sample, samples, colour, heading, fieldOf, twin, Entry, entry, Contents, black, second, unnamed, after, lists, aco}
+use Rattle.aco.specs.Reading.{most, space, sample, samples, colour, heading, fieldOf, twin, Entry, entry, Contents, black, second, unnamed, after, lists, aco, version, firstCount}
 use Rattle.aco.specs.Raw.{rawColours, headed, afterHeading}
 use Rattle.aco_judge.specs.Answer.{accepted, refused, verdict}
 use Rattle.aco.proofs.Raw.{colours-raw, colours-inside, length-raw, fields-raw}
@@ -126,24 +126,24 @@ refused-by (ok a b) k l e = rw e
 refused-by (refuse y q t g) k l e = cc
 
 module _ (v : ℕ) (s : List ℕ) (at : ℕ) where
-  pub headed-refused : {x p r f : ℕ} → done (judged 2 (λ x. unless (eqb x v) 3) s at) ≡ refuse x p r f → headed v s at ≡ refuse x p r f
+  pub headed-refused : {x p r f : ℕ} → done (judged 2 (version v) s at) ≡ refuse x p r f → headed v s at ≡ refuse x p r f
   unfolding headed
-  headed-refused e = rw (done-refuse (judged 2 (λ x. unless (eqb x v) 3) s at) e)
+  headed-refused e = rw (done-refuse (judged 2 (version v) s at) e)
 
-  pub headed-is : {b : ℕ} → done (judged 2 (λ x. unless (eqb x v) 3) s at) ≡ ok tt b → headed v s at ≡ field 2 s b
+  pub headed-is : {b : ℕ} → done (judged 2 (version v) s at) ≡ ok tt b → headed v s at ≡ field 2 s b
   unfolding headed
-  headed-is e = rw (done-inv (judged 2 (λ x. unless (eqb x v) 3) s at) e .1)
+  headed-is e = rw (done-inv (judged 2 (version v) s at) e .1)
 
 module _ (v : ℕ) (s : List ℕ) (at : ℕ) (j : ℕ → Judged) where
   pub heading-refused : {x p r f : ℕ} → headed v s at ≡ refuse x p r f → heading v j s at ≡ refuse x p r f
   unfolding headed heading
-  heading-refused e = refused-by (judged 2 (λ x. unless (eqb x v) 3) s at) (λ b. field 2 s b) (λ n b next. rule (j n) b (ok n next)) e
+  heading-refused e = refused-by (judged 2 (version v) s at) (λ b. field 2 s b) (λ n b next. rule (j n) b (ok n next)) e
 
   pub heading-is : {n next : ℕ} → headed v s at ≡ ok n next → (heading v j s at ≡ rule (j n) (at + 2) (ok n next)) × (next ≡ at + 4) × (next ≤ length s)
   unfolding headed heading
   heading-is {n} {next} e =
-      let t = then-inv (judged 2 (λ x. unless (eqb x v) 3) s at) (λ x a. field 2 s a) e in
-      let x = judged-inv 2 s at (λ x. unless (eqb x v) 3) (t .2) in
+      let t = then-inv (judged 2 (version v) s at) (λ x a. field 2 s a) e in
+      let x = judged-inv 2 s at (version v) (t .2) in
       let y = field-inv 2 s (t .1) (t .3) in
       (rw (t .2) (rw (t .3) (ap (λ (b : ℕ). rule (j n) b (ok n next)) (sym (x .2)))), omega arith, omega arith)
 
@@ -233,14 +233,14 @@ module _ (s : List ℕ) where
 
   pub aco-heading : length s ≤ limit → {x p r f : ℕ} → headed 1 s 0 ≡ refuse x p r f → aco s ≡ refuse x p r f
   unfolding aco lists
-  aco-heading h e = simp (le-leb _ _ h) (rw (heading-refused 1 s 0 (λ n. unless (leb n most) 5) e))
+  aco-heading h e = simp (le-leb _ _ h) (rw (heading-refused 1 s 0 firstCount e))
 
   pub aco-count : length s ≤ limit → {n next : ℕ} → headed 1 s 0 ≡ ok n next → most < n → aco s ≡ refuse 5 2 0 0
   unfolding aco lists
-  aco-count h e l = simp (le-leb _ _ h) (rw (heading-is 1 s 0 (λ n. unless (leb n most) 5) e .0) (simp (lt-leb _ _ l)))
+  aco-count h e l = simp (le-leb _ _ h) (rw (heading-is 1 s 0 firstCount e .0) (simp (lt-leb _ _ l)))
 
   pub aco-lists : length s ≤ limit → {n next : ℕ} → headed 1 s 0 ≡ ok n next → n ≤ most → aco s ≡ afterHeading n s 4
   unfolding aco lists afterHeading
   aco-lists h {n} e l =
-      let i = heading-is 1 s 0 (λ n. unless (leb n most) 5) e in
+      let i = heading-is 1 s 0 firstCount e in
       simp (le-leb _ _ h) (rw (i .0) (simp (le-leb _ _ l) (rw (i .1))))

@@ -17,7 +17,7 @@ use Rattle.fields.proofs.Places.{length-nums, getD-nums}
 use Rattle.fields.proofs.Inverse.{then-inv, done-inv, fields-inv}
 use Rattle.colour.specs.declared.space.Colour.{Colour}
 use Rattle.colour.specs.Spaces.{uses, full, known, allowed, allAllowed, sound}
-use Rattle.aco.specs.Reading.{colour, fieldOf, twin, Entry, entry, black, unnamed}
+use Rattle.aco.specs.Reading.{colour, fieldOf, twin, Entry, entry, black, unnamed, compared}
 use Rattle.aco.specs.Raw.{rawColour}
 use Rattle.aco.proofs.Raw.{Good, colour-inv, colours-good, getD-raw, field-raw}
 use Rattle.aco_judge.proofs.Judging.{colour-sound}
@@ -101,7 +101,7 @@ plain-item s p at c q e = (rw e (ap (λ (b : Bool). pick b (ok (unnamed c) q) (t
 pub named-item : (s : List ℕ) → isPlain s ≡ false → (k : ℕ) (c : Colour) → Fine c → (at : ℕ) (e : Entry) (q : ℕ) → entry k c s at ≡ ok e q → (swatchFrom s at ≡ ok e q) × (at < length s)
 unfolding swatchFrom labelled entry
 named-item s p k c g at e q x =
-    let j : ℕ → ℕ → Judged = λ f v. pick (eqb v (fieldOf c f)) fine (fault 7 k f) in
+    let j : ℕ → ℕ → Judged = compared k c in
     let t = then-inv (each 5 0 (twin k c) s at) _ x in
     let ten : at + 10 ≡ t .1 = omega (arith, fields-inv 2 j s 5 0 at (t .2) .1) in
     let i = entry-inv k c s at x in

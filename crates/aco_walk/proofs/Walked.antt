@@ -16,7 +16,7 @@ use Rattle.fields.proofs.Exact.{map-id}
 use Rattle.fields.proofs.Places.{length-nums}
 use Rattle.fields.proofs.Texts.{length-front}
 use Rattle.colour.specs.declared.space.Colour.{Colour}
-use Rattle.aco.specs.Reading.{colour, Entry, entry, Contents, black, unnamed, aco}
+use Rattle.aco.specs.Reading.{colour, Entry, entry, Contents, black, unnamed, aco, secondCount}
 use Rattle.aco.proofs.Raw.{colour-inv}
 use Rattle.aco.proofs.Inverse.{First, Then, one, two, heading-inv, aco-inv}
 use Rattle.aco_read.specs.Table.{recordsOf}
@@ -40,7 +40,7 @@ accepted-walks s {c} {q} e = let i = aco-inv s e in go (i .0) (i .1) (i .2) (i .
         let w = each-walks swatchFrom unnamed s (λ k. colour) (λ k at a y h. plain-item s (p .0) at a y h) (length cs) 0 4 (f .list) end in
         subst (λ (v : Contents). Walks (walk s) (firstPlace s) (v .records)) x (subst (λ (n : ℕ). Walks (walk s) n (map unnamed cs)) (sym (p .1)) w)
     go cs r f (two es y hd list end x z) =
-        let h = heading-inv 2 (λ n. pick (eqb n (length cs)) fine (fault 7 0 5)) s r hd in
+        let h = heading-inv 2 (secondCount (length cs)) s r hd in
         let p = two-named s (length cs) (f .count) (omega (arith, f .end, h .3)) in
         let w = each-walks swatchFrom (λ (e : Entry). e) s (λ k. entry k (getD cs k black)) (λ k at a b h. named-item s (p .0) k (getD cs k black) (first-fine s cs r f k) at a b h) (length cs) 0 (r + 4) list end in
         let at : r + 4 ≡ firstPlace s = omega (arith, f .end, p .1) in
