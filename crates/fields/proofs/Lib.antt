@@ -22,3 +22,5 @@ pub mod Cuts
 pub mod Stops
 pub mod SetCuts
 pub mod Numbered
+pub mod Until
+pub mod Alone

@@ -78,6 +78,25 @@ unfoldable pub chain : {A S : Type 0} → (S → A → S) → (S → Reader A) �
 chain next p zero d s at = ok [] at
 chain next p (suc n) d s at = then (p d s at) (λ a q. then (chain next p n (next d a) s q) (λ more end. ok (a ∷ more) end))
 
+-- ---- repetition until a test stops
+
+-- whether items stop: by the state that those before left, the file and the place
+abbrev pub Test : Type 0 → Type 0
+Test S = S → List ℕ → ℕ → Bool
+
+-- at the file's end
+abbrev pub atEnd : {S : Type 0} → Test S
+atEnd d s at = eqb at (length s)
+
+-- items in a row until the test stops, each read in the state that those before it left; n at most
+unfoldable pub until : {A S : Type 0} → Test S → (S → A → S) → (S → Reader A) → ℕ → S → Reader (List A)
+until stop next p zero d s at = ok [] at
+until stop next p (suc n) d s at = pick (stop d s at) (ok [] at) (then (p d s at) (λ a q. then (until stop next p n (next d a) s q) (λ more end. ok (a ∷ more) end)))
+
+-- the same of items of a byte at least: no file has more of them than bytes
+abbrev pub many : {A S : Type 0} → Test S → (S → A → S) → (S → Reader A) → S → Reader (List A)
+many stop next p d s at = until stop next p (suc (length s)) d s at
+
 -- ---- the file's end
 
 -- 6 where bytes are left
@@ -95,6 +114,11 @@ mapRes f (refuse x p r g) = refuse x p r g
 abbrev pub done : {A : Type 0} → Res A → Res Unit
 done (ok a n) = ok tt n
 done (refuse x p r f) = refuse x p r f
+
+-- with its places counted from another
+abbrev pub shift : {A : Type 0} → ℕ → Res A → Res A
+shift from (ok a q) = ok a (from + q)
+shift from (refuse x p r f) = refuse x (from + p) r f
 
 -- its number, or 0 where it is refused
 abbrev pub orZero : Res ℕ → ℕ
