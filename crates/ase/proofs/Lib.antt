@@ -1,6 +1,7 @@
 -- Laws of the definitions of specs/. The theorems that a user cares about stand in RoundTrip.
 pub mod Tables
 pub mod Payload
+pub mod Turns
 pub mod Laws
 pub mod Whole
 pub mod Faultless
@@ -9,4 +10,3 @@ pub mod RoundTrip
 pub mod Placed
 pub mod Cut
 pub mod Refused
-pub mod Lengths

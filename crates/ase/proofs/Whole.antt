@@ -7,7 +7,7 @@ use lib.ListN.{length, length-append}
 use borrow.Author.Tests.{eqb-true, eq-eqb, le-leb, leb-true}
 use native.Mathlib.Omega.{arith}
 use Rattle.fields.specs.Numbers.{be, joined, At, Bytes, All, AllIn}
-use Rattle.fields.specs.Reader.{ok, unless, judged, _>>=_, stateAfter, chain, ended}
+use Rattle.fields.specs.Reader.{ok, unless, judged, stateAfter, chain, ended}
 use Rattle.fields.specs.Text.{nameBytes}
 use Rattle.fields.specs.Algebra.{Exact}
 use Rattle.fields.proofs.Places.{length-be, at-in, at-next, at-left, at-after, at-all, at-whole, bytes-nil, bytes-append, bytes-be, bytes-joined}
@@ -49,7 +49,7 @@ module _ (s : List ℕ) (bytes : Bytes s) where
   chain-blocks n = chain-exact standingAfter standing blockOf (λ d e. refl) {p = block} {Ok = Sound} (block-exact s bytes) n 0
 
 -- groups by what each block finds open, and by what is left open
-pub nested-steps : (d : ℕ) (bs : List Block) → Nested d bs → AllIn standing Steps d bs × (stateAfter standing d bs ≡ 0)
+pub nested-steps : (d : ℕ) (bs : List Block) {e : ℕ} → Nested d bs e → AllIn standing Steps d bs × (stateAfter standing d bs ≡ e)
 unfolding stateAfter
 nested-steps d [] h = (tt, h)
 nested-steps d (start us ∷ bs) h = let r = nested-steps (d + 1) bs (h .1) in ((h .0, r .0), r .1)
@@ -57,7 +57,7 @@ nested-steps d (stop ∷ bs) h = let r = nested-steps (d - 1) bs (h .1) in ((h .
 nested-steps d (colour us t cs k ∷ bs) h = let r = nested-steps d bs h in ((tt, r .0), r .1)
 nested-steps d (other t ∷ bs) h = let r = nested-steps d bs h in ((tt, r .0), r .1)
 
-pub steps-nested : (d : ℕ) (bs : List Block) → AllIn standing Steps d bs → stateAfter standing d bs ≡ 0 → Nested d bs
+pub steps-nested : (d : ℕ) (bs : List Block) {e : ℕ} → AllIn standing Steps d bs → stateAfter standing d bs ≡ e → Nested d bs e
 unfolding stateAfter
 steps-nested d [] h e = e
 steps-nested d (start us ∷ bs) h e = (h .0, steps-nested (d + 1) bs (h .1) e)
@@ -80,15 +80,19 @@ payloads-length m i (b ∷ bs) h =
 pub length-file : (bs : List Block) → length (fileBytes bs) ≡ 12 + length (joined blockBytes bs)
 length-file bs = ap length (file-parts bs) ∙ omega (arith, length-append (headBytes (length bs)) (joined blockBytes bs), length-head (length bs))
 
--- a file within the limit has blocks and payloads whose numbers fit four bytes
-module _ (bs : List Block) (short : length (fileBytes bs) ≤ 16777216) where
+-- blocks within the limit, and their payloads, have numbers that fit four bytes
+module _ (bs : List Block) (short : length (joined blockBytes bs) ≤ 16777216) where
   pub few-blocks : length bs < 256 ^ 4
-  few-blocks = omega (arith, blocks-length bs, length-file bs)
+  few-blocks = omega (arith, blocks-length bs)
 
   pub small-payloads : All (λ i b. length (payload b) < 256 ^ 4) 0 bs
   small-payloads =
       let m : ℕ = length (joined blockBytes bs) in
-      all-map (λ i b. length (payload b) ≤ m) (λ i b. length (payload b) < 256 ^ 4) (λ i b h. omega (arith, length-file bs)) 0 bs (payloads-length m 0 bs (omega arith))
+      all-map (λ i b. length (payload b) ≤ m) (λ i b. length (payload b) < 256 ^ 4) (λ i b h. omega arith) 0 bs (payloads-length m 0 bs (omega arith))
+
+-- those of a file
+pub file-short : (bs : List Block) → length (fileBytes bs) ≤ 16777216 → length (joined blockBytes bs) ≤ 16777216
+file-short bs h = omega (arith, length-file bs)
 
 -- ---- what is written is bytes
 
@@ -122,22 +126,23 @@ bytes-file bs =
 
 -- ---- the grammar's bytes are read
 
-module _ (bs : List Block) (allowed : All (λ i b. Allowed b) 0 bs) (nested : Nested 0 bs) (short : length (fileBytes bs) ≤ 16777216) where
-  pub sound : AllIn standing Sound 0 bs
-  sound =
-      in-both standing (λ d b. Allowed b × Steps d b) (λ d b. length (payload b) < 256 ^ 4) 0 bs
-      (in-both standing (λ d b. Allowed b) Steps 0 bs (all-in standing Allowed 0 0 bs allowed) (nested-steps 0 bs nested .0))
-      (all-in standing (λ b. length (payload b) < 256 ^ 4) 0 0 bs (small-payloads bs short))
+-- allowed blocks, each in the state that those before it left
+pub sound : (bs : List Block) (e : ℕ) → All (λ i b. Allowed b) 0 bs → Nested 0 bs e → length (joined blockBytes bs) ≤ 16777216 → AllIn standing Sound 0 bs
+sound bs e allowed nested short =
+    in-both standing (λ d b. Allowed b × Steps d b) (λ d b. length (payload b) < 256 ^ 4) 0 bs
+    (in-both standing (λ d b. Allowed b) Steps 0 bs (all-in standing Allowed 0 0 bs allowed) (nested-steps 0 bs nested .0))
+    (all-in standing (λ b. length (payload b) < 256 ^ 4) 0 0 bs (small-payloads bs short))
 
+module _ (bs : List Block) (allowed : All (λ i b. Allowed b) 0 bs) (nested : Nested 0 bs 0) (short : length (fileBytes bs) ≤ 16777216) where
   palette-reads : (s : List ℕ) → Bytes s → At s 0 (headBytes (length bs) ++ joined blockBytes bs) → 12 + length (joined blockBytes bs) ≡ length s → (es : List Entry) × (palette s 0 ≡ ok es (length s)) × (map blockOf es ≡ bs)
   unfolding palette blocks ended
   palette-reads s bytes h len =
       let n : ℕ = length bs in
       let l : List ℕ = joined blockBytes bs in
-      let x = heading-exact s bytes .reads 0 n (few-blocks bs short) (at-left s 0 (headBytes n) l h) in
+      let x = heading-exact s bytes .reads 0 n (few-blocks bs (file-short bs short)) (at-left s 0 (headBytes n) l h) in
       let twelve : 0 + length (headBytes n) ≡ 12 = omega (arith, length-head n) in
       let hd : heading s 0 ≡ ok n 12 = x .1 ∙ ap₂ (λ (a b : ℕ). ok a b) (x .2) twelve in
-      let y = chain-blocks s bytes n .reads 12 bs (refl, sound) (at-after s 0 (headBytes n) l 12 twelve h) in
+      let y = chain-blocks s bytes n .reads 12 bs (refl, sound bs 0 allowed nested (file-short bs short)) (at-after s 0 (headBytes n) l 12 twelve h) in
       let es : List Entry = y .0 in
       let none : stateAfter standingAfter 0 es ≡ 0 = state-map standingAfter standing blockOf (λ d e. refl) 0 es ∙ ap (stateAfter standing 0) (y .2) ∙ nested-steps 0 bs nested .1 in
       (es, rw hd (rw (y .1) (rw none (rw len (simp (eq-eqb (length s) (length s) refl))))), y .2)
@@ -174,7 +179,7 @@ module _ (s : List ℕ) (bytes : Bytes s) where
       let len : length (headBytes (length bs) ++ l) ≡ length s = omega (arith, length-append (headBytes (length bs)) l, next, y .2, end) in
       let is : s ≡ fileBytes bs = at-all s (headBytes (length bs) ++ l) whole len ∙ sym (file-parts bs) in
       let allowed : All (λ i b. Allowed b) 0 bs = in-all standing Allowed 0 0 bs (in-map standing Sound (λ d b. Allowed b) (λ d b h. h .0 .0) 0 bs (y .0 .1)) in
-      let nested : Nested 0 bs = steps-nested 0 bs (in-map standing Sound Steps (λ d b h. h .0 .1) 0 bs (y .0 .1)) none in
+      let nested : Nested 0 bs 0 = steps-nested 0 bs (in-map standing Sound Steps (λ d b h. h .0 .1) 0 bs (y .0 .1)) none in
       let f : File bs s = subst (λ (b : List ℕ). File bs b) (sym is) (file allowed nested (omega (arith, short, ap length is))) in
       (subst (λ (k : List Entry). File (map blockOf k) s) same f, sym (z .2) ∙ z .0)
 
