@@ -20,7 +20,7 @@ use Rattle.ase.specs.Reading.{deepest, standing}
 use Rattle.ase.specs.Faults.{nameFault, channelFault, colourFault, blockFault, paletteFault, NameFits, ColourFits, BlockFits}
 use Rattle.ase.proofs.Tables.{model-known, model-count, known-model, model-small, channel-allowed, allowed-channel, channel-small}
 use Rattle.ase.proofs.Laws.{Steps}
-use Rattle.ase.proofs.Whole.{nested-steps, steps-nested}
+use Rattle.ase.proofs.Blocks.{nested-steps, steps-nested}
 
 -- ---- no fault, so allowed
 

@@ -13,6 +13,7 @@ use Rattle.fields.specs.Reader.{Res, ok, pick, rule, field, fine, unless, judge
 use Rattle.fields.specs.Text.{Name, name, nameBytes, Named}
 use Rattle.fields.specs.Algebra.{Same, Lawful, Exact}
 use Rattle.fields.proofs.Laws.{field-in}
+use Rattle.fields.proofs.Cuts.{bytes-take}
 use Rattle.fields.proofs.Places.{length-be, at-in, at-next, at-left, at-right, at-after, num-be, be-num, num-lt}
 use Rattle.fields.proofs.Inverse.{then-inv, rule-inv, pick-inv, unless-fine, field-inv, ok-value, ok-place}
 use Rattle.fields.proofs.Lawful.{same-num, judged-lawful, name-lawful, give-lawful, bind-lawful, each-lawful}
@@ -23,7 +24,7 @@ use Rattle.ase.specs.Grammar.{Block, start, stop, colour, other, typeOf,
 use Rattle.ase.specs.Reading.{Entry, started, stopped, coloured, blockOf, group, model, channel, type, shade, within, deepest, isType, content, block}
 use Rattle.ase.proofs.Tables.{channels-fine, model-known, model-count, known-model, model-small, allowed-channel}
 use Rattle.ase.proofs.Turns.{channels-exact}
-use Rattle.ase.proofs.Payload.{bytes-cut, within-reads, within-writes, within-ends}
+use Rattle.ase.proofs.Payload.{within-reads, within-writes, within-ends}
 
 -- ---- a payload's content
 
@@ -216,14 +217,14 @@ module _ (s : List ℕ) (bytes : Bytes s) where
   content-reads d at (start us) fit st h =
       let l : List ℕ = nameBytes 2 us in
       let n : ℕ = length l in
-      let x = within-reads s n at (at-in s (at + 6) l h) group (group-exact (take (at + 6 + n) s) (bytes-cut (at + 6 + n) s bytes)) (start us) fit refl h in
+      let x = within-reads s n at (at-in s (at + 6) l h) group (group-exact (take (at + 6 + n) s) (bytes-take (at + 6 + n) s bytes)) (start us) fit refl h in
       (x .0, rw (lt-ltb d 16 st) (x .1), x .2)
   content-reads d at (other t) fit st h = absurd fit
   content-reads d at stop fit st h = (stopped, rw (lt-ltb 0 d st) (ap (λ (k : ℕ). ok stopped k) (sym (add-zero (at + 6)))), refl)
   content-reads d at (colour us t bs k) fit st h =
       let l : List ℕ = payload (colour us t bs k) in
       let n : ℕ = length l in
-      within-reads s n at (at-in s (at + 6) l h) shade (shade-exact (take (at + 6 + n) s) (bytes-cut (at + 6 + n) s bytes)) (colour us t bs k) fit refl h
+      within-reads s n at (at-in s (at + 6) l h) shade (shade-exact (take (at + 6 + n) s) (bytes-take (at + 6 + n) s bytes)) (colour us t bs k) fit refl h
 
   pub block-reads : (d at : ℕ) (b : Block) → Sound d b → At s at (blockBytes b) → (e : Entry) × (block d s at ≡ ok e (at + length (blockBytes b))) × (blockOf e ≡ b)
   block-reads d at b fit h =
@@ -259,7 +260,7 @@ module _ (s : List ℕ) (at d n : ℕ) where
     start-held e q h =
         let i = rule-inv (unless (ltb d 16) 10) at (within group n s at) h in
         grouped-held (blockOf e) q (ltb-true d 16 (unless-fine (ltb d 16) 10 (i .0)))
-        (within-writes s n at room group (group-exact (take (at + 6 + n) s) (bytes-cut (at + 6 + n) s bytes)) e q (i .1))
+        (within-writes s n at room group (group-exact (take (at + 6 + n) s) (bytes-take (at + 6 + n) s bytes)) e q (i .1))
 
     stop-held : (e : Entry) (q : ℕ) → rule (unless (eqb n 0) 13) (at + 2) (rule (unless (ltb 0 d) 9) at (ok stopped (at + 6))) ≡ ok e q → Held s at 0xC002 d n (blockOf e) q
     unfolding At
@@ -277,7 +278,7 @@ module _ (s : List ℕ) (at d n : ℕ) where
         })
 
     shade-held : (e : Entry) (q : ℕ) → within shade n s at ≡ ok e q → Held s at 0x0001 d n (blockOf e) q
-    shade-held e q h = shaded-held (blockOf e) q (within-writes s n at room shade (shade-exact (take (at + 6 + n) s) (bytes-cut (at + 6 + n) s bytes)) e q h)
+    shade-held e q h = shaded-held (blockOf e) q (within-writes s n at room shade (shade-exact (take (at + 6 + n) s) (bytes-take (at + 6 + n) s bytes)) e q h)
 
     -- a type by the reader's tests
     pub content-held : (t : ℕ) (e : Entry) (q : ℕ) → isType t ≡ true → content t d n s at ≡ ok e q → Held s at t d n (blockOf e) q

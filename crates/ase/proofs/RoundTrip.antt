@@ -15,7 +15,8 @@ use Rattle.fields.proofs.Tells.{outcome-number}
 use Rattle.ase.specs.Grammar.{Block, payload, fileBytes, File, file}
 use Rattle.ase.specs.Reading.{Entry, blockOf, palette, ase}
 use Rattle.ase.specs.Faults.{paletteFault, BlockFits}
-use Rattle.ase.proofs.Whole.{file-parts, length-file, file-short, few-blocks, small-payloads, bytes-file, file-reads, file-writes}
+use Rattle.ase.proofs.Blocks.{file-parts, length-file, file-short, few-blocks, small-payloads, bytes-file}
+use Rattle.ase.proofs.Whole.{file-reads, file-writes}
 use Rattle.ase.proofs.Written.{palette-outcome}
 use Rattle.ase.proofs.Faultless.{faultless-allowed, allowed-faultless}
 

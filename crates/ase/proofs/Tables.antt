@@ -1,6 +1,6 @@
 -- The grammar's tables of types, models and channels, and the reader's. Assumes nothing.
 use Prim.Native.Nat.{ℕ, _^_, _<_}
-use mathlib.Core.Path.{_≡_, refl, sym, ap, subst}
+use mathlib.Core.Path.{_≡_, refl, sym, subst}
 use mathlib.Core.Logic.{inl, inr}
 use mathlib.Core.List.{List}
 use mathlib.Core.Bool.{Bool, true, false, true≢false}
@@ -13,7 +13,7 @@ use Rattle.colour.specs.Models.{modelOf, isKnown, countIn, isModel, channelsOf}
 use Rattle.colour.specs.Channels.{allowsBits}
 use Rattle.colour.proofs.Models.{Tagged, of, none, model-tagged, allows-unit, allows-minus, allows-lab, allows-inv}
 use Rattle.fields.specs.Numbers.{All}
-use Rattle.fields.specs.Reader.{fine, unless}
+use Rattle.fields.specs.Reader.{fine}
 use Rattle.fields.proofs.Exact.{all-map}
 use Rattle.ase.specs.Reading.{channel, isType}
 use Rattle.ase.specs.Grammar.{Known, starts, stops, colours, Unknown, Model, rgb, cmyk, lab, gray, Channel, unit, minus, finite}
@@ -111,6 +111,9 @@ channel-refused t b l h = go (allowsBits t b) refl
     go true e = absurd (h (allowed-channel t b l e))
     go false e = refl
 
+pub channel-fine : {t b : ℕ} → isModel t ≡ true → Channel t b → channel t b ≡ fine
+channel-fine k c = rw (channel-allowed k c)
+
 -- those of a colour by the reader's test
 pub channels-fine : (t : ℕ) (bs : List ℕ) → isModel t ≡ true → All (λ i b. Channel t b) 0 bs → All (λ i b. (b < 256 ^ 4) × (channel t b ≡ fine)) 0 bs
-channels-fine t bs k h = all-map (λ i b. Channel t b) (λ i b. (b < 256 ^ 4) × (channel t b ≡ fine)) (λ i b c. (channel-small c, ap (λ (x : Bool). unless x 5) (channel-allowed k c))) 0 bs h
+channels-fine t bs k h = all-map (λ i b. Channel t b) (λ i b. (b < 256 ^ 4) × (channel t b ≡ fine)) (λ i b c. (channel-small c, channel-fine k c)) 0 bs h

@@ -2,46 +2,46 @@
 use Prim.Native.Nat.{ℕ, _+_, _*_, _-_, _^_, _≤_, _<_}
 use mathlib.Core.Path.{_≡_, refl, sym, ap, ap₂, _∙_, subst}
 use mathlib.Core.List.{List, _++_, map, append-assoc}
-use lib.Dec.{eqb}
 use lib.ListN.{length, take, length-append}
 use lib.Seq.{length-take-le}
 use borrow.Author.Tests.{le-leb, lt-leb, le-ltb, lt-ltb, eq-eqb, ne-eqb}
 use native.Mathlib.Omega.{arith}
 use native.Mathlib.Nat.{add-zero}
 use Rattle.fields.specs.Numbers.{be, joined, At, Bytes, All}
-use Rattle.fields.specs.Reader.{Res, ok, refuse, Reader, then, field, fine, unless, judged, each}
+use Rattle.fields.specs.Reader.{Res, ok, refuse, Reader, then, field, fine, judged, each, stateAfter, chain}
 use Rattle.fields.specs.Text.{Name, name, nameBytes, Named}
 use Rattle.fields.specs.Algebra.{Exact}
+use Rattle.fields.proofs.Cuts.{bytes-take}
 use Rattle.fields.proofs.Places.{length-be, length-bes, at-in, at-left, at-after}
 use Rattle.fields.proofs.Exact.{length-nameBytes, map-id, judged-exact, each-exact, name-exact}
-use Rattle.fields.proofs.Stops.{each-stops}
+use Rattle.fields.proofs.Stops.{ended-left, each-stops}
 use Rattle.fields.proofs.Tails.{Tail, tail-left, tail-after, field-there, field-cut, judged-there, judged-wrong, judged-cut, name-cut, name-none, name-units-cut, name-open}
 use Rattle.colour.specs.Models.{channelsOf}
 use Rattle.ase.specs.Grammar.{colour, payload, Known, starts, stops, colours, Unknown, Model, Channel}
-use Rattle.ase.specs.Reading.{Entry, coloured, group, model, channel, type, shade, inside, within, content, block, heading}
+use Rattle.ase.specs.Reading.{Entry, coloured, group, model, channel, type, shade, inside, within, content, block, standingAfter, marked, heading, blocks, palette}
 use Rattle.ase.specs.Damaged.{DamagedHeading, signature-cut, wrong-signature, major-cut, wrong-major, minor-cut, wrong-minor, blocks-cut, DamagedName, count-cut, no-units, units-cut, unclosed, DamagedGroup, group-name, group-left, Begun, DamagedColour, colour-name, model-cut, wrong-model, channel-cut, wrong-channel, type-cut, wrong-type, colour-left, modelAt, channelAt, framed, loaded, DamagedBlock, block-cut, length-cut, unknown, payload-cut, deep, wrong-group, full-stop, no-group, wrong-colour}
-use Rattle.ase.proofs.Payload.{at-cut, bytes-cut}
+use Rattle.ase.proofs.Payload.{at-cut}
 use Rattle.ase.proofs.Tables.{known-type, known-small, unknown-type, model-known, model-count, model-small, unknown-model, channel-refused, channels-fine}
 
 -- ---- the heading
 
 module _ (s : List ℕ) where
-  mark-there : (w v at : ℕ) → v < 256 ^ w → (x : List ℕ) → Tail s at (be w v ++ x) → (judged w (λ x. unless (eqb x v) 3) s at ≡ ok v (at + w)) × Tail s (at + w) x
-  mark-there w v at small x t = (judged-there s w at (λ x. unless (eqb x v) 3) v small (rw (eq-eqb v v refl)) (tail-left s at (be w v) x t), tail-after s at (be w v) x (at + w) (ap (λ (k : ℕ). at + k) (length-be w v)) t)
+  mark-there : (w v at : ℕ) → v < 256 ^ w → (x : List ℕ) → Tail s at (be w v ++ x) → (judged w (marked v) s at ≡ ok v (at + w)) × Tail s (at + w) x
+  mark-there w v at small x t = (judged-there s w at (marked v) v small (rw (eq-eqb v v refl)) (tail-left s at (be w v) x t), tail-after s at (be w v) x (at + w) (ap (λ (k : ℕ). at + k) (length-be w v)) t)
 
-  mark-wrong : (w v at u : ℕ) → u < 256 ^ w → (u ≡ v → ⊥) → (x : List ℕ) → Tail s at (be w u ++ x) → judged w (λ x. unless (eqb x v) 3) s at ≡ refuse 3 at 0 0
-  mark-wrong w v at u small ne x t = judged-wrong s w at (λ x. unless (eqb x v) 3) 3 u small (rw (ne-eqb u v ne)) (tail-left s at (be w u) x t)
+  mark-wrong : (w v at u : ℕ) → u < 256 ^ w → (u ≡ v → ⊥) → (x : List ℕ) → Tail s at (be w u ++ x) → judged w (marked v) s at ≡ refuse 3 at 0 0
+  mark-wrong w v at u small ne x t = judged-wrong s w at (marked v) 3 u small (rw (ne-eqb u v ne)) (tail-left s at (be w u) x t)
 
   pub heading-stops : {b : List ℕ} {z p : ℕ} → DamagedHeading b z p → Tail s 0 b → heading s 0 ≡ refuse z p 0 0
   unfolding heading
-  heading-stops (signature-cut x few) t = rw (judged-cut s 4 0 (λ x. unless (eqb x 0x4153_4546) 3) few t)
+  heading-stops (signature-cut x few) t = rw (judged-cut s 4 0 (marked 0x4153_4546) few t)
   heading-stops (wrong-signature v x small ne) t = rw (mark-wrong 4 0x4153_4546 0 v small ne x t)
-  heading-stops (major-cut x few) t = let a = mark-there 4 0x4153_4546 0 (omega arith) x t in rw (a .0) (rw (judged-cut s 2 4 (λ x. unless (eqb x 1) 3) few (a .1)))
+  heading-stops (major-cut x few) t = let a = mark-there 4 0x4153_4546 0 (omega arith) x t in rw (a .0) (rw (judged-cut s 2 4 (marked 1) few (a .1)))
   heading-stops (wrong-major v x small ne) t = let a = mark-there 4 0x4153_4546 0 (omega arith) _ t in rw (a .0) (rw (mark-wrong 2 1 4 v small ne x (a .1)))
   heading-stops (minor-cut x few) t =
       let a = mark-there 4 0x4153_4546 0 (omega arith) _ t in
       let b = mark-there 2 1 4 (omega arith) x (a .1) in
-      rw (a .0) (rw (b .0) (rw (judged-cut s 2 6 (λ x. unless (eqb x 0) 3) few (b .1))))
+      rw (a .0) (rw (b .0) (rw (judged-cut s 2 6 (marked 0) few (b .1))))
   heading-stops (wrong-minor v x small ne) t =
       let a = mark-there 4 0x4153_4546 0 (omega arith) _ t in
       let b = mark-there 2 1 4 (omega arith) _ (a .1) in
@@ -97,6 +97,13 @@ module _ (s : List ℕ) (bytes : Bytes s) (at : ℕ) where
       let x = named-there us l nm t in
       rw (x .1) (rw (ne-eqb (at + modelAt us) (length s) (λ z. omega (arith, x .2 .ends))))
 
+  -- an unknown model is 4, whatever follows it
+  model-stops : (us : List ℕ) (t : ℕ) (l : List ℕ) → Named 2 us → t < 256 ^ 4 → ((n : ℕ) → Model t n → ⊥) → Tail s (at + 6) (nameBytes 2 us ++ (be 4 t ++ l)) → shade s (at + 6) ≡ refuse 4 (at + modelAt us) 0 0
+  unfolding shade
+  model-stops us t l nm small none h =
+      let x = named-there us (be 4 t ++ l) nm h in
+      rw (x .1) (rw (judged-wrong s 4 (at + modelAt us) model 4 t small (rw (unknown-model t none)) (tail-left s (at + modelAt us) (be 4 t) l (x .2))))
+
   -- a model and the first channels
   model-there : (us : List ℕ) (t n : ℕ) (l : List ℕ) → Model t n → Tail s (at + modelAt us) (be 4 t ++ l) → (judged 4 model s (at + modelAt us) ≡ ok t (at + modelAt us + 4)) × Tail s (at + modelAt us + 4) l
   model-there us t n l m h =
@@ -149,9 +156,7 @@ module _ (s : List ℕ) (bytes : Bytes s) (at : ℕ) where
   colour-stops (model-cut us l nm few) h =
       let x = named-there us l nm h in
       rw (x .1) (rw (judged-cut s 4 (at + modelAt us) model few (x .2)))
-  colour-stops (wrong-model us t l nm small none) h =
-      let x = named-there us (be 4 t ++ l) nm h in
-      rw (x .1) (rw (judged-wrong s 4 (at + modelAt us) model 4 t small (rw (unknown-model t none)) (tail-left s (at + modelAt us) (be 4 t) l (x .2))))
+  colour-stops (wrong-model us t l nm small none) h = rw (model-stops us t l nm small none h)
   colour-stops (channel-cut us t n bs l b less few) h =
       stopped-inside (length s) _ (begun-stops us t n bs b l h (λ mk c. past (at + modelAt us + 4 + 4 * length bs) (rw (channels-stop (at + modelAt us + 4) t n bs l (b .model) (b .channels) less c (judged-cut s 4 (at + modelAt us + 4 + 4 * length bs) (channel t) few (behind-channels us bs l c))))))
   colour-stops (wrong-channel us t n bs v l b less small none) h =
@@ -230,11 +235,24 @@ module _ (s : List ℕ) (bytes : Bytes s) (d at : ℕ) where
   block-stops short (deep l x many) h = let f = loaded-there 0xC001 l x starts short h in f .0 ∙ rw (le-ltb d 16 many) (here 10)
   block-stops short (wrong-group l x z p less g) h =
       let f = loaded-there 0xC001 l x starts short h in
-      f .0 ∙ rw (lt-ltb d 16 less) (within-stops group l (f .1) (group-stops (take (at + 6 + length l) s) (bytes-cut (at + 6 + length l) s bytes) at g (payload-tail l (f .1))))
+      f .0 ∙ rw (lt-ltb d 16 less) (within-stops group l (f .1) (group-stops (take (at + 6 + length l) s) (bytes-take (at + 6 + length l) s bytes) at g (payload-tail l (f .1))))
   block-stops short (full-stop l x some) h = let f = loaded-there 0xC002 l x stops short h in f .0 ∙ rw (ne-eqb (length l) 0 (λ z. omega arith))
   block-stops short (no-group x none) h =
       let f = framed-there 0xC002 0 x (omega arith) (omega arith) (h .stands) in
       rw (f .0) (rw (f .1) (rw (le-leb 0 (length s - (at + 6)) (omega arith)) (rw (le-ltb 0 d (omega arith)) (here 9))))
   block-stops short (wrong-colour l x z p g) h =
       let f = loaded-there 0x0001 l x colours short h in
-      f .0 ∙ within-stops shade l (f .1) (colour-stops (take (at + 6 + length l) s) (bytes-cut (at + 6 + length l) s bytes) at g (payload-tail l (f .1)))
+      f .0 ∙ within-stops shade l (f .1) (colour-stops (take (at + 6 + length l) s) (bytes-take (at + 6 + length l) s bytes) at g (payload-tail l (f .1)))
+
+-- ---- behind the last block
+
+module _ (s : List ℕ) (n p : ℕ) (head : heading s 0 ≡ ok n p) (es : List Entry) (q : ℕ) (all : chain standingAfter block n 0 s p ≡ ok es q) where
+  -- a group that is left open is 9, whatever follows
+  pub open-stops : 0 < stateAfter standingAfter 0 es → palette s 0 ≡ refuse 9 q 0 0
+  unfolding palette blocks
+  open-stops some = rw head (rw all (rw (ne-eqb (stateAfter standingAfter 0 es) 0 (λ z. omega arith))))
+
+  -- bytes left are 6
+  pub over-stops : stateAfter standingAfter 0 es ≡ 0 → q < length s → palette s 0 ≡ refuse 6 q 0 0
+  unfolding palette blocks
+  over-stops none more = rw head (rw all (rw (eq-eqb (stateAfter standingAfter 0 es) 0 none) (ended-left es s q more)))

@@ -5,7 +5,7 @@ use mathlib.Core.List.{List, [], _∷_, _++_, map}
 use mathlib.Core.Bool.{Bool, true, false}
 use lib.Dec.{leb, ltb, eqb}
 use lib.ListN.{length, length-append, take}
-use borrow.Author.Tests.{eq-eqb}
+use borrow.Author.Tests.{eq-eqb, ne-eqb}
 use native.Mathlib.Omega.{arith}
 use native.Mathlib.Nat.{add-zero}
 use Rattle.fields.specs.Numbers.{be, joined, At, Bytes, All, AllIn}
@@ -20,12 +20,12 @@ use Rattle.fields.proofs.Chain.{state-map, all-in, chain-tells, chain-gives}
 use Rattle.colour.specs.Models.{isModel, channelsOf}
 use Rattle.colour.specs.Channels.{allowsBits}
 use Rattle.ase.specs.Grammar.{Block, start, stop, colour, other, typeOf, payload, blockBytes}
-use Rattle.ase.specs.Reading.{Entry, started, stopped, coloured, blockOf, group, model, channel, type, shade, within, content, block, standing, standingAfter, heading, blocks, palette}
+use Rattle.ase.specs.Reading.{Entry, started, stopped, coloured, blockOf, group, model, channel, type, shade, inside, within, content, block, standing, standingAfter, heading, blocks, palette}
 use Rattle.ase.specs.Faults.{nameFault, channelFault, colourFault, blockFault, paletteFault, NameFits, ColourFits, BlockFits}
-use Rattle.ase.proofs.Payload.{at-cut, inside-outcome}
+use Rattle.ase.proofs.Payload.{at-cut, inside-ok}
 use Rattle.ase.proofs.Turns.{unknown-stops}
 use Rattle.ase.proofs.Laws.{Typed, length-block, block-passes, block-reads}
-use Rattle.ase.proofs.Whole.{headBytes, length-head, heading-exact}
+use Rattle.ase.proofs.Blocks.{headBytes, length-head, heading-exact}
 use Rattle.ase.proofs.Faultless.{block-sound}
 
 -- ---- a payload's content
@@ -99,6 +99,11 @@ module _ (s : List ℕ) where
         (model-outcome (coloured nm) mid (at-right s at n c h)))
 
 -- ---- no fault of a payload's content is 2, which would be told as 13
+
+-- a fault inside is the fault, save that a field past the end is 13
+inside-outcome : {A : Type 0} (p end : ℕ) (m : Res A) (f : ℕ) → (f ≡ 2 → ⊥) → Outcome m f end → Outcome (inside p end m) f end
+inside-outcome p end m f ne (good a e z) = good a (inside-ok p end m e) z
+inside-outcome p end m f ne (bad q r g e h) = bad q r g (rw e (simp (ne-eqb f 2 ne))) h
 
 pick-other : (b : Bool) (x y : ℕ) → (x ≡ 2 → ⊥) → (y ≡ 2 → ⊥) → pick b x y ≡ 2 → ⊥
 pick-other true x y h g e = h e

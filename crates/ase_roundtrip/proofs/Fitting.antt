@@ -27,7 +27,7 @@ use Rattle.ase.specs.Faults.{paletteFault, NameFits, BlockFits}
 use Rattle.ase.specs.Faults as a
 use Rattle.ase.proofs.Tables.{no-start, no-stop, no-colour, known-model, model-small}
 use Rattle.ase.proofs.Laws.{length-block}
-use Rattle.ase.proofs.Whole.{length-file}
+use Rattle.ase.proofs.Blocks.{length-file}
 use Rattle.ase_records.specs.Writing.{Given, givens, unitsIn, channelsIn, blockIn, sizeIn, sizes, size, nameFault, colourFault, blockFault, standingIn, fault}
 use Rattle.ase_roundtrip.specs.Tie.{Words, made, NameFitting, ColourFitting, Fitting, a-start, an-end, a-colour, another}
 use Rattle.fields.proofs.Firsts.{test-holds, all-image}
