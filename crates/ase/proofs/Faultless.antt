@@ -1,5 +1,5 @@
 -- Blocks that fit their fields have no fault exactly where the grammar allows them. Assumes nothing.
-use Prim.Native.Nat.{ℕ, _-_, _^_, _<_}
+use Prim.Native.Nat.{ℕ, _^_, _<_}
 use mathlib.Core.Path.{_≡_, sym, ap, _∙_}
 use mathlib.Core.List.{List}
 use mathlib.Core.Bool.{Bool, true}
@@ -20,7 +20,7 @@ use Rattle.ase.specs.Reading.{deepest, standing}
 use Rattle.ase.specs.Faults.{nameFault, channelFault, colourFault, blockFault, paletteFault, NameFits, ColourFits, BlockFits}
 use Rattle.ase.proofs.Tables.{model-known, model-count, known-model, model-small, channel-allowed, allowed-channel, channel-small}
 use Rattle.ase.proofs.Laws.{Steps}
-use Rattle.ase.proofs.Whole.{nested-steps, steps-nested}
+use Rattle.ase.proofs.Blocks.{nested-steps, steps-nested}
 
 -- ---- no fault, so allowed
 
@@ -55,7 +55,7 @@ block-sound d stop f e = (tt, ltb-true 0 d (pick-none (ltb 0 d) 9 (omega arith) 
 block-sound d (colour us t bs k) f e = (colour-sound us t bs k f e, tt)
 block-sound d (other t) f e = absurd (omega arith)
 
-pub faultless-allowed : (bs : List Block) → All (λ i b. BlockFits b) 0 bs → paletteFault bs ≡ 0 → All (λ i b. Allowed b) 0 bs × Nested 0 bs
+pub faultless-allowed : (bs : List Block) → All (λ i b. BlockFits b) 0 bs → paletteFault bs ≡ 0 → All (λ i b. Allowed b) 0 bs × Nested 0 bs 0
 unfolding paletteFault
 faultless-allowed bs fits e =
     let st : ℕ = stateAfter standing 0 bs in
@@ -88,7 +88,7 @@ block-complete d stop a st = ap (λ (b : Bool). pick b 0 9) (lt-ltb 0 d st)
 block-complete d (colour us t bs k) a st = colour-complete us t bs k a
 block-complete d (other t) a st = absurd a
 
-pub allowed-faultless : (bs : List Block) → All (λ i b. Allowed b) 0 bs → Nested 0 bs → paletteFault bs ≡ 0
+pub allowed-faultless : (bs : List Block) → All (λ i b. Allowed b) 0 bs → Nested 0 bs 0 → paletteFault bs ≡ 0
 unfolding paletteFault
 allowed-faultless bs a n =
     let st : ℕ = stateAfter standing 0 bs in

@@ -1,7 +1,7 @@
 -- The reader's parts accept exactly the grammar's bytes. Assumes nothing.
 use Prim.Native.Nat.{ℕ, _+_, _-_, _^_, _≤_, _<_}
 use mathlib.Core.Path.{_≡_, refl, sym, ap, ap₂, _∙_, subst}
-use mathlib.Core.List.{List, _++_, map}
+use mathlib.Core.List.{List, _++_}
 use mathlib.Core.Bool.{Bool, true, false}
 use lib.Dec.{leb, ltb, eqb}
 use lib.ListN.{length, length-append, take}
@@ -13,16 +13,18 @@ use Rattle.fields.specs.Reader.{Res, ok, pick, rule, field, fine, unless, judge
 use Rattle.fields.specs.Text.{Name, name, nameBytes, Named}
 use Rattle.fields.specs.Algebra.{Same, Lawful, Exact}
 use Rattle.fields.proofs.Laws.{field-in}
+use Rattle.fields.proofs.Cuts.{bytes-take}
 use Rattle.fields.proofs.Places.{length-be, at-in, at-next, at-left, at-right, at-after, num-be, be-num, num-lt}
 use Rattle.fields.proofs.Inverse.{then-inv, rule-inv, pick-inv, unless-fine, field-inv, ok-value, ok-place}
 use Rattle.fields.proofs.Lawful.{same-num, judged-lawful, name-lawful, give-lawful, bind-lawful, each-lawful}
-use Rattle.fields.proofs.Exact.{all-map, map-id, judged-exact, each-exact, name-exact}
+use Rattle.fields.proofs.Exact.{all-map, map-id, judged-exact, name-exact}
 use Rattle.colour.specs.Models.{isModel, channelsOf}
 use Rattle.colour.specs.Channels.{allowsBits}
 use Rattle.ase.specs.Grammar.{Block, start, stop, colour, other, typeOf, payload, blockBytes, Channel, Colour, Allowed}
 use Rattle.ase.specs.Reading.{Entry, started, stopped, coloured, blockOf, group, model, channel, type, shade, within, deepest, isType, content, block}
-use Rattle.ase.proofs.Tables.{model-known, model-count, known-model, model-small, channel-allowed, allowed-channel, channel-small}
-use Rattle.ase.proofs.Payload.{bytes-cut, within-reads, within-writes, within-ends}
+use Rattle.ase.proofs.Tables.{channels-fine, model-known, model-count, known-model, model-small, allowed-channel}
+use Rattle.ase.proofs.Turns.{channels-exact}
+use Rattle.ase.proofs.Payload.{within-reads, within-writes, within-ends}
 
 -- ---- a payload's content
 
@@ -38,10 +40,6 @@ Shaded (start us) = ⊥
 Shaded stop = ⊥
 Shaded (colour us t bs k) = Colour us t bs k
 Shaded (other t) = ⊥
-
--- the grammar's channels by the reader's test
-pub channels-fine : (t : ℕ) (bs : List ℕ) → isModel t ≡ true → All (λ i b. Channel t b) 0 bs → All (λ i b. (b < 256 ^ 4) × (channel t b ≡ fine)) 0 bs
-channels-fine t bs k h = all-map (λ i b. Channel t b) (λ i b. (b < 256 ^ 4) × (channel t b ≡ fine)) (λ i b c. (channel-small c, ap (λ (x : Bool). unless x 5) (channel-allowed k c))) 0 bs h
 
 fine-channels : (t : ℕ) (bs : List ℕ) → All (λ i b. (b < 256 ^ 4) × (channel t b ≡ fine)) 0 bs → All (λ i b. Channel t b) 0 bs
 fine-channels t bs h = all-map (λ i b. (b < 256 ^ 4) × (channel t b ≡ fine)) (λ i b. Channel t b) (λ i b c. allowed-channel t b (c .0) (unless-fine (allowsBits t b) 5 (c .1))) 0 bs h
@@ -66,9 +64,6 @@ module _ (s : List ℕ) (bytes : Bytes s) where
   pub group-exact : Exact s group blockOf Grouped payload
   group-exact = record { reads = group-reads; writes = group-writes }
 
-  pub channels-exact : (t : ℕ) → Exact s (each (channelsOf t) 0 (λ i. judged 4 (channel t))) (map (λ (v : ℕ). v)) (λ bs. (length bs ≡ channelsOf t) × All (λ i b. (b < 256 ^ 4) × (channel t b ≡ fine)) 0 bs) (joined (be 4))
-  channels-exact t = each-exact {p = λ i. judged 4 (channel t)} {Ok = λ i b. (b < 256 ^ 4) × (channel t b ≡ fine)} (λ i. judged-exact s bytes 4 (channel t)) (channelsOf t) 0
-
   shade-reads : (at : ℕ) (b : Block) → Shaded b → At s at (payload b) → (e : Entry) × (shade s at ≡ ok e (at + length (payload b))) × (blockOf e ≡ b)
   unfolding shade
   shade-reads at (start us) fit h = absurd fit
@@ -87,7 +82,7 @@ module _ (s : List ℕ) (bytes : Bytes s) where
       let x = name-exact s 2 bytes .reads at us (fit .name) (at-left s at n (be 4 t ++ (c ++ be 2 k)) h) in
       let y = judged-exact s bytes 4 model .reads q1 t (model-small (fit .model), ap (λ (b : Bool). unless b 4) known) (at-left s q1 (be 4 t) (c ++ be 2 k) h1) in
       let y2 : judged 4 model s q1 ≡ ok t q2 = y .1 ∙ ap (λ (v : ℕ). ok v q2) (y .2) in
-      let z = channels-exact t .reads q2 bs (fit .all ∙ sym (model-count (fit .model)), channels-fine t bs known (fit .channels)) (at-left s q2 c (be 2 k) h2) in
+      let z = channels-exact s bytes t .reads q2 bs (fit .all ∙ sym (model-count (fit .model)), channels-fine t bs known (fit .channels)) (at-left s q2 c (be 2 k) h2) in
       let z2 : each (channelsOf t) 0 (λ i. judged 4 (channel t)) s q2 ≡ ok bs q3 = z .1 ∙ ap (λ (v : List ℕ). ok v q3) (sym (map-id (z .0)) ∙ z .2) in
       let w = judged-exact s bytes 2 type .reads q3 k (omega (arith, fit .type), ap (λ (b : Bool). unless b 5) (le-leb k 2 (fit .type))) h3 in
       let w2 : judged 2 type s q3 ≡ ok k (q3 + length (be 2 k)) = w .1 ∙ ap (λ (v : ℕ). ok v (q3 + length (be 2 k))) (w .2) in
@@ -106,7 +101,7 @@ module _ (s : List ℕ) (bytes : Bytes s) where
       let y = judged-exact s bytes 4 model .writes (a .1) (omega (arith, at-in s at n (x .1), x .2)) t (b .1) (b .2) in
       let c = then-inv (each (channelsOf t) 0 (λ i. judged 4 (channel t)) s (b .1)) _ (b .3) in
       let bs : List ℕ = c .0 in
-      let z = channels-exact t .writes (b .1) (omega (arith, at-in s (a .1) (be 4 t) (y .1), y .2)) bs (c .1) (c .2) in
+      let z = channels-exact s bytes t .writes (b .1) (omega (arith, at-in s (a .1) (be 4 t) (y .1), y .2)) bs (c .1) (c .2) in
       let same = map-id bs in
       let zl : At s (b .1) (joined (be 4) bs) = subst (λ (v : List ℕ). At s (b .1) (joined (be 4) v)) same (z .1) in
       let ze : b .1 + length (joined (be 4) bs) ≡ c .1 = subst (λ (v : List ℕ). b .1 + length (joined (be 4) v) ≡ c .1) same (z .2) in
@@ -146,25 +141,25 @@ abbrev pub Sound : ℕ → Block → Type 0
 Sound d b = (Allowed b × Steps d b) × (length (payload b) < 256 ^ 4)
 
 -- one of the three types
-abbrev pub Known : Block → Type 0
-Known (start us) = Unit
-Known stop = Unit
-Known (colour us t bs k) = Unit
-Known (other t) = ⊥
+abbrev pub Typed : Block → Type 0
+Typed (start us) = Unit
+Typed stop = Unit
+Typed (colour us t bs k) = Unit
+Typed (other t) = ⊥
 
-pub allowed-known : (b : Block) → Allowed b → Known b
+pub allowed-known : (b : Block) → Allowed b → Typed b
 allowed-known (start us) a = tt
 allowed-known stop a = tt
 allowed-known (colour us t bs k) a = tt
 allowed-known (other t) a = a
 
-pub type-small : (b : Block) → Known b → typeOf b < 256 ^ 2
+pub type-small : (b : Block) → Typed b → typeOf b < 256 ^ 2
 type-small (start us) k = omega arith
 type-small stop k = omega arith
 type-small (colour us t bs j) k = omega arith
 type-small (other t) k = absurd k
 
-pub type-is : (b : Block) → Known b → isType (typeOf b) ≡ true
+pub type-is : (b : Block) → Typed b → isType (typeOf b) ≡ true
 type-is (start us) k = refl
 type-is stop k = refl
 type-is (colour us t bs j) k = refl
@@ -202,7 +197,7 @@ block-inv s d at {e} {q} h =
     go t n x y room known c = (omega arith, ap isType x ∙ known, ap₂ (λ (a b : ℕ). content a d b s at) x y ∙ c)
 
 -- where a block's bytes stand, its content is read
-pub block-passes : (s : List ℕ) (d at : ℕ) (b : Block) → Known b → length (payload b) < 256 ^ 4 → At s at (blockBytes b)
+pub block-passes : (s : List ℕ) (d at : ℕ) (b : Block) → Typed b → length (payload b) < 256 ^ 4 → At s at (blockBytes b)
     → (block d s at ≡ content (typeOf b) d (length (payload b)) s at) × At s (at + 6) (payload b)
 unfolding blockBytes
 block-passes s d at b known small h =
@@ -222,14 +217,14 @@ module _ (s : List ℕ) (bytes : Bytes s) where
   content-reads d at (start us) fit st h =
       let l : List ℕ = nameBytes 2 us in
       let n : ℕ = length l in
-      let x = within-reads s n at (at-in s (at + 6) l h) group (group-exact (take (at + 6 + n) s) (bytes-cut (at + 6 + n) s bytes)) (start us) fit refl h in
+      let x = within-reads s n at (at-in s (at + 6) l h) group (group-exact (take (at + 6 + n) s) (bytes-take (at + 6 + n) s bytes)) (start us) fit refl h in
       (x .0, rw (lt-ltb d 16 st) (x .1), x .2)
   content-reads d at (other t) fit st h = absurd fit
   content-reads d at stop fit st h = (stopped, rw (lt-ltb 0 d st) (ap (λ (k : ℕ). ok stopped k) (sym (add-zero (at + 6)))), refl)
   content-reads d at (colour us t bs k) fit st h =
       let l : List ℕ = payload (colour us t bs k) in
       let n : ℕ = length l in
-      within-reads s n at (at-in s (at + 6) l h) shade (shade-exact (take (at + 6 + n) s) (bytes-cut (at + 6 + n) s bytes)) (colour us t bs k) fit refl h
+      within-reads s n at (at-in s (at + 6) l h) shade (shade-exact (take (at + 6 + n) s) (bytes-take (at + 6 + n) s bytes)) (colour us t bs k) fit refl h
 
   pub block-reads : (d at : ℕ) (b : Block) → Sound d b → At s at (blockBytes b) → (e : Entry) × (block d s at ≡ ok e (at + length (blockBytes b))) × (blockOf e ≡ b)
   block-reads d at b fit h =
@@ -265,7 +260,7 @@ module _ (s : List ℕ) (at d n : ℕ) where
     start-held e q h =
         let i = rule-inv (unless (ltb d 16) 10) at (within group n s at) h in
         grouped-held (blockOf e) q (ltb-true d 16 (unless-fine (ltb d 16) 10 (i .0)))
-        (within-writes s n at room group (group-exact (take (at + 6 + n) s) (bytes-cut (at + 6 + n) s bytes)) e q (i .1))
+        (within-writes s n at room group (group-exact (take (at + 6 + n) s) (bytes-take (at + 6 + n) s bytes)) e q (i .1))
 
     stop-held : (e : Entry) (q : ℕ) → rule (unless (eqb n 0) 13) (at + 2) (rule (unless (ltb 0 d) 9) at (ok stopped (at + 6))) ≡ ok e q → Held s at 0xC002 d n (blockOf e) q
     unfolding At
@@ -283,7 +278,7 @@ module _ (s : List ℕ) (at d n : ℕ) where
         })
 
     shade-held : (e : Entry) (q : ℕ) → within shade n s at ≡ ok e q → Held s at 0x0001 d n (blockOf e) q
-    shade-held e q h = shaded-held (blockOf e) q (within-writes s n at room shade (shade-exact (take (at + 6 + n) s) (bytes-cut (at + 6 + n) s bytes)) e q h)
+    shade-held e q h = shaded-held (blockOf e) q (within-writes s n at room shade (shade-exact (take (at + 6 + n) s) (bytes-take (at + 6 + n) s bytes)) e q h)
 
     -- a type by the reader's tests
     pub content-held : (t : ℕ) (e : Entry) (q : ℕ) → isType t ≡ true → content t d n s at ≡ ok e q → Held s at t d n (blockOf e) q

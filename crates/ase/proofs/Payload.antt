@@ -1,28 +1,20 @@
 -- A payload: the file cut at its end, and what is read inside. Assumes nothing.
-use Prim.Native.Nat.{ℕ, zero, suc, _+_, _-_, _≤_}
+use Prim.Native.Nat.{ℕ, _+_, _≤_}
 use mathlib.Core.Path.{_≡_, refl, sym, ap, _∙_}
 use mathlib.Core.List.{List, [], _∷_}
 use mathlib.Core.Bool.{Bool, true, false}
 use lib.Dec.{eqb}
 use lib.ListN.{length, take}
 use lib.Seq.{length-take-le, getD-take}
-use borrow.Author.Tests.{eq-eqb, ne-eqb, eqb-true}
+use borrow.Author.Tests.{eq-eqb, eqb-true}
 use native.Mathlib.Omega.{arith}
-use Rattle.fields.specs.Numbers.{At, Bytes}
+use Rattle.fields.specs.Numbers.{At}
 use Rattle.fields.specs.Reader.{Res, Reader, ok, refuse, pick}
 use Rattle.fields.specs.Algebra.{Same, Lawful, Exact}
-use Rattle.fields.proofs.Places.{bytes-nil}
 use Rattle.fields.proofs.Inverse.{clash, pick-inv, ok-place}
-use Rattle.fields.proofs.Tells.{Outcome, good, bad}
 use Rattle.ase.specs.Reading.{inside, within}
 
 -- ---- a file that is cut
-
-pub bytes-cut : (e : ℕ) (s : List ℕ) → Bytes s → Bytes (take e s)
-bytes-cut zero s h k = bytes-nil k
-bytes-cut (suc e) [] h k = h k
-bytes-cut (suc e) (x ∷ s) h zero = h 0
-bytes-cut (suc e) (x ∷ s) h (suc k) = bytes-cut e s (λ i. h (suc i)) k
 
 module _ (s : List ℕ) (e : ℕ) (room : e ≤ length s) where
   pub at-cut : (at : ℕ) (l : List ℕ) → at + length l ≤ e → At s at l → At (take e s) at l
@@ -38,20 +30,15 @@ module _ (s : List ℕ) (e : ℕ) (room : e ≤ length s) where
 -- ---- what is read inside
 
 pub inside-inv : {A : Type 0} (p end : ℕ) (m : Res A) {a : A} {q : ℕ} → inside p end m ≡ ok a q → (m ≡ ok a q) × (q ≡ end)
-inside-inv p end (ok b r) e = let i = pick-inv (eqb r end) (ok b r) 13 p 0 0 e in (i .1, sym (ok-place (i .1)) ∙ eqb-true r end (i .0))
-inside-inv p end (refuse x r f g) e = go (eqb x 2) e
+inside-inv p end (ok b r) e = let i = pick-inv (eqb r end) (ok b r) _ _ _ _ e in (i .1, sym (ok-place (i .1)) ∙ eqb-true r end (i .0))
+inside-inv {A} p end (refuse x r f g) e = go (eqb x 2) _ _ _ _ _ _ _ _ e
   where
-    go : (b : Bool) {A : Type 0} {a : A} {q : ℕ} {X : Type 0} → pick b (refuse 13 p 0 0) (refuse x r f g) ≡ ok a q → X
-    go true z = clash z
-    go false z = clash z
+    go : (b : Bool) (x p r f y q i j : ℕ) {a : A} {z : ℕ} {X : Type 0} → pick b (refuse x p r f) (refuse y q i j) ≡ ok a z → X
+    go true x p r f y q i j h = clash h
+    go false x p r f y q i j h = clash h
 
 pub inside-ok : {A : Type 0} (p end : ℕ) (m : Res A) {a : A} → m ≡ ok a end → inside p end m ≡ ok a end
 inside-ok p end m e = rw e (simp (eq-eqb end end refl))
-
--- a fault inside is the fault, save that a field past the end is 13
-pub inside-outcome : {A : Type 0} (p end : ℕ) (m : Res A) (f : ℕ) → (f ≡ 2 → ⊥) → Outcome m f end → Outcome (inside p end m) f end
-inside-outcome p end m f other (good a e z) = good a (inside-ok p end m e) z
-inside-outcome p end m f other (bad q r g e h) = bad q r g (rw e (simp (ne-eqb f 2 other))) h
 
 module _ {A B : Type 0} (s : List ℕ) (n at : ℕ) (room : at + 6 + n ≤ length s) (p : Reader A) {view : A → B} {Ok : B → Type 0} {ser : B → List ℕ} (x : Exact (take (at + 6 + n) s) p view Ok ser) where
   pub within-reads : (b : B) → Ok b → length (ser b) ≡ n → At s (at + 6) (ser b) → (a : A) × (within p n s at ≡ ok a (at + 6 + n)) × (view a ≡ b)

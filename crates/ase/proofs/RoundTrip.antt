@@ -15,7 +15,8 @@ use Rattle.fields.proofs.Tells.{outcome-number}
 use Rattle.ase.specs.Grammar.{Block, payload, fileBytes, File, file}
 use Rattle.ase.specs.Reading.{Entry, blockOf, palette, ase}
 use Rattle.ase.specs.Faults.{paletteFault, BlockFits}
-use Rattle.ase.proofs.Whole.{file-parts, length-file, few-blocks, small-payloads, bytes-file, file-reads, file-writes}
+use Rattle.ase.proofs.Blocks.{file-parts, length-file, file-short, few-blocks, small-payloads, bytes-file}
+use Rattle.ase.proofs.Whole.{file-reads, file-writes}
 use Rattle.ase.proofs.Written.{palette-outcome}
 use Rattle.ase.proofs.Faultless.{faultless-allowed, allowed-faultless}
 
@@ -50,7 +51,7 @@ written-number bs fits = go (leb (length (fileBytes bs)) limit) refl
     go true e =
         let short : length (fileBytes bs) ≤ limit = leb-true (length (fileBytes bs)) limit e in
         outcome-number (palette (fileBytes bs) 0) (paletteFault bs) (length (fileBytes bs))
-        (palette-outcome (fileBytes bs) (bytes-file bs) bs (few-blocks bs short) (all-both (λ i b. BlockFits b) (λ i b. length (payload b) < 256 ^ 4) 0 bs fits (small-payloads bs short))
+        (palette-outcome (fileBytes bs) (bytes-file bs) bs (few-blocks bs (file-short bs short)) (all-both (λ i b. BlockFits b) (λ i b. length (payload b) < 256 ^ 4) 0 bs fits (small-payloads bs (file-short bs short)))
         (subst (λ (l : List ℕ). At (fileBytes bs) 0 l) (file-parts bs) stands) (sym (length-file bs)))
     go false e = refl
 

@@ -1,5 +1,5 @@
 -- Of blocks that were written, the reader's number is their own first fault. Assumes nothing.
-use Prim.Native.Nat.{ℕ, _+_, _-_, _^_, _≤_, _<_}
+use Prim.Native.Nat.{ℕ, _+_, _^_, _≤_, _<_}
 use mathlib.Core.Path.{_≡_, refl, sym, ap, ap₂, _∙_, subst}
 use mathlib.Core.List.{List, [], _∷_, _++_, map}
 use mathlib.Core.Bool.{Bool, true, false}
@@ -8,24 +8,24 @@ use lib.ListN.{length, length-append, take}
 use borrow.Author.Tests.{eq-eqb, ne-eqb}
 use native.Mathlib.Omega.{arith}
 use native.Mathlib.Nat.{add-zero}
-use Rattle.fields.specs.Numbers.{num, be, joined, At, Bytes, All, AllIn}
-use Rattle.fields.specs.Reader.{Res, ok, refuse, then, pick, rule, field, unless, judged, each, numberOf, stateAfter, chain, ended}
+use Rattle.fields.specs.Numbers.{be, joined, At, Bytes, All, AllIn}
+use Rattle.fields.specs.Reader.{Res, ok, refuse, then, pick, rule, unless, judged, each, numberOf, stateAfter, chain, ended}
 use Rattle.fields.specs.Text.{anyZero, name, nameBytes}
 use Rattle.fields.specs.Faults.{firstOf, faultsFrom, faultsIn}
 use Rattle.fields.specs.Algebra.{Tells}
-use Rattle.fields.proofs.Places.{length-be, num-be, at-in, at-left, at-right, at-after}
-use Rattle.fields.proofs.Laws.{field-in}
+use Rattle.fields.proofs.Places.{at-in, at-left, at-right, at-after}
 use Rattle.fields.proofs.Inverse.{ok-value, ok-place}
 use Rattle.fields.proofs.Tells.{Outcome, good, bad, outcome-fault, outcome-then, outcome-rule, tells, outcome, Gives, unless-tells, unless-found, unless-sure, judged-gives, each-tells, each-gives, name-tells, first-zero, first-some}
 use Rattle.fields.proofs.Chain.{state-map, all-in, chain-tells, chain-gives}
 use Rattle.colour.specs.Models.{isModel, channelsOf}
 use Rattle.colour.specs.Channels.{allowsBits}
 use Rattle.ase.specs.Grammar.{Block, start, stop, colour, other, typeOf, payload, blockBytes}
-use Rattle.ase.specs.Reading.{Entry, started, stopped, coloured, blockOf, group, model, channel, type, shade, within, isType, content, block, standing, standingAfter, heading, blocks, palette}
-use Rattle.ase.specs.Faults.{nameFault, channelFault, colourFault, blockFault, paletteFault, NameFits, ColourFits, Unknown, BlockFits}
-use Rattle.ase.proofs.Payload.{at-cut, inside-outcome}
-use Rattle.ase.proofs.Laws.{Known, length-block, block-passes, block-reads}
-use Rattle.ase.proofs.Whole.{headBytes, length-head, heading-exact}
+use Rattle.ase.specs.Reading.{Entry, started, stopped, coloured, blockOf, group, model, channel, type, shade, inside, within, content, block, standing, standingAfter, heading, blocks, palette}
+use Rattle.ase.specs.Faults.{nameFault, channelFault, colourFault, blockFault, paletteFault, NameFits, ColourFits, BlockFits}
+use Rattle.ase.proofs.Payload.{at-cut, inside-ok}
+use Rattle.ase.proofs.Turns.{unknown-stops}
+use Rattle.ase.proofs.Laws.{Typed, length-block, block-passes, block-reads}
+use Rattle.ase.proofs.Blocks.{headBytes, length-head, heading-exact}
 use Rattle.ase.proofs.Faultless.{block-sound}
 
 -- ---- a payload's content
@@ -100,6 +100,11 @@ module _ (s : List ℕ) where
 
 -- ---- no fault of a payload's content is 2, which would be told as 13
 
+-- a fault inside is the fault, save that a field past the end is 13
+inside-outcome : {A : Type 0} (p end : ℕ) (m : Res A) (f : ℕ) → (f ≡ 2 → ⊥) → Outcome m f end → Outcome (inside p end m) f end
+inside-outcome p end m f ne (good a e z) = good a (inside-ok p end m e) z
+inside-outcome p end m f ne (bad q r g e h) = bad q r g (rw e (simp (ne-eqb f 2 ne))) h
+
 pick-other : (b : Bool) (x y : ℕ) → (x ≡ 2 → ⊥) → (y ≡ 2 → ⊥) → pick b x y ≡ 2 → ⊥
 pick-other true x y h g e = h e
 pick-other false x y h g e = g e
@@ -129,7 +134,7 @@ unless-outcome true n at h m f end o = o
 unless-outcome {A} false n at h m f end o = subst (λ (x : ℕ). Outcome {A = A} (refuse n at 0 0) x end) (sym (first-some n f h)) (bad at 0 0 refl h)
 
 module _ (s : List ℕ) (d at : ℕ) where
-  content-outcome : (b : Block) → Known b → BlockFits b → At s (at + 6) (payload b) → Outcome (content (typeOf b) d (length (payload b)) s at) (blockFault d b) (at + 6 + length (payload b))
+  content-outcome : (b : Block) → Typed b → BlockFits b → At s (at + 6) (payload b) → Outcome (content (typeOf b) d (length (payload b)) s at) (blockFault d b) (at + 6 + length (payload b))
   unfolding content blockFault
   content-outcome (other t) known f h = absurd known
   content-outcome (start us) known f h =
@@ -151,30 +156,18 @@ abbrev pub Fitting : Block → Type 0
 Fitting b = BlockFits b × (length (payload b) < 256 ^ 4)
 
 module _ (s : List ℕ) (bytes : Bytes s) where
-  known-outcome : (d at : ℕ) (b : Block) → Known b → Fitting b → At s at (blockBytes b) → Outcome (block d s at) (blockFault d b) (at + length (blockBytes b))
+  known-outcome : (d at : ℕ) (b : Block) → Typed b → Fitting b → At s at (blockBytes b) → Outcome (block d s at) (blockFault d b) (at + length (blockBytes b))
   known-outcome d at b known fit h =
       let x = block-passes s d at b known (fit .1) h in
       let l : at + 6 + length (payload b) ≡ at + length (blockBytes b) = omega (arith, length-block b) in
       rw (x .0) (subst (λ (z : ℕ). Outcome (content (typeOf b) d (length (payload b)) s at) (blockFault d b) z) l (content-outcome s d at b known (fit .0) (x .1)))
 
-  -- an unknown type is 4 at the block
-  unknown-refused : (d at t : ℕ) → Unknown t → At s at (blockBytes (other t)) → block d s at ≡ refuse 4 at 0 0
-  unfolding block blockBytes
-  unknown-refused d at t u h =
-      let l : length (be 2 t) ≡ 2 = length-be 2 t in
-      let r : List ℕ = be 4 0 ++ [] in
-      let room : at + 6 ≤ length s = omega (arith, at-in s at (be 2 t ++ r) h, length-append (be 2 t) r, length-append (be 4 0) [], length-be 4 0) in
-      let x : field 2 s at ≡ ok t (at + 2) = field-in 2 s at (omega arith) ∙ ap (λ (k : ℕ). ok k (at + 2)) (num-be s 2 at t (u .small) (at-left s at (be 2 t) r h)) in
-      let y : field 4 s (at + 2) ≡ ok (num 4 s (at + 2)) (at + 2 + 4) = field-in 4 s (at + 2) (omega arith) in
-      let none : isType t ≡ false = simp (ne-eqb t 0xC001 (u .no-start), ne-eqb t 0xC002 (u .no-stop), ne-eqb t 0x0001 (u .no-colour)) in
-      rw x (rw y (rw none))
-
   block-outcome : (d at : ℕ) (b : Block) → Fitting b → At s at (blockBytes b) → Outcome (block d s at) (blockFault d b) (at + length (blockBytes b))
-  unfolding blockFault
+  unfolding blockFault blockBytes
   block-outcome d at (start us) fit h = known-outcome d at (start us) tt fit h
   block-outcome d at stop fit h = known-outcome d at stop tt fit h
   block-outcome d at (colour us t bs k) fit h = known-outcome d at (colour us t bs k) tt fit h
-  block-outcome d at (other t) fit h = bad at 0 0 (unknown-refused d at t (fit .0) h) (omega arith)
+  block-outcome d at (other t) fit h = bad at 0 0 (unknown-stops s bytes d at t 0 [] (fit .0) (omega arith) h) (omega arith)
 
   pub block-tells : (d : ℕ) → Tells s (block d) Fitting blockBytes (blockFault d)
   block-tells d = tells (block-outcome d)

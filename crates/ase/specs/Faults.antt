@@ -10,7 +10,7 @@ use Rattle.fields.specs.Text.{anyZero}
 use Rattle.fields.specs.Faults.{firstOf, faultsFrom, faultsIn}
 use Rattle.colour.specs.Models.{isModel, channelsOf}
 use Rattle.colour.specs.Channels.{allowsBits}
-use Rattle.ase.specs.Grammar.{Block, start, stop, colour, other}
+use Rattle.ase.specs.Grammar.{Block, start, stop, colour, other, Unknown}
 use Rattle.ase.specs.Reading.{deepest, standing}
 
 -- a name with a zero unit is 8
@@ -48,13 +48,6 @@ pub record ColourFits (us : List ℕ) (t : ℕ) (bs : List ℕ) (k : ℕ) : Type
   pub all : length bs ≡ channelsOf t
   pub channels : All (λ i b. b < 256 ^ 4) 0 bs
   pub type : k < 256 ^ 2
-
--- a type that is none of the three, and has 16 bits
-pub record Unknown (t : ℕ) : Type 0 where
-  pub small : t < 256 ^ 2
-  pub no-start : t ≡ 0xC001 → ⊥
-  pub no-stop : t ≡ 0xC002 → ⊥
-  pub no-colour : t ≡ 0x0001 → ⊥
 
 abbrev pub BlockFits : Block → Type 0
 BlockFits (start us) = NameFits us

@@ -41,6 +41,17 @@ fileBytes bs = be 4 0x4153_4546 ++ (be 2 1 ++ (be 2 0 ++ (be 4 (length bs) ++ jo
 
 -- ---- which blocks are allowed
 
+-- the types of a block: group start, group end, colour
+pub data Known : ℕ → Type 0 where
+  starts : Known 0xC001
+  stops : Known 0xC002
+  colours : Known 0x0001
+
+-- any other of 16 bits
+pub record Unknown (t : ℕ) : Type 0 where
+  pub small : t < 256 ^ 2
+  pub none : Known t → ⊥
+
 -- a model by its tag, and how many channels it has: `RGB `, `CMYK`, `LAB `, `Gray`
 pub data Model : ℕ → ℕ → Type 0 where
   rgb : Model 0x5247_4220 3
@@ -69,14 +80,14 @@ Allowed stop = Unit
 Allowed (colour us t bs k) = Colour us t bs k
 Allowed (other t) = ⊥
 
--- where d groups stand open: at most 16 do at once, every end closes one, and none is left open
-abbrev pub Nested : ℕ → List Block → Type 0
-Nested d [] = d ≡ 0
-Nested d (start us ∷ bs) = (d < 16) × Nested (d + 1) bs
-Nested d (stop ∷ bs) = (0 < d) × Nested (d - 1) bs
-Nested d (colour us t cs k ∷ bs) = Nested d bs
-Nested d (other t ∷ bs) = Nested d bs
+-- where d groups stand open and the blocks leave e open: at most 16 do at once, and every end closes one
+abbrev pub Nested : ℕ → List Block → ℕ → Type 0
+Nested d [] e = d ≡ e
+Nested d (start us ∷ bs) e = (d < 16) × Nested (d + 1) bs e
+Nested d (stop ∷ bs) e = (0 < d) × Nested (d - 1) bs e
+Nested d (colour us t cs k ∷ bs) e = Nested d bs e
+Nested d (other t ∷ bs) e = Nested d bs e
 
--- ---- a file: at most 16,777,216 bytes
+-- ---- a file: no group is left open, and it has at most 16,777,216 bytes
 pub data File : List Block → List ℕ → Type 0 where
-  file : {bs : List Block} → All (λ i b. Allowed b) 0 bs → Nested 0 bs → length (fileBytes bs) ≤ 16777216 → File bs (fileBytes bs)
+  file : {bs : List Block} → All (λ i b. Allowed b) 0 bs → Nested 0 bs 0 → length (fileBytes bs) ≤ 16777216 → File bs (fileBytes bs)

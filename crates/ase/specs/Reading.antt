@@ -97,12 +97,16 @@ standingAfter d e = standing d (blockOf e)
 
 -- ---- the file
 
--- `ASEF`, 1, 0, else 3 each; the block count
+-- a number that is not v is 3
+abbrev pub marked : ℕ → ℕ → Judged
+marked v x = unless (eqb x v) 3
+
+-- `ASEF`, 1, 0; the block count
 unfoldable pub heading : Reader ℕ
 heading = do
-  x ← judged 4 (λ x. unless (eqb x 0x4153_4546) 3)
-  v ← judged 2 (λ v. unless (eqb v 1) 3)
-  w ← judged 2 (λ w. unless (eqb w 0) 3)
+  x ← judged 4 (marked 0x4153_4546)
+  v ← judged 2 (marked 1)
+  w ← judged 2 (marked 0)
   field 4
 
 -- n blocks, and no group is left open, else 9 behind the last block

@@ -6,7 +6,7 @@ use mathlib.Core.Bool.{Bool, true, false}
 use lib.Dec.{leb, ltb, eqb}
 use lib.ListN.{length, take, length-append}
 use lib.Seq.{length-take-le}
-use borrow.Author.Tests.{leb-true, le-leb, eqb-true, ne-eqb}
+use borrow.Author.Tests.{leb-true, le-leb, eqb-true}
 use native.Mathlib.Omega.{arith}
 use native.Mathlib.Nat.{lt-of-not-le}
 use native.Mathlib.Decide.{ℕ-discrete, decLe}
@@ -21,13 +21,13 @@ use Rattle.fields.proofs.Texts.{text-short, text-zero, text-fine}
 use Rattle.fields.proofs.Chain.{in-map, in-both, all-in, in-all, in-inv, state-map}
 use Rattle.colour.specs.Models.{isModel, channelsOf}
 use Rattle.colour.specs.Channels.{allowsBits}
-use Rattle.ase.specs.Grammar.{Block, start, stop, colour, other, payload, blockBytes}
+use Rattle.ase.specs.Grammar.{Block, start, stop, colour, other, payload, blockBytes, Unknown}
 use Rattle.ase.specs.Reading.{deepest, standing}
-use Rattle.ase.specs.Faults.{paletteFault, NameFits, Unknown, BlockFits}
+use Rattle.ase.specs.Faults.{paletteFault, NameFits, BlockFits}
 use Rattle.ase.specs.Faults as a
-use Rattle.ase.proofs.Tables.{known-model, model-small}
+use Rattle.ase.proofs.Tables.{no-start, no-stop, no-colour, known-model, model-small}
 use Rattle.ase.proofs.Laws.{length-block}
-use Rattle.ase.proofs.Whole.{length-file}
+use Rattle.ase.proofs.Blocks.{length-file}
 use Rattle.ase_records.specs.Writing.{Given, givens, unitsIn, channelsIn, blockIn, sizeIn, sizes, size, nameFault, colourFault, blockFault, standingIn, fault}
 use Rattle.ase_roundtrip.specs.Tie.{Words, made, NameFitting, ColourFitting, Fitting, a-start, an-end, a-colour, another}
 use Rattle.fields.proofs.Firsts.{test-holds, all-image}
@@ -66,10 +66,10 @@ givens-words run h (suc n) k i = ((refl, (h _, (h _, (h _, (h _, tt))))), givens
 -- ---- a record of an unknown type
 
 unknown-in : (names : List ℕ) (g : Given) → Unknown (g .block) → blockIn names g ≡ other (g .block)
-unknown-in names g u = simp (ne-eqb (g .block) 0xC001 (u .no-start), ne-eqb (g .block) 0xC002 (u .no-stop), ne-eqb (g .block) 0x0001 (u .no-colour))
+unknown-in names g u = simp (no-start (g .block) u, no-stop (g .block) u, no-colour (g .block) u)
 
 unknown-size : (g : Given) → Unknown (g .block) → sizeIn g ≡ 6
-unknown-size g u = simp (ne-eqb (g .block) 0xC001 (u .no-start), ne-eqb (g .block) 0xC002 (u .no-stop), ne-eqb (g .block) 0x0001 (u .no-colour))
+unknown-size g u = simp (no-start (g .block) u, no-stop (g .block) u, no-colour (g .block) u)
 
 -- ---- a record that fits is as long as its block, and has its block's faults
 
@@ -124,7 +124,7 @@ module _ (names : List ℕ) where
   unfolding blockFault a.blockFault
   block-same g (a-start e n) d = rw e (ap (λ (x : ℕ). firstOf (pick (ltb d 16) 0 10) x) (name-same g n))
   block-same g (an-end e) d = rw e
-  block-same g (another u) d = rw (unknown-in names g u) (simp (ne-eqb (g .block) 0xC001 (u .no-start), ne-eqb (g .block) 0xC002 (u .no-stop), ne-eqb (g .block) 0x0001 (u .no-colour)))
+  block-same g (another u) d = rw (unknown-in names g u) (simp (no-start (g .block) u, no-stop (g .block) u, no-colour (g .block) u))
   block-same g (a-colour e n c) d =
       rw e (ap (λ (x : ℕ). firstOf x (firstOf (pick (isModel (g .model)) 0 4) (firstOf (faultsFrom (λ i b. pick (allowsBits (g .model) b) 0 5) 0 (channelsIn g)) (pick (leb (g .type) 2) 0 5)))) (name-same g n))
 

@@ -5,8 +5,7 @@ use mathlib.Core.List.{List, [], _∷_, map}
 use lib.ListN.{length, getD}
 use Rattle.fields.specs.Numbers.{All}
 use Rattle.fields.specs.Reader.{ok}
-use Rattle.ase.specs.Grammar.{Block, fileBytes}
-use Rattle.ase.specs.Faults.{Unknown}
+use Rattle.ase.specs.Grammar.{Block, fileBytes, Unknown}
 use Rattle.ase.specs.Reading.{Entry, started, stopped, coloured, blockOf, ase}
 use Rattle.ase_read.specs.Table.{fourOf}
 use Rattle.ase_records.specs.Writing.{Given, blockIn, channelsIn}

@@ -24,3 +24,4 @@ pub mod SetCuts
 pub mod Numbered
 pub mod Until
 pub mod Alone
+pub mod Tails

@@ -10,3 +10,4 @@ pub mod Answer
 pub mod Sets
 pub mod Cut
 pub mod Wide
+pub mod Closing

@@ -12,16 +12,16 @@ add-t6 : tie.Need-add-t6
 add-t6 c = search needs
 
 returns : tie.Need-returns
-returns c = stop-long _ _ _ (c .if1 .taken)
+returns c = stop-long _ _ _ (λ z. omega (arith, z, c .if1 .taken))
 
 returns-2 : tie.Need-returns-2
-returns-2 c = stop-none _ _ _ (c .before .if1 .left) (c .if2 .taken)
+returns-2 c = stop-none _ _ _ (omega arith) (c .if2 .taken)
 
 sub-t4 : tie.Need-sub-t4
 sub-t4 c = search needs
 
 returns-3 : tie.Need-returns-3
-returns-3 c = stop-ok _ _ _ (c .before .if1 .left) (omega arith)
+returns-3 c = stop-ok _ _ _ (omega arith) (omega arith)
 
 pub stop-at-spec : {M : Type 1} → statement M
 stop-at-spec = tie.close (tie.spec add-if1 add-t6 returns returns-2 sub-t4 returns-3)
