@@ -20,7 +20,7 @@ use Rattle.acb_records.specs.Parts.{RecordsFit}
 use Rattle.acb.proofs.Laws.{components-some}
 
 module _ (text : List ℕ) (h : Shown) (t : Tag) (gs : List Given) where
-  pub too-long : limit < size h t gs → refused 1 ≡ needed text h t gs
+  pub too-long : limit < size h t gs → refused 1 0 ≡ needed text h t gs
   unfolding fault
   too-long k = needs-no (fault text h t gs) (size h t gs) 1 (simp (lt-leb _ _ k)) (λ z. omega arith)
 
@@ -34,7 +34,7 @@ module _ (text : List ℕ) (h : Shown) (t : Tag) (gs : List Given) where
       first : x ≡ headFault text h (length gs)
       first = e ∙ ap (headFault text h) (sym counts)
 
-      pub bad-head : (x ≡ 0 → ⊥) → refused x ≡ needed text h t gs
+      pub bad-head : (x ≡ 0 → ⊥) → refused x 0 ≡ needed text h t gs
       bad-head k = needs-no (fault text h t gs) (size h t gs) x (hit x _ _ first k ∙ sym rest) k
 
       -- and each record with m components
@@ -42,7 +42,7 @@ module _ (text : List ℕ) (h : Shown) (t : Tag) (gs : List Given) where
         behind : y ≡ fault text h t gs
         behind = pass y (headFault text h (length gs)) _ x first z (w ∙ ap (λ (j : ℕ). faults (colourFault text j) gs) c) ∙ sym rest
 
-        pub bad-colour : (y ≡ 0 → ⊥) → refused y ≡ needed text h t gs
+        pub bad-colour : (y ≡ 0 → ⊥) → refused y 0 ≡ needed text h t gs
         bad-colour k = needs-no (fault text h t gs) (size h t gs) y behind k
 
         pub all-fine : (k : ℕ) → y ≡ 0 → size h t gs ≡ k → bytes k ≡ needed text h t gs

@@ -116,7 +116,7 @@ fn head_size(header: Header) -> usize
 // How many bytes the file of n records takes. It stops at the limit, so that no sum passes 64 bits.
 fn size_of(header: Header, tag: Tag, run: &[u32], n: usize) -> Written
     requires { ⌜ 12 * n ≤ length (now run) ⌝ }
-    ensures { λ r. ⌜ toldWritten r ≡ pick (leb (size (toldHeader header) (toldTag tag) (givens (now (run .entry)) n 0)) limit) (bytes (size (toldHeader header) (toldTag tag) (givens (now (run .entry)) n 0))) (refused 1) ⌝ }
+    ensures { λ r. ⌜ toldWritten r ≡ pick (leb (size (toldHeader header) (toldTag tag) (givens (now (run .entry)) n 0)) limit) (bytes (size (toldHeader header) (toldTag tag) (givens (now (run .entry)) n 0))) (refused 1 0) ⌝ }
 {
     let tones = 6 + acb_judge::components_of(header.space);
     let mut total = head_size(header) + tag_size(tag);

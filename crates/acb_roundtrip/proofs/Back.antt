@@ -57,4 +57,4 @@ module _ (s : List ℕ) (b : Bytes s) {c : Contents} {q : ℕ} (e : acb s ≡ ok
   pub writes-all : (out : List ℕ) → length s ≤ length out → written s (shown (c .header)) (c .tag) (tabled (c .entries)) out ≡ (bytes (length s), s ++ drop (length s) out)
   writes-all out k =
       ap₂ (λ (x n : ℕ). writes x n (made s h (c .tag) gs) out) faultless size-same ∙ ap (λ (f : List ℕ). writes 0 (length s) f out) made-is
-      ∙ ap (λ (t : Bool). pick t (bytes (length s), s ++ drop (length s) out) (refused 11, out)) (le-leb (length s) (length out) k)
+      ∙ ap (λ (t : Bool). pick t (bytes (length s), s ++ drop (length s) out) (refused 11 0, out)) (le-leb (length s) (length out) k)

@@ -1,57 +1,58 @@
--- A refused ACO file has a number of the table and a place of the file. Assumes nothing.
+-- A refused ACO file has one of the numbers that ACO gives, and a place of the file. Assumes nothing.
 use Prim.Native.Nat.{ℕ, _≤_}
-use mathlib.Core.Path.{_≡_}
+use mathlib.Core.Path.{_≡_, refl}
 use mathlib.Core.List.{List}
 use lib.ListN.{length, getD}
 use lib.Dec.{leb, eqb}
 use native.Mathlib.Omega.{arith}
 use Rattle.fields.specs.Reader.{refuse, pick, Judged, fine, fault, unless, judged, each}
 use Rattle.fields.specs.Text.{name}
-use Rattle.fields.specs.Refusal.{OfTable, Placed, ends, Tabled}
-use Rattle.fields.proofs.Placed.{of-table, unless-tabled, differ-tabled, refusal-placed, placed-then, placed-pick, judged-placed, ended-placed, name-placed, each-placed, limited-placed}
+use Rattle.fields.specs.Refusal.{Of, among, Placed, ends, Numbered}
+use Rattle.fields.proofs.Placed.{unless-numbered, differ-numbered, refusal-placed, placed-then, placed-pick, judged-placed, ended-placed, name-placed, each-placed, limited-placed}
 use Rattle.colour.specs.declared.space.Colour.{Colour}
 use Rattle.colour.specs.Spaces.{known, allowed}
 use Rattle.aco.specs.Reading.{most, space, sample, samples, colour, heading, fieldOf, twin, entry, second, after, lists, aco, black}
+use Rattle.aco.specs.Refusals.{refusals}
 
 module _ {s : List ℕ} where
-  colour-placed : (at : ℕ) → at ≤ length s → Placed s (colour s at)
+  colour-placed : (at : ℕ) → at ≤ length s → Placed refusals s (colour s at)
   unfolding colour samples
   colour-placed at l =
-      placed-then (judged 2 space s at) _ (judged-placed 2 space at (λ x. unless-tabled (known x) (of-table 4 (omega arith) (omega arith))) l)
+      placed-then (judged 2 space s at) _ (judged-placed (among refl) 2 space at (λ x. unless-numbered (known x) (among refl)) l)
       (λ x q h. placed-then (each 4 0 (λ k. judged 2 (sample x k)) s q) _
-      (each-placed (λ k. judged 2 (sample x k)) (λ k r g. judged-placed 2 (sample x k) r (λ v. unless-tabled (allowed x k v) (of-table 5 (omega arith) (omega arith))) g) 4 0 q h) (λ vs e g. ends g))
+      (each-placed (λ k. judged 2 (sample x k)) (λ k r g. judged-placed (among refl) 2 (sample x k) r (λ v. unless-numbered (allowed x k v) (among refl)) g) 4 0 q h) (λ vs e g. ends g))
 
-  heading-placed : (v : ℕ) (count : ℕ → Judged) → ((n : ℕ) → Tabled (count n)) → (at : ℕ) → at ≤ length s → Placed s (heading v count s at)
+  heading-placed : (v : ℕ) (count : ℕ → Judged) → ((n : ℕ) → Numbered refusals (count n)) → (at : ℕ) → at ≤ length s → Placed refusals s (heading v count s at)
   unfolding heading
   heading-placed v count t at l =
       let j : ℕ → Judged = λ x. unless (eqb x v) 3 in
-      placed-then (judged 2 j s at) _ (judged-placed 2 j at (λ x. unless-tabled (eqb x v) (of-table 3 (omega arith) (omega arith))) l) (λ x q h. judged-placed 2 count q t h)
+      placed-then (judged 2 j s at) _ (judged-placed (among refl) 2 j at (λ x. unless-numbered (eqb x v) (among refl)) l) (λ x q h. judged-placed (among refl) 2 count q t h)
 
-  entry-placed : (i : ℕ) (c : Colour) (at : ℕ) → at ≤ length s → Placed s (entry i c s at)
+  entry-placed : (i : ℕ) (c : Colour) (at : ℕ) → at ≤ length s → Placed refusals s (entry i c s at)
   unfolding entry
   entry-placed i c at l =
-      placed-then (each 5 0 (twin i c) s at) _ (each-placed (twin i c) (λ f r g. judged-placed 2 (λ v. pick (eqb v (fieldOf c f)) fine (fault 7 i f)) r (λ v. differ-tabled (eqb v (fieldOf c f)) i f) g) 5 0 at l)
-      (λ vs q h. placed-then (name 4 s q) _ (name-placed 4 q h) (λ nm e g. ends g))
+      placed-then (each 5 0 (twin i c) s at) _ (each-placed (twin i c) (λ f r g. judged-placed (among refl) 2 (λ v. pick (eqb v (fieldOf c f)) fine (fault 7 i f)) r (λ v. differ-numbered (eqb v (fieldOf c f)) i f (among refl)) g) 5 0 at l)
+      (λ vs q h. placed-then (name 4 s q) _ (name-placed (among refl) (among refl) 4 q h) (λ nm e g. ends g))
 
-  second-placed : (cs : List Colour) (at : ℕ) → at ≤ length s → Placed s (second cs s at)
+  second-placed : (cs : List Colour) (at : ℕ) → at ≤ length s → Placed refusals s (second cs s at)
   unfolding second
   second-placed cs at l =
       let j : ℕ → Judged = λ n. pick (eqb n (length cs)) fine (fault 7 0 5) in
-      placed-then (heading 2 j s at) _ (heading-placed 2 j (λ n. differ-tabled (eqb n (length cs)) 0 5) at l)
+      placed-then (heading 2 j s at) _ (heading-placed 2 j (λ n. differ-numbered (eqb n (length cs)) 0 5 (among refl)) at l)
       (λ n q h. placed-then (each (length cs) 0 (λ i. entry i (getD cs i black)) s q) _
-      (each-placed (λ i. entry i (getD cs i black)) (λ i r g. entry-placed i (getD cs i black) r g) (length cs) 0 q h) (λ es e g. ended-placed (record { lists = 2; records = es }) e g))
+      (each-placed (λ i. entry i (getD cs i black)) (λ i r g. entry-placed i (getD cs i black) r g) (length cs) 0 q h) (λ es e g. ended-placed (among refl) (record { lists = 2; records = es }) e g))
 
-  after-placed : (cs : List Colour) (at : ℕ) → at ≤ length s → Placed s (after cs s at)
+  after-placed : (cs : List Colour) (at : ℕ) → at ≤ length s → Placed refusals s (after cs s at)
   unfolding after
   after-placed cs at l = placed-pick (eqb at (length s)) (ends l) (second-placed cs at l)
 
-  lists-placed : (at : ℕ) → at ≤ length s → Placed s (lists s at)
+  lists-placed : (at : ℕ) → at ≤ length s → Placed refusals s (lists s at)
   unfolding lists
   lists-placed at l =
       let j : ℕ → Judged = λ n. unless (leb n most) 5 in
-      placed-then (heading 1 j s at) _ (heading-placed 1 j (λ n. unless-tabled (leb n most) (of-table 5 (omega arith) (omega arith))) at l)
+      placed-then (heading 1 j s at) _ (heading-placed 1 j (λ n. unless-numbered (leb n most) (among refl)) at l)
       (λ n q h. placed-then (each n 0 (λ i. colour) s q) _ (each-placed (λ i. colour) (λ i r g. colour-placed r g) n 0 q h) (λ cs e g. after-placed cs e g))
 
-pub refused-placed : (s : List ℕ) {x p r f : ℕ} → aco s ≡ refuse x p r f → OfTable x × (p ≤ length s)
+pub refused-placed : (s : List ℕ) {x p r f : ℕ} → aco s ≡ refuse x p r f → Of refusals x × (p ≤ length s)
 unfolding aco
-refused-placed s e = refusal-placed {s = s} (limited-placed (lists-placed 0 (omega arith))) e
+refused-placed s e = refusal-placed {s = s} (limited-placed (among refl) (lists-placed 0 (omega arith))) e

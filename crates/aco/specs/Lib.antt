@@ -5,3 +5,4 @@ pub mod Raw
 pub mod Places
 pub mod Widths
 pub mod Differing
+pub mod Refusals

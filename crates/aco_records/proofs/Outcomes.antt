@@ -18,15 +18,15 @@ use Rattle.fields.proofs.Firsts.{hit, pass, test-holds}
 -- ---- the length that is needed, or the refusal
 
 module _ (names : List ℕ) (gs : List Given) where
-  refusal : (x : ℕ) → x ≡ fault names gs → (x ≡ 0 → ⊥) → refused x ≡ needed names gs
+  refusal : (x : ℕ) → x ≡ fault names gs → (x ≡ 0 → ⊥) → refused x 0 ≡ needed names gs
   refusal x e h = needs-no (fault names gs) (size gs) x e h
 
-  pub too-long : limit < size gs → refused 1 ≡ needed names gs
+  pub too-long : limit < size gs → refused 1 0 ≡ needed names gs
   unfolding fault
   too-long h = refusal 1 (simp (lt-leb _ _ h)) (λ z. omega arith)
 
   module _ (fits : size gs ≤ limit) where
-    pub too-many : most < length gs → refused 5 ≡ needed names gs
+    pub too-many : most < length gs → refused 5 0 ≡ needed names gs
     unfolding fault
     too-many h = refusal 5 (simp (le-leb _ _ fits, lt-leb _ _ h)) (λ z. omega arith)
 
@@ -35,11 +35,11 @@ module _ (names : List ℕ) (gs : List Given) where
       unfolding fault
       rest = simp (le-leb _ _ fits, le-leb _ _ few)
 
-      pub bad-colour : (x : ℕ) → x ≡ faults colourFault gs → (x ≡ 0 → ⊥) → refused x ≡ needed names gs
+      pub bad-colour : (x : ℕ) → x ≡ faults colourFault gs → (x ≡ 0 → ⊥) → refused x 0 ≡ needed names gs
       bad-colour x e h = refusal x (hit x _ _ e h ∙ sym rest) h
 
       module _ (x : ℕ) (colours : x ≡ faults colourFault gs) (none : x ≡ 0) where
-        pub bad-name : (y : ℕ) → y ≡ faults (nameFault names) gs → (y ≡ 0 → ⊥) → refused y ≡ needed names gs
+        pub bad-name : (y : ℕ) → y ≡ faults (nameFault names) gs → (y ≡ 0 → ⊥) → refused y 0 ≡ needed names gs
         bad-name y e h = refusal y (pass y _ _ x colours none e ∙ sym rest) h
 
         pub all-fine : (y k : ℕ) → y ≡ faults (nameFault names) gs → y ≡ 0 → size gs ≡ k → bytes k ≡ needed names gs

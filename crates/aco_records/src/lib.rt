@@ -151,7 +151,7 @@ fn names_fault(run: &[u32], text: &[u8], n: usize) -> u32
 // How many bytes the n records take. It stops at the limit, so that no sum passes 64 bits.
 fn size_of(run: &[u32], n: usize) -> Written
     requires { ⌜ 7 * n ≤ length (now run) ⌝ }
-    ensures { λ r. ⌜ toldWritten r ≡ pick (leb (size (givens (now (run .entry)) n 0)) limit) (bytes (size (givens (now (run .entry)) n 0))) (refused 1) ⌝ }
+    ensures { λ r. ⌜ toldWritten r ≡ pick (leb (size (givens (now (run .entry)) n 0)) limit) (bytes (size (givens (now (run .entry)) n 0))) (refused 1 0) ⌝ }
 {
     let mut total: usize = 8;
     let mut i: usize = 0;

@@ -45,7 +45,7 @@ module _ (s : List ℕ) (b : Bytes s) {c : Contents} {q : ℕ} (e : aco s ≡ ok
         let none : fault s (tabled c) ≡ 0 =
         fault-same s (tabled c) (given-fit s b e) ∙ ap₂ (λ (f : List ℕ) (l : List Swatch). pick (leb (length f) limit) (paletteFault l) 1) made-is (given-swatches s b e)
         ∙ ap (λ (t : Bool). pick t (paletteFault ws) 1) (le-leb (length file) limit short) ∙ allowed-faultless ws (palette-of (accepted-allowed b e .0)) in
-        ap (λ (k : ℕ). pick (eqb k 0) (bytes (size (tabled c))) (refused k)) none ∙ ap bytes file-size
+        ap (λ (k : ℕ). pick (eqb k 0) (bytes (size (tabled c))) (refused k 0)) none ∙ ap bytes file-size
 
     pub writes : (out : List ℕ) → length file ≤ length out → written s (tabled c) out ≡ (bytes (length file), file ++ drop (length file) out)
     writes out h = sym (writes-all (fault s (tabled c)) (size (tabled c)) (made s (tabled c)) out (length file) (sym needs) h _ (sym (ap₂ (λ (f : List ℕ) (k : ℕ). f ++ drop k out) made-is file-size)))

@@ -19,7 +19,7 @@ use Rattle.fields.proofs.Firsts.{test-holds}
 -- ---- the length that is needed, or the refusal
 
 module _ (names : List ℕ) (gs : List Given) where
-  pub too-long : limit < size gs → refused 1 ≡ needed names gs
+  pub too-long : limit < size gs → refused 1 0 ≡ needed names gs
   unfolding fault
   too-long h = needs-no (fault names gs) (size gs) 1 (simp (lt-leb _ _ h)) (λ z. omega arith)
 
@@ -29,7 +29,7 @@ module _ (names : List ℕ) (gs : List Given) where
     rest = simp (le-leb _ _ fits)
 
     module _ (x : ℕ) (e : x ≡ blocksFault names 0 gs) where
-      pub bad-block : (x ≡ 0 → ⊥) → refused x ≡ needed names gs
+      pub bad-block : (x ≡ 0 → ⊥) → refused x 0 ≡ needed names gs
       bad-block h = needs-no (fault names gs) (size gs) x (e ∙ sym rest) h
 
       pub all-fine : (k : ℕ) → x ≡ 0 → size gs ≡ k → bytes k ≡ needed names gs

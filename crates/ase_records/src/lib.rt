@@ -112,7 +112,7 @@ pub fn size_in(given: Record) -> usize
 // How many bytes the n records take. It stops at the limit, so that no sum passes 64 bits.
 fn size_of(run: &[u32], n: usize) -> Written
     requires { ⌜ 9 * n ≤ length (now run) ⌝ }
-    ensures { λ r. ⌜ toldWritten r ≡ pick (leb (size (givens (now (run .entry)) n 0)) limit) (bytes (size (givens (now (run .entry)) n 0))) (refused 1) ⌝ }
+    ensures { λ r. ⌜ toldWritten r ≡ pick (leb (size (givens (now (run .entry)) n 0)) limit) (bytes (size (givens (now (run .entry)) n 0))) (refused 1 0) ⌝ }
 {
     let mut total: usize = 12;
     let mut i: usize = 0;

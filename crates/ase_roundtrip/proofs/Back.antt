@@ -51,4 +51,4 @@ module _ (s : List ℕ) (b : Bytes s) {es : List Entry} {q : ℕ} (e : ase s ≡
   pub writes-all : (out : List ℕ) → length s ≤ length out → written s (tabled es) out ≡ (bytes (length s), s ++ drop (length s) out)
   writes-all out h =
       ap₂ (λ (x n : ℕ). writes x n (made s (tabled es)) out) faultless size-same ∙ ap (λ (f : List ℕ). writes 0 (length s) f out) made-is
-      ∙ ap (λ (t : Bool). pick t (bytes (length s), s ++ drop (length s) out) (refused 11, out)) (le-leb (length s) (length out) h)
+      ∙ ap (λ (t : Bool). pick t (bytes (length s), s ++ drop (length s) out) (refused 11 0, out)) (le-leb (length s) (length out) h)

@@ -2,3 +2,4 @@ pub mod Reading
 pub mod Answer
 pub mod Tiles
 pub mod Leaves
+pub mod Refusals

@@ -7,9 +7,10 @@ use lib.ListN.{length}
 use borrow.Author.Tests.{lt-ltb, le-ltb}
 use native.Mathlib.Omega.{arith}
 use Rattle.fields.specs.Reader.{Res, ok, refuse}
-use Rattle.fields.specs.Refusal.{Placed, ends, fails}
-use Rattle.fields.proofs.Placed.{refusal-placed}
+use Rattle.fields.specs.Refusal.{Of, Placed, ends, fails}
+use Rattle.fields.proofs.Placed.{of-each, refusal-placed}
 use Rattle.descriptor.specs.Reading.{Row, item, refItem}
+use Rattle.descriptor.specs.Refusals.{refusals}
 use Rattle.descriptor.proofs.Ends.{Accepts, yes}
 use Rattle.descriptor.proofs.Tiling.{Reach, list-reach, object-reach, reference-reach, array-reach}
 use Rattle.descriptor.proofs.Placed.{children-placed, ref-placed, array-placed, object-placed, item-placed}
@@ -46,13 +47,17 @@ carry n e d = record { answer = e ∙ d .answer; rows = d .rows }
 pub taken : (n : ℕ) {from : ℕ} {w : Walk} {t u : List ℕ} {k : ℕ} {m : Res (List Row)} → w ≡ carried n → Done (carried n) from t u k m → Done w from t u k m
 taken n e d = record { answer = e ∙ d .answer; rows = d .rows }
 
+-- no refusal's number is past the table's
+few : (x : ℕ) → Of refusals x → x ≤ 14
+few x h = of-each (λ n. n ≤ 14) refusals (omega arith, (omega arith, (omega arith, (omega arith, (omega arith, (omega arith, (omega arith, (omega arith, tt)))))))) h
+
 -- places and row numbers in a file within the limit are small
-walked-small : (s : List ℕ) (lo k : ℕ) (m : Res (List Row)) → length s ≤ 16777216 → k ≤ lo → Placed s m → Accepts (Reach s lo) m → Small (walked k m)
+walked-small : (s : List ℕ) (lo k : ℕ) (m : Res (List Row)) → length s ≤ 16777216 → k ≤ lo → Placed refusals s m → Accepts (Reach s lo) m → Small (walked k m)
 walked-small s lo k (ok rs q) l h (ends a) (yes b r w) = (omega arith, omega (arith, w .low))
-walked-small s lo k (refuse x p r f) l h (fails t a) w = (omega arith, omega (arith, t .most))
+walked-small s lo k (refuse x p r f) l h (fails t a) w = (omega arith, omega (arith, few x t))
 
 module _ {s : List ℕ} {d k at : ℕ} (below : Below s d k at) where
-  holder-placed : (b : Bool) → Placed s (holderOf b d k s at)
+  holder-placed : (b : Bool) → Placed refusals s (holderOf b d k s at)
   holder-placed true = object-placed (item d) (item-placed d) d k at (below .inside)
   holder-placed false = children-placed (λ j s q. item d k j q s q) (λ j q z. item-placed d k j q q z z) k at (below .inside)
 
@@ -60,7 +65,7 @@ module _ {s : List ℕ} {d k at : ℕ} (below : Below s d k at) where
   holder-reach true = object-reach s d k at (below .levels) (below .inside)
   holder-reach false = list-reach s d k at (below .levels) (below .inside)
 
-  held-placed : (b : Bool) → Placed s (heldOf b d k s at)
+  held-placed : (b : Bool) → Placed refusals s (heldOf b d k s at)
   held-placed true = array-placed d k at (below .inside)
   held-placed false = children-placed (refItem d k) (ref-placed d k) k at (below .inside)
 
@@ -69,7 +74,7 @@ module _ {s : List ℕ} {d k at : ℕ} (below : Below s d k at) where
   held-reach false = reference-reach s d k at (below .levels) (below .inside)
 
   pub holder-cut : (b : Bool) {x p r f : ℕ} → holderOf b d k s at ≡ refuse x p r f → Small (vw.Refused x p)
-  holder-cut b e = let i = refusal-placed (holder-placed b) e in (omega (arith, i .1, below .size), omega (arith, i .0 .most))
+  holder-cut b e = let i = refusal-placed (holder-placed b) e in (omega (arith, i .1, below .size), omega (arith, few _ (i .0)))
 
   module _ {from : ℕ} {t u : List ℕ} {w : Walk} (b : Bool) where
     pub holder-small : Done w from t u (k + 1) (holderOf b d k s at) → Small w

@@ -21,3 +21,4 @@ pub mod Rows
 pub mod Cuts
 pub mod Stops
 pub mod SetCuts
+pub mod Numbered

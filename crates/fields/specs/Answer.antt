@@ -44,7 +44,7 @@ abbrev pub toldName : NameAt → Res (ℕ × ℕ)
 toldName (vn.Is first units n) = ok (first, units) n
 toldName (vn.Refused x p) = refuse x p 0 0
 
--- what a writer answers: how many bytes, or a refusal's number
+-- what a writer answers: how many bytes, or a refusal's number, at place 0
 abbrev pub toldWritten : Written → Outcome
 toldWritten (vw.Bytes n) = bytes n
-toldWritten (vw.Refused x) = refused x
+toldWritten (vw.Refused x) = refused x 0

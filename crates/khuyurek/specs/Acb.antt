@@ -131,9 +131,9 @@ tagOf n = pick (eqb n 0) (tagged none) (pick (eqb n 1) (tagged spot) (pick (eqb 
 -- a number that is no tag is 3, before all else
 abbrev pub lengthOf : List ℕ → AcbHeader → Found → List Given → Length
 lengthOf text h (tagged t) gs = writtenOf (needed text (givenOf h) t gs)
-lengthOf text h unknown gs = writtenOf (unwritten 3)
+lengthOf text h unknown gs = writtenOf (unwritten 3 0)
 
 -- the same, and what the lent bytes then hold
 abbrev pub wroteOf : List ℕ → AcbHeader → Found → List Given → List ℕ → Length × List ℕ
 wroteOf text h (tagged t) gs out = sizedOf (written text (givenOf h) t gs out)
-wroteOf text h unknown gs out = sizedOf (unwritten 3, out)
+wroteOf text h unknown gs out = sizedOf (unwritten 3 0, out)

@@ -30,7 +30,7 @@ recordOf w = placed (w .0) (w .1)
 
 abbrev pub writtenOf : Outcome → Length
 writtenOf (bytes n) = record { number = 0; size = n }
-writtenOf (unwritten x) = record { number = x; size = 0 }
+writtenOf (unwritten x p) = record { number = x; size = 0 }
 
 -- an answer, and what the lent buffer then holds
 abbrev pub readOf : Verdict × List ℕ → AcoAnswer × List ℕ

@@ -1,0 +1,39 @@
+-- The numbers that writing a palette may be refused by, always at place 0. Assumes nothing.
+use Prim.Native.Nat.{ℕ}
+use mathlib.Core.Path.{_≡_, refl}
+use mathlib.Core.List.{List, map, [], _∷_}
+use mathlib.Core.Bool.{Bool}
+use lib.Dec.{leb}
+use lib.ListN.{length}
+use Rattle.fields.specs.Reader.{limit}
+use Rattle.fields.specs.Faults.{firstOf, faults, faultsFrom}
+use Rattle.fields.specs.Writing.{refused}
+use Rattle.fields.specs.Refusal.{Of, among}
+use Rattle.fields.proofs.Numbered.{Fault, no-fault, pick-fault, first-fault, faults-fault, from-fault, text-fault, needs-refused, writes-refused}
+use Rattle.colour.specs.Spaces.{known, allowed}
+use Rattle.aco.specs.Grammar.{twoLists}
+use Rattle.aco.specs.Reading.{most}
+use Rattle.aco_records.specs.Refusals.{refusals}
+use Rattle.aco_records.specs.Writing.{Given, swatchIn, size, spaceFault, sampleFault, colourFault, nameFault, fault, needed, written}
+
+colour-numbered : (g : Given) → Fault refusals (colourFault g)
+unfolding spaceFault sampleFault
+colour-numbered g =
+    first-fault (spaceFault (g .space)) _ (pick-fault (known (g .space)) no-fault (among refl))
+    (from-fault (sampleFault (g .space)) (λ k v. pick-fault (leb v 65535) (pick-fault (allowed (g .space) k v) no-fault (among refl)) (among refl)) 0 (g .samples))
+
+fault-numbered : (text : List ℕ) (gs : List Given) → Fault refusals (fault text gs)
+unfolding fault
+fault-numbered text gs =
+    pick-fault (leb (size gs) limit)
+    (first-fault _ _ (pick-fault (leb (length gs) most) no-fault (among refl))
+    (first-fault (faults colourFault gs) _ (faults-fault colourFault colour-numbered gs) (faults-fault (nameFault text) (λ g. text-fault (among refl) (among refl) (g .units) text (g .first)) gs)))
+    (among refl)
+
+-- the length that is needed is refused by one of these numbers
+pub needed-refused : (text : List ℕ) (gs : List Given) {x p : ℕ} → needed text gs ≡ refused x p → Of refusals x × (p ≡ 0)
+needed-refused text gs e = needs-refused (fault text gs) (size gs) (fault-numbered text gs) e
+
+-- writing by one of them or by 11, and the lent bytes are as they were
+pub written-refused : (text : List ℕ) (gs : List Given) (out : List ℕ) {x p : ℕ} {out′ : List ℕ} → written text gs out ≡ (refused x p, out′) → Of (11 ∷ refusals) x × (p ≡ 0) × (out′ ≡ out)
+written-refused text gs out e = writes-refused (fault text gs) (size gs) (twoLists (map (swatchIn text) gs)) out (fault-numbered text gs) e
