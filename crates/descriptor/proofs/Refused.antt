@@ -3,14 +3,12 @@ use Prim.Native.Nat.{ℕ, suc, _+_, _*_, _^_, _%_, _≤_, _<_}
 use mathlib.Core.Path.{_≡_, refl, sym, ap, _∙_}
 use mathlib.Core.List.{List}
 use mathlib.Core.Bool.{Bool, true, false}
-use lib.Dec.{leb, eqb}
 use lib.ListN.{length}
-use lib.Ieee.{binary64, ofBits}
-use lib.Ieee.Scale.{finite}
+use lib.Ieee.{binary64}
 use borrow.Author.Tests.{lt-leb, le-ltb, ne-eqb}
 use native.Mathlib.Omega.{arith}
 use Rattle.fields.specs.Numbers.{num, nums, be, At}
-use Rattle.fields.specs.Reader.{Res, Reader, ok, refuse, field, Judged, fault, unless, judged}
+use Rattle.fields.specs.Reader.{Reader, ok, refuse, field, Judged, fault, unless, judged}
 use Rattle.fields.proofs.Laws.{field-in, body-in, judged-bad, judged-ok}
 use Rattle.fields.proofs.Places.{length-be, at-in, num-be}
 use Rattle.fields.proofs.Floats.{finite-bits}
