@@ -15,3 +15,4 @@ pub mod CutTree
 pub mod Wrong
 pub mod Stopped
 pub mod Refused
+pub mod TypedValues

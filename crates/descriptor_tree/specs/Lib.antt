@@ -3,3 +3,4 @@ pub mod Tree
 pub mod Promise
 pub mod Widths
 pub mod Damaged
+pub mod Typed
