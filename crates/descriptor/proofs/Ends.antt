@@ -3,15 +3,13 @@ use Prim.Native.Nat.{ℕ, zero, suc, _+_, _*_, _≤_}
 use mathlib.Core.Path.{_≡_, refl, subst}
 use mathlib.Core.List.{List, [], _∷_}
 use mathlib.Core.Bool.{Bool, true, false}
-use lib.Dec.{leb, eqb}
+use lib.Dec.{eqb}
 use lib.ListN.{length}
-use lib.Ieee.{binary64, ofBits}
-use lib.Ieee.Scale.{finite}
 use borrow.Author.Tests.{eqb-false}
 use native.Mathlib.Omega.{arith}
-use Rattle.fields.specs.Reader.{Res, ok, refuse, Reader, then, pick, field, body, rule, Judged, fine, fault, unless, judged, each, done}
+use Rattle.fields.specs.Reader.{Res, ok, refuse, Reader, then, pick, field, body, rule, Judged, fine, fault, judged, each, done}
 use Rattle.fields.proofs.Inverse.{field-inv, body-inv, judged-inv, clash, ok-value, ok-place, each-none, each-inv}
-use Rattle.descriptor.specs.Reading.{is, unknown, beside, skip, id, shut, unicode, class, flag, double, enumerated, run, isUnit, isArrayUnit, unitDouble, Sort, leaf, list, object, reference, array, types, sortOf, forms, formOf, refValue, column}
+use Rattle.descriptor.specs.Reading.{is, unknown, beside, skip, id, shut, closing, unicode, class, boolean, flag, bits, double, enumerated, run, unit, arrayUnit, unitDouble, Sort, leaf, list, object, reference, array, types, sortOf, forms, formOf, refValue, doubles, column}
 
 -- what an answer that accepts says
 pub data Accepts {A : Type 0} (P : A → ℕ → Type 0) : Res A → Type 0 where
@@ -79,7 +77,7 @@ module _ (s : List ℕ) where
   unfolding unicode
   unicode-past at l =
       accepts-then (field 4 s at) _ (field-past 4 at l)
-      (λ n q h. accepts-then (body 2 n s q) _ (body-past 2 n q (h .high)) (λ us e w. rule-past (unless (shut us) 8) at e (at + 4) (omega (arith, h .low, w .low)) (w .high)))
+      (λ n q h. accepts-then (body 2 n s q) _ (body-past 2 n q (h .high)) (λ us e w. rule-past (closing (shut us)) at e (at + 4) (omega (arith, h .low, w .low)) (w .high)))
 
   pub class-past : (at : ℕ) → at ≤ length s → Accepts (Past s (at + 9)) (class s at)
   unfolding class
@@ -87,11 +85,11 @@ module _ (s : List ℕ) where
 
   pub flag-past : (at : ℕ) → at ≤ length s → Accepts (Past s (at + 1)) (flag s at)
   unfolding flag
-  flag-past at l = let j : ℕ → Judged = λ b. unless (leb b 1) 5 in done-past (judged 1 j s at) (at + 1) (judged-past 1 j at l)
+  flag-past at l = done-past (judged 1 boolean s at) (at + 1) (judged-past 1 boolean at l)
 
   pub double-past : (at : ℕ) → at ≤ length s → Accepts (Past s (at + 8)) (double s at)
   unfolding double
-  double-past at l = let j : ℕ → Judged = λ b. unless (finite (ofBits binary64 b)) 5 in done-past (judged 8 j s at) (at + 8) (judged-past 8 j at l)
+  double-past at l = done-past (judged 8 bits s at) (at + 8) (judged-past 8 bits at l)
 
   pub enum-past : (at : ℕ) → at ≤ length s → Accepts (Past s (at + 10)) (enumerated s at)
   unfolding enumerated
@@ -103,7 +101,7 @@ module _ (s : List ℕ) where
 
   pub unit-past : (at : ℕ) → at ≤ length s → Accepts (Past s (at + 12)) (unitDouble s at)
   unfolding unitDouble
-  unit-past at l = accepts-then (judged 4 (λ u. unless (isUnit u) 4) s at) _ (judged-past 4 (λ u. unless (isUnit u) 4) at l) (λ u q h. lower (at + 12) (q + 8) (omega (arith, h .low)) (double-past q (h .high)))
+  unit-past at l = accepts-then (judged 4 unit s at) _ (judged-past 4 unit at l) (λ u q h. lower (at + 12) (q + 8) (omega (arith, h .low)) (double-past q (h .high)))
 
   each-past : (n i at : ℕ) → at ≤ length s → (us : List Unit) (q : ℕ) → each n i (λ j. double) s at ≡ ok us q → (at ≤ q) × (q ≤ length s)
   each-past zero i at l us q e = let z = each-none (λ j. double) s i at e in (omega arith, omega arith)
@@ -116,8 +114,8 @@ module _ (s : List ℕ) where
   pub column-past : (m at : ℕ) → at ≤ length s → Accepts (Past s (at + 8)) (column m s at)
   unfolding column
   column-past m at l =
-      accepts-then (judged 4 (λ u. unless (isArrayUnit u) 4) s at) _ (judged-past 4 (λ u. unless (isArrayUnit u) 4) at l)
-      (λ u q h. accepts-then (judged 4 (λ n. unless (eqb n m) 5) s q) _ (judged-past 4 (λ n. unless (eqb n m) 5) q (h .high))
+      accepts-then (judged 4 arrayUnit s at) _ (judged-past 4 arrayUnit at l)
+      (λ u q h. accepts-then (judged 4 (doubles m) s q) _ (judged-past 4 (doubles m) q (h .high))
       (λ n e w. done-past (each n 0 (λ i. double) s e) (at + 8) (accepts (each n 0 (λ i. double) s e) (λ us r x. let y = each-past n 0 e (w .high) us r x in record { low = omega (arith, h .low, w .low, y .0); high = y .1 }))))
 
 -- ---- by type and by form

@@ -3,9 +3,7 @@ use Prim.Native.Nat.{ℕ, zero, suc, _+_, _-_, _*_, _≤_, _<_}
 use mathlib.Core.Path.{_≡_, refl, sym, ap, _∙_}
 use mathlib.Core.List.{List, []}
 use mathlib.Core.Bool.{Bool, true, false}
-use lib.Dec.{leb, eqb}
-use lib.Ieee.{binary64, ofBits}
-use lib.Ieee.Scale.{finite}
+use lib.Dec.{eqb}
 use lib.ListN.{length}
 use borrow.Author.Tests.{eq-eqb, ne-eqb}
 use native.Mathlib.Omega.{arith}
@@ -13,7 +11,7 @@ use native.Mathlib.Nat.{add-zero}
 use Rattle.fields.specs.Numbers.{num, nums}
 use Rattle.fields.specs.Reader.{Res, ok, refuse, field, body, then, pick, rule, unless, judged, done, orZero}
 use Rattle.fields.proofs.Laws.{field-in, body-in, body-short, judged-short, judged-bad, judged-ok}
-use Rattle.descriptor.specs.Reading.{skip, shut, unicode, flag, double}
+use Rattle.descriptor.specs.Reading.{skip, shut, closing, unicode, boolean, flag, bits, double}
 
 -- ---- a step and then another
 
@@ -84,11 +82,11 @@ module _ (s : List ℕ) (at : ℕ) where
     unicode-cut h = rw (← e) (rw (body-short 2 s q n (omega arith)))
 
     module _ (h : 2 * n ≤ length s - q) (v : ℕ) (l : v ≡ orZero (field 2 s (q + 2 * n - 2))) where
-      parts : (b : Bool) → eqb v 0 ≡ b → unicode s at ≡ rule (unless b 8) at (ok tt (q + n * 2))
+      parts : (b : Bool) → eqb v 0 ≡ b → unicode s at ≡ rule (closing b) at (ok tt (q + n * 2))
       unfolding unicode
       parts b f = rw (← e) (rw (body-in 2 s q n (omega arith)) (rw (shut-last n s q nz (omega arith) v l ∙ f)))
 
-      pub unicode-open : (v ≡ 0 → ⊥) → unicode s at ≡ refuse 8 at 0 0
+      pub unicode-open : (v ≡ 0 → ⊥) → unicode s at ≡ rule (closing false) at (ok tt (q + n * 2))
       unicode-open z = parts false (ne-eqb v 0 z)
 
       pub unicode-is : v ≡ 0 → (p : ℕ) → p ≡ q + 2 * n → unicode s at ≡ ok tt p
@@ -97,13 +95,13 @@ module _ (s : List ℕ) (at : ℕ) where
 -- ---- one judged field
 
 module _ (s : List ℕ) (at : ℕ) where
-  pub flag-tested : then (judged 1 (λ v. unless (leb v 1) 5) s at) (λ v q. ok tt q) ≡ flag s at
+  pub flag-tested : then (judged 1 boolean s at) (λ v q. ok tt q) ≡ flag s at
   unfolding flag
-  flag-tested = then-end (judged 1 (λ v. unless (leb v 1) 5) s at)
+  flag-tested = then-end (judged 1 boolean s at)
 
-  pub double-tested : then (judged 8 (λ v. unless (finite (ofBits binary64 v)) 5) s at) (λ v q. ok tt q) ≡ double s at
+  pub double-tested : then (judged 8 bits s at) (λ v q. ok tt q) ≡ double s at
   unfolding double
-  double-tested = then-end (judged 8 (λ v. unless (finite (ofBits binary64 v)) 5) s at)
+  double-tested = then-end (judged 8 bits s at)
 
 -- a reader without a value is not changed by leaving its value out
 pub done-unit : (m : Res Unit) → done m ≡ m

@@ -7,9 +7,9 @@ use lib.Dec.{eqb}
 use lib.ListN.{length}
 use borrow.Author.Tests.{eqb-true}
 use native.Mathlib.Omega.{arith}
-use Rattle.fields.specs.Reader.{Res, ok, refuse, Reader, then, pick, field, Judged, unless, judged}
+use Rattle.fields.specs.Reader.{Res, ok, refuse, Reader, then, pick, field, judged}
 use Rattle.fields.proofs.Inverse.{then-inv, judged-inv, unless-fine}
-use Rattle.descriptor.specs.Reading.{Known, is, unknown, known, beside, Sort, leaf, list, object, reference, array, sortOf, forms, formOf, id, class, Row, headed, plain, siblings, children, refValue, refItem, column, arrayPair, arrayOf, keyed, listOf, objectOf, valueOf, item, root, descriptor}
+use Rattle.descriptor.specs.Reading.{Known, is, unknown, known, beside, Sort, leaf, list, object, reference, array, sortOf, forms, formOf, id, class, Row, headed, plain, siblings, children, refValue, refItem, column, columnType, arrayPair, arrayOf, keyed, listOf, objectOf, valueOf, item, version, root, descriptor}
 use Rattle.descriptor.specs.Leaves.{Leafed}
 use Rattle.descriptor.proofs.Ends.{Accepts, yes, no, accepted, accepts, accepts-then}
 use Rattle.descriptor.proofs.Rows.{of-root}
@@ -129,9 +129,8 @@ module _ (s : List ℕ) where
   unfolding arrayPair
   array-all m zero p k at = no
   array-all m (suc d) p k at =
-      let j : ℕ → Judged = λ t. unless (eqb t 0x556e_466c) 4 in
       accepts-then (id s at) _ (any (id s at))
-      (λ u e h. accepts-then (judged 4 j s e) _ (accepts (judged 4 j s e) (λ t v x. eqb-true t 0x556e_466c (unless-fine (eqb t 0x556e_466c) 4 (judged-inv 4 s e j x .3))))
+      (λ u e h. accepts-then (judged 4 columnType s e) _ (accepts (judged 4 columnType s e) (λ t v x. eqb-true t 0x556e_466c (unless-fine (eqb t 0x556e_466c) _ (judged-inv 4 s e columnType x .3))))
       (λ t v x. headed-all t d p at v (plain (column m) s v) (λ rs q y. alien s t v (ap sortOf x ∙ column-alien)) (plain-all (column m) v)))
 
   keyed-all : (f : ℕ → ℕ → ℕ → Reader (List Row)) → ((p k first at : ℕ) → Accepts All (f p k first s at)) → (d p k at : ℕ) → Accepts All (keyed f d p k s at)
@@ -174,8 +173,7 @@ module _ (s : List ℕ) where
   root-all : Accepts All (root s 0)
   unfolding root
   root-all =
-      let j : ℕ → Judged = λ v. unless (eqb v 16) 3 in
-      accepts-then (judged 4 j s 0) _ (any (judged 4 j s 0))
+      accepts-then (judged 4 version s 0) _ (any (judged 4 version s 0))
       (λ v e h. headed-all 0x4f62_6a63 32 0 0 e (objectOf (item 32) 32 0 s e) (λ rs q x. holder s 0x4f62_6a63 e object object-sorted (λ p. object-leaf)) (object-all (item 32) (item-all 32) 32 0 e))
 
   pub rows-leafed : (rs : List Row) (q : ℕ) → descriptor s ≡ ok rs q → AllLeafed s rs

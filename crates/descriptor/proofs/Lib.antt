@@ -3,6 +3,7 @@ pub mod Fields
 pub mod Ends
 pub mod Tiling
 pub mod Rows
+pub mod Refused
 pub mod Placed
 pub mod Leaves
 pub mod Examples

@@ -7,21 +7,12 @@ use lib.Dec.{leb, eqb}
 use lib.Ieee.{binary64, ofBits}
 use lib.Ieee.Scale.{finite}
 use native.Mathlib.Omega.{arith}
-use Rattle.fields.specs.Reader.{Res, Reader, refuse, pick, field, body, Judged, unless, judged, each}
+use Rattle.fields.specs.Reader.{Res, Reader, refuse, pick, field, body, judged, each}
 use Rattle.fields.specs.Refusal.{Of, among, Placed, ends, fails, Places}
 use Rattle.fields.proofs.Placed.{unless-numbered, refusal-placed, placed-then, placed-rule, placed-done, field-placed, body-placed, judged-placed, ended-placed, each-placed, limited-placed}
-use Rattle.descriptor.specs.Reading.{Known, is, unknown, known, skip, id, shut, unicode, class, flag, double, enumerated, run, isUnit, isArrayUnit, unitDouble, Sort, leaf, list, object, reference, array, types, sortOf, forms, formOf, Row, headed, plain, siblings, children, refValue, refItem, column, arrayPair, arrayOf, keyed, objectOf, valueOf, item, root, whole, descriptor}
+use Rattle.descriptor.specs.Reading.{Known, is, unknown, known, skip, id, shut, closing, unicode, class, boolean, flag, bits, double, enumerated, run, isUnit, isArrayUnit, unit, arrayUnit, unitDouble, Sort, leaf, list, object, reference, array, types, sortOf, forms, formOf, Row, headed, plain, siblings, children, refValue, refItem, doubles, column, columnType, arrayPair, arrayOf, keyed, objectOf, valueOf, item, version, root, whole, descriptor}
 use Rattle.descriptor.specs.Refusals.{refusals}
 use Rattle.descriptor.proofs.Ends.{of-table as in-table}
-
-four : Of refusals 4
-four = among refl
-
-five : Of refusals 5
-five = among refl
-
-ten : Of refusals 10
-ten = among refl
 
 -- ---- fields
 
@@ -36,7 +27,7 @@ unicode-placed : Places refusals unicode
 unfolding unicode
 unicode-placed s at l =
     placed-then (field 4 s at) _ (field-placed (among refl) 4 at l)
-    (λ n q h. placed-then (body 2 n s q) _ (body-placed (among refl) 2 n q h) (λ us e g. placed-rule (unless (shut us) 8) (unless-numbered (shut us) (among refl)) l (ends g)))
+    (λ n q h. placed-then (body 2 n s q) _ (body-placed (among refl) 2 n q h) (λ us e g. placed-rule (closing (shut us)) (unless-numbered (shut us) (among refl)) l (ends g)))
 
 class-placed : Places refusals class
 unfolding class
@@ -44,13 +35,11 @@ class-placed s at l = placed-then (unicode s at) _ (unicode-placed s at l) (λ u
 
 flag-placed : Places refusals flag
 unfolding flag
-flag-placed s at l = let j : ℕ → Judged = λ b. unless (leb b 1) 5 in placed-done (judged 1 j s at) (judged-placed (among refl) 1 j at (λ b. unless-numbered (leb b 1) five) l)
+flag-placed s at l = placed-done (judged 1 boolean s at) (judged-placed (among refl) 1 boolean at (λ b. unless-numbered (leb b 1) (among refl)) l)
 
 double-placed : Places refusals double
 unfolding double
-double-placed s at l =
-    let j : ℕ → Judged = λ b. unless (finite (ofBits binary64 b)) 5 in
-    placed-done (judged 8 j s at) (judged-placed (among refl) 8 j at (λ b. unless-numbered (finite (ofBits binary64 b)) five) l)
+double-placed s at l = placed-done (judged 8 bits s at) (judged-placed (among refl) 8 bits at (λ b. unless-numbered (finite (ofBits binary64 b)) (among refl)) l)
 
 enumerated-placed : Places refusals enumerated
 unfolding enumerated
@@ -63,16 +52,13 @@ run-placed s at l = placed-then (field 4 s at) _ (field-placed (among refl) 4 at
 unit-placed : Places refusals unitDouble
 unfolding unitDouble
 unit-placed s at l =
-    let j : ℕ → Judged = λ u. unless (isUnit u) 4 in
-    placed-then (judged 4 j s at) _ (judged-placed (among refl) 4 j at (λ u. unless-numbered (isUnit u) four) l) (λ u q h. double-placed s q h)
+    placed-then (judged 4 unit s at) _ (judged-placed (among refl) 4 unit at (λ u. unless-numbered (isUnit u) (among refl)) l) (λ u q h. double-placed s q h)
 
 column-placed : (m : ℕ) → Places refusals (column m)
 unfolding column
 column-placed m s at l =
-    let i : ℕ → Judged = λ u. unless (isArrayUnit u) 4 in
-    let j : ℕ → Judged = λ n. unless (eqb n m) 5 in
-    placed-then (judged 4 i s at) _ (judged-placed (among refl) 4 i at (λ u. unless-numbered (isArrayUnit u) four) l)
-    (λ u q h. placed-then (judged 4 j s q) _ (judged-placed (among refl) 4 j q (λ n. unless-numbered (eqb n m) five) h)
+    placed-then (judged 4 arrayUnit s at) _ (judged-placed (among refl) 4 arrayUnit at (λ u. unless-numbered (isArrayUnit u) (among refl)) l)
+    (λ u q h. placed-then (judged 4 (doubles m) s q) _ (judged-placed (among refl) 4 (doubles m) q (λ n. unless-numbered (eqb n m) (among refl)) h)
     (λ n e g. placed-done (each n 0 (λ i. double) s e) (each-placed (λ i. double) (λ i r w. double-placed s r w) n 0 e g)))
 
 -- ---- by type and by form
@@ -107,7 +93,7 @@ Items s f = (p k first at : ℕ) → first ≤ length s → at ≤ length s → 
 module _ {s : List ℕ} where
   known-placed : {A B : Type 0} (x : Known A) (p : ℕ) (k : A → Res B) → p ≤ length s → ((a : A) → x ≡ is a → Placed refusals s (k a)) → Placed refusals s (known x p k)
   known-placed (is a) p k l g = g a refl
-  known-placed unknown p k l g = fails four l
+  known-placed unknown p k l g = fails (among refl) l
 
   headed-placed : (t d p first v : ℕ) (m : Res (List Row)) → Placed refusals s m → Placed refusals s (headed t d p first v m)
   headed-placed t d p first v m h = placed-then m _ h (λ rs q w. ends w)
@@ -126,7 +112,7 @@ module _ {s : List ℕ} where
 
   pub ref-placed : (d p : ℕ) → Members s (refItem d p)
   unfolding refItem refValue
-  ref-placed zero p k at l = fails ten l
+  ref-placed zero p k at l = fails (among refl) l
   ref-placed (suc d) p k at l =
       placed-then (field 4 s at) _ (field-placed (among refl) 4 at l)
       (λ t v h. known-placed (formOf t) at _ l (λ r e. headed-placed t d p at v (plain (refValue r) s v)
@@ -134,11 +120,10 @@ module _ {s : List ℕ} where
 
   column-pairs : (m d p : ℕ) → Members s (arrayPair m d p)
   unfolding arrayPair
-  column-pairs m zero p k at l = fails ten l
+  column-pairs m zero p k at l = fails (among refl) l
   column-pairs m (suc d) p k at l =
-      let j : ℕ → Judged = λ t. unless (eqb t 0x556e_466c) 4 in
       placed-then (id s at) _ (id-placed s at l)
-      (λ u e h. placed-then (judged 4 j s e) _ (judged-placed (among refl) 4 j e (λ t. unless-numbered (eqb t 0x556e_466c) four) h)
+      (λ u e h. placed-then (judged 4 columnType s e) _ (judged-placed (among refl) 4 columnType e (λ t. unless-numbered (eqb t 0x556e_466c) (among refl)) h)
       (λ t v g. headed-placed t d p at v (plain (column m) s v) (plain-placed (column m) (column-placed m) v g)))
 
   pub array-placed : (d k at : ℕ) → at ≤ length s → Placed refusals s (arrayOf d k s at)
@@ -149,7 +134,7 @@ module _ {s : List ℕ} where
 
   keyed-placed : (f : ℕ → ℕ → ℕ → Reader (List Row)) → Items s f → (d p : ℕ) → Members s (keyed f d p)
   unfolding keyed
-  keyed-placed f g zero p k at l = fails ten l
+  keyed-placed f g zero p k at l = fails (among refl) l
   keyed-placed f g (suc d) p k at l = placed-then (id s at) _ (id-placed s at l) (λ u e h. g p k at e l h)
 
   pub object-placed : (f : ℕ → ℕ → ℕ → Reader (List Row)) → Items s f → (d k at : ℕ) → at ≤ length s → Placed refusals s (objectOf f d k s at)
@@ -165,7 +150,7 @@ module _ {s : List ℕ} where
 
   pub item-placed : (d : ℕ) → Items s (item d)
   unfolding item
-  item-placed zero p k first at o l = fails ten o
+  item-placed zero p k first at o l = fails (among refl) o
   item-placed (suc d) p k first at o l =
       placed-then (field 4 s at) _ (field-placed (among refl) 4 at l)
       (λ t v h. known-placed (sortOf t) at _ l (λ sort e. headed-placed t d p first v (valueOf (item d) d k sort s v) (value-placed (item d) (item-placed d) d k t sort e v h)))
@@ -175,9 +160,8 @@ module _ {s : List ℕ} where
   whole-placed : (at : ℕ) → at ≤ length s → Placed refusals s (whole s at)
   unfolding whole root
   whole-placed at l =
-      let j : ℕ → Judged = λ v. unless (eqb v 16) 3 in
       placed-then (root s at) _
-      (placed-then (judged 4 j s at) _ (judged-placed (among refl) 4 j at (λ v. unless-numbered (eqb v 16) (among refl)) l)
+      (placed-then (judged 4 version s at) _ (judged-placed (among refl) 4 version at (λ v. unless-numbered (eqb v 16) (among refl)) l)
       (λ v e h. headed-placed 0x4f62_6a63 32 0 at e (objectOf (item 32) 32 0 s e) (object-placed (item 32) (item-placed 32) 32 0 e h)))
       (λ rs q g. ended-placed (among refl) rs q g)
 

@@ -2,11 +2,10 @@
 use Prim.Native.Nat.{ℕ, zero, suc, _+_, _-_, _*_, _≤_}
 use mathlib.Core.Path.{_≡_, refl, sym, subst}
 use mathlib.Core.List.{List, [], _∷_, _++_, append-nil, append-assoc}
-use lib.Dec.{eqb}
 use lib.ListN.{length, length-append}
 use native.Mathlib.Omega.{arith}
-use Rattle.fields.specs.Reader.{Res, Reader, field, Judged, unless, judged}
-use Rattle.descriptor.specs.Reading.{Known, is, unknown, known, Sort, leaf, list, object, reference, array, sortOf, formOf, id, class, Row, headed, plain, siblings, children, refValue, refItem, referenceOf, column, arrayPair, arrayOf, keyed, listOf, objectOf, valueOf, item, root}
+use Rattle.fields.specs.Reader.{Res, Reader, field, judged}
+use Rattle.descriptor.specs.Reading.{Known, is, unknown, known, Sort, leaf, list, object, reference, array, sortOf, formOf, id, class, Row, headed, plain, siblings, children, refValue, refItem, referenceOf, column, columnType, arrayPair, arrayOf, keyed, listOf, objectOf, valueOf, item, version, root}
 use Rattle.descriptor.specs.Tiles.{Tiled, none, one, heads, sum, Fives, Ascending}
 use Rattle.descriptor.proofs.Ends.{Accepts, yes, no, accepts-then, weaker, Past, field-past, judged-past, id-past, class-past, column-past, leaf-takes, form-takes, ref-past}
 
@@ -143,10 +142,9 @@ module _ (s : List ℕ) where
   array-rows m zero p k at l w = no
   array-rows m (suc d) p k at l w =
       let e : 32 - d ≡ 33 - suc d = omega arith in
-      let j : ℕ → Judged = λ t. unless (eqb t 0x556e_466c) 4 in
       subst (λ (n : ℕ). Accepts (Rows s n p k at) (arrayPair m (suc d) p k s at)) e
       (accepts-then (id s at) _ (id-past s at w)
-      (λ u q h. accepts-then (judged 4 j s q) _ (judged-past s 4 j q (h .high))
+      (λ u q h. accepts-then (judged 4 columnType s q) _ (judged-past s 4 columnType q (h .high))
       (λ t v x. headed-rows t d p k at v (v + 8) (plain (column m) s v) (omega (arith, h .low, x .low)) (omega (arith, h .low, x .low)) (omega arith)
       (plain-kids (32 - d + 1) k (v + 8) v (column m) (column-past s m v (x .high))))))
 
@@ -239,7 +237,6 @@ module _ (s : List ℕ) where
   pub root-rows : Accepts (Rows s 0 0 0 0) (root s 0)
   unfolding root
   root-rows =
-      let j : ℕ → Judged = λ v. unless (eqb v 16) 3 in
-      accepts-then (judged 4 j s 0) _ (judged-past s 4 j 0 (omega arith))
+      accepts-then (judged 4 version s 0) _ (judged-past s 4 version 0 (omega arith))
       (λ v e h. headed-rows 0x4f62_6a63 32 0 0 0 e (e + 13) (objectOf (item 32) 32 0 s e) (omega (arith, h .low)) (h .low) (omega arith)
       (object-kids 32 (item 32) (item-rows 32 (omega arith)) 0 e (h .high)))

@@ -1,9 +1,8 @@
 -- What each answer of the code says, and parts of the reading that the code goes by.
 use Prim.Native.Nat.{ℕ}
 use mathlib.Core.List.{List}
-use lib.Dec.{eqb}
-use Rattle.fields.specs.Reader.{Res, ok, refuse, Reader, unless, judged, _>>=_, each}
-use Rattle.descriptor.specs.Reading.{Known, is, unknown, Sort, leaf, list, object, reference, array, passing, skip, id, unicode, enumerated, double}
+use Rattle.fields.specs.Reader.{Res, ok, refuse, Reader, judged, _>>=_, each}
+use Rattle.descriptor.specs.Reading.{Known, is, unknown, Sort, leaf, list, object, reference, array, passing, skip, id, unicode, enumerated, double, doubles}
 use Rattle.descriptor.specs.declared.Value.{Value}
 use Rattle.descriptor.specs.declared.Value.the-variants as vv
 use Rattle.descriptor.specs.declared.Form.{Form}
@@ -45,5 +44,5 @@ known vk.Unknown = unknown
 -- after the unit: a count, which is m, else 5, and that many doubles
 unfoldable pub counted : ℕ → Reader Unit
 counted m = do
-  n ← judged 4 (λ n. unless (eqb n m) 5)
+  n ← judged 4 (doubles m)
   passing (each n 0 (λ i. double))

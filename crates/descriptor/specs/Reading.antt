@@ -6,7 +6,7 @@ use lib.Dec.{leb, eqb}
 use lib.ListN.{length}
 use lib.Ieee.{binary64, ofBits}
 use lib.Ieee.Scale.{finite}
-use Rattle.fields.specs.Reader.{Res, ok, refuse, Reader, then, pick, field, body, rule, unless, judged, give, _>>=_, each, ended, done, limit}
+use Rattle.fields.specs.Reader.{Res, ok, refuse, Reader, then, pick, field, body, rule, Judged, unless, judged, give, _>>=_, each, ended, done, limit}
 
 -- ---- tables by a tag
 
@@ -51,9 +51,13 @@ shut [] = true
 shut (u ∷ []) = eqb u 0
 shut (u ∷ v ∷ us) = shut (v ∷ us)
 
+-- one that is not is 8
+abbrev pub closing : Bool → Judged
+closing b = unless b 8
+
 -- a Unicode string: a count and the units, 2 where they pass the end; a last unit that is not zero is 8 at the count
 unfoldable pub unicode : Reader Unit
-unicode s at = then (field 4 s at) (λ n first. then (body 2 n s first) (λ us end. rule (unless (shut us) 8) at (ok tt end)))
+unicode s at = then (field 4 s at) (λ n first. then (body 2 n s first) (λ us end. rule (closing (shut us)) at (ok tt end)))
 
 -- a class: a Unicode string and an ID
 unfoldable pub class : Reader Unit
@@ -62,12 +66,18 @@ class = do
   id
 
 -- 0 or 1, else 5
-unfoldable pub flag : Reader Unit
-flag = passing (judged 1 (λ b. unless (leb b 1) 5))
+abbrev pub boolean : ℕ → Judged
+boolean b = unless (leb b 1) 5
 
--- a finite double, else 5
+unfoldable pub flag : Reader Unit
+flag = passing (judged 1 boolean)
+
+-- the bits of a finite double, else 5
+abbrev pub bits : ℕ → Judged
+bits b = unless (finite (ofBits binary64 b)) 5
+
 unfoldable pub double : Reader Unit
-double = passing (judged 8 (λ b. unless (finite (ofBits binary64 b)) 5))
+double = passing (judged 8 bits)
 
 -- two IDs, of the type and of the value
 unfoldable pub enumerated : Reader Unit
@@ -95,10 +105,18 @@ isUnit u = among units u
 unfoldable pub isArrayUnit : ℕ → Bool
 isArrayUnit u = among arrayUnits u
 
--- a unit, else 4, and a double
+-- a unit, else 4
+abbrev pub unit : ℕ → Judged
+unit u = unless (isUnit u) 4
+
+-- a unit of object arrays, else 4
+abbrev pub arrayUnit : ℕ → Judged
+arrayUnit u = unless (isArrayUnit u) 4
+
+-- a unit and a double
 unfoldable pub unitDouble : Reader Unit
 unitDouble = do
-  u ← judged 4 (λ u. unless (isUnit u) 4)
+  u ← judged 4 unit
   double
 
 -- ---- types and forms
@@ -179,19 +197,27 @@ referenceOf d k = children (refItem d k) k
 
 -- ---- object arrays
 
--- after `UnFl`: a unit, else 4, and as many doubles as there are objects, m; another count is 5
+-- there are as many doubles as objects, m, else 5
+abbrev pub doubles : ℕ → ℕ → Judged
+doubles m n = unless (eqb n m) 5
+
+-- after `UnFl`: a unit, a count of doubles, and the doubles
 unfoldable pub column : ℕ → Reader Unit
 column m = do
-  u ← judged 4 (λ u. unless (isArrayUnit u) 4)
-  n ← judged 4 (λ n. unless (eqb n m) 5)
+  u ← judged 4 arrayUnit
+  n ← judged 4 (doubles m)
   passing (each n 0 (λ i. double))
 
--- a key, `UnFl`, else 4, and its column
+-- `UnFl`, else 4
+abbrev pub columnType : ℕ → Judged
+columnType t = unless (eqb t 0x556e_466c) 4
+
+-- a key, `UnFl`, and its column
 unfoldable pub arrayPair : ℕ → ℕ → ℕ → ℕ → Reader (List Row)
 arrayPair m zero p k s at = refuse 10 at 0 0
 arrayPair m (suc d) p k s at =
     then (id s at) (λ u e.
-    then (judged 4 (λ t. unless (eqb t 0x556e_466c) 4) s e) (λ t v.
+    then (judged 4 columnType s e) (λ t v.
     headed t d p at v (plain (column m) s v)))
 
 -- the number of objects, a class, and the pairs
@@ -235,9 +261,13 @@ pair d p k = keyed (item d) d p k
 
 -- ---- the file
 
--- version 16, else 3, and an object of which all 32 levels are left
+-- 16, else 3
+abbrev pub version : ℕ → Judged
+version v = unless (eqb v 16) 3
+
+-- the version, and an object of which all 32 levels are left
 unfoldable pub root : Reader (List Row)
-root s at = then (judged 4 (λ v. unless (eqb v 16) 3) s at) (λ v e. headed 0x4f62_6a63 32 0 at e (objectOf (item 32) 32 0 s e))
+root s at = then (judged 4 version s at) (λ v e. headed 0x4f62_6a63 32 0 at e (objectOf (item 32) 32 0 s e))
 
 unfoldable pub whole : Reader (List Row)
 whole = do

@@ -3,7 +3,6 @@ use Prim.Native.Nat.{ℕ, zero, suc, _+_, _-_, _≤_}
 use mathlib.Core.Path.{_≡_, refl, sym, ap, _∙_, subst}
 use mathlib.Core.List.{List}
 use mathlib.Core.Bool.{Bool, true, false}
-use lib.Dec.{eqb}
 use lib.ListN.{length}
 use borrow.Author.Tests.{eq-eqb, ne-eqb}
 use native.Mathlib.Omega.{arith}
@@ -12,7 +11,7 @@ use Rattle.fields.proofs.Laws.{judged-short, judged-bad, judged-ok}
 use Rattle.fields.proofs.Inverse.{clash}
 use Rattle.descriptor.specs.declared.Value.{Value}
 use Rattle.descriptor.specs.declared.Value.the-variants as vv
-use Rattle.descriptor.specs.Reading.{Known, is, unknown, known, Sort, leaf, list, object, reference, array, sortOf, formOf, id, class, Row, headed, plain, siblings, children, refValue, refItem, column, arrayPair, arrayOf, keyed, objectOf, valueOf, item, pair, root}
+use Rattle.descriptor.specs.Reading.{Known, is, unknown, known, Sort, leaf, list, object, reference, array, sortOf, formOf, id, class, Row, headed, plain, siblings, children, refValue, refItem, column, columnType, arrayPair, arrayOf, keyed, objectOf, valueOf, item, pair, version, root}
 use Rattle.descriptor.specs.Answer.{endOf, begun}
 use Rattle.descriptor.proofs.Fields.{then-no, then-to}
 use Rattle.descriptor.proofs.Ends.{Accepts, yes, Past, lower, id-past, class-past}
@@ -155,23 +154,23 @@ module _ (p k : ℕ) (s : List ℕ) (at : ℕ) where
     array-id (suc d) z e = then-no (id s at) _ e
 
     array-typed : (left e : ℕ) → NonZero left → id s at ≡ ok tt e
-        → arrayPair m left p k s at ≡ then (judged 4 (λ t. unless (eqb t 0x556e_466c) 4) s e) (λ t v. headed t (left - 1) p at v (plain (column m) s v))
+        → arrayPair m left p k s at ≡ then (judged 4 columnType s e) (λ t v. headed t (left - 1) p at v (plain (column m) s v))
     unfolding arrayPair
     array-typed zero e z h = absurd (z refl)
     array-typed (suc d) e z h = let x : suc d - 1 ≡ d = omega arith in rw x (then-to (id s at) _ h)
 
     pub array-short : (left e : ℕ) → NonZero left → id s at ≡ ok tt e → refuse 2 e 0 0 ≡ field 4 s e → arrayPair m left p k s at ≡ refuse 2 e 0 0
-    array-short left e z h x = array-typed left e z h ∙ then-no (judged 4 (λ t. unless (eqb t 0x556e_466c) 4) s e) _ (judged-short 4 s e (λ t. unless (eqb t 0x556e_466c) 4) x)
+    array-short left e z h x = array-typed left e z h ∙ then-no (judged 4 columnType s e) _ (judged-short 4 s e columnType x)
 
     pub array-other : (left e t v : ℕ) → NonZero left → id s at ≡ ok tt e → ok t v ≡ field 4 s e → (t ≡ 0x556e_466c → ⊥) → arrayPair m left p k s at ≡ refuse 4 e 0 0
     array-other left e t v z h x y =
         array-typed left e z h
-        ∙ then-no (judged 4 (λ t. unless (eqb t 0x556e_466c) 4) s e) _ (judged-bad 4 s e (λ t. unless (eqb t 0x556e_466c) 4) 4 0 0 x (ap (λ (b : Bool). unless b 4) (ne-eqb t 0x556e_466c y)))
+        ∙ then-no (judged 4 columnType s e) _ (judged-bad 4 s e columnType 4 0 0 x (ap (λ (b : Bool). unless b 4) (ne-eqb t 0x556e_466c y)))
 
     pub array-is : (left e t v : ℕ) → NonZero left → id s at ≡ ok tt e → ok t v ≡ field 4 s e → t ≡ 0x556e_466c → arrayPair m left p k s at ≡ headed t (left - 1) p at v (plain (column m) s v)
     array-is left e t v z h x y =
         array-typed left e z h
-        ∙ then-to (judged 4 (λ t. unless (eqb t 0x556e_466c) 4) s e) _ (judged-ok 4 s e (λ t. unless (eqb t 0x556e_466c) 4) x (ap (λ (b : Bool). unless b 4) (eq-eqb t 0x556e_466c y)))
+        ∙ then-to (judged 4 columnType s e) _ (judged-ok 4 s e columnType x (ap (λ (b : Bool). unless b 4) (eq-eqb t 0x556e_466c y)))
 
   pub pair-deep : (left : ℕ) → left ≡ 0 → pair left p k s at ≡ refuse 10 at 0 0
   unfolding keyed
@@ -288,12 +287,12 @@ key-past s at false w = yes tt at (record { low = omega arith; high = w })
 module _ (s : List ℕ) (at : ℕ) where
   pub root-short : refuse 2 at 0 0 ≡ field 4 s at → root s at ≡ refuse 2 at 0 0
   unfolding root
-  root-short e = then-no (judged 4 (λ v. unless (eqb v 16) 3) s at) _ (judged-short 4 s at (λ v. unless (eqb v 16) 3) e)
+  root-short e = then-no (judged 4 version s at) _ (judged-short 4 s at version e)
 
   pub root-other : {v q : ℕ} → ok v q ≡ field 4 s at → (v ≡ 16 → ⊥) → root s at ≡ refuse 3 at 0 0
   unfolding root
-  root-other {v} e h = then-no (judged 4 (λ v. unless (eqb v 16) 3) s at) _ (judged-bad 4 s at (λ v. unless (eqb v 16) 3) 3 0 0 e (ap (λ (b : Bool). unless b 3) (ne-eqb v 16 h)))
+  root-other {v} e h = then-no (judged 4 version s at) _ (judged-bad 4 s at version 3 0 0 e (ap (λ (b : Bool). unless b 3) (ne-eqb v 16 h)))
 
   pub root-is : {v q : ℕ} → ok v q ≡ field 4 s at → v ≡ 16 → root s at ≡ headed 0x4f62_6a63 32 0 at q (objectOf (item 32) 32 0 s q)
   unfolding root
-  root-is {v} e h = then-to (judged 4 (λ v. unless (eqb v 16) 3) s at) _ (judged-ok 4 s at (λ v. unless (eqb v 16) 3) e (ap (λ (b : Bool). unless b 3) (eq-eqb v 16 h)))
+  root-is {v} e h = then-to (judged 4 version s at) _ (judged-ok 4 s at version e (ap (λ (b : Bool). unless b 3) (eq-eqb v 16 h)))

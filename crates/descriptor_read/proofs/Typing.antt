@@ -3,17 +3,17 @@ use Prim.Native.Nat.{ℕ, zero, suc, _+_, _-_, _≤_}
 use mathlib.Core.Path.{_≡_, refl, sym, ap, _∙_, subst}
 use mathlib.Core.List.{List, [], _∷_}
 use mathlib.Core.Bool.{Bool, true}
-use lib.Dec.{leb, eqb}
+use lib.Dec.{eqb}
 use lib.ListN.{length}
 use lib.Ieee.{Float, binary64, ofBits}
 use lib.Ieee.Scale.{finite}
 use native.Mathlib.Omega.{arith}
 use borrow.Author.Tests.{ne-eqb}
 use Rattle.fields.specs.Numbers.{num}
-use Rattle.fields.specs.Reader.{Res, ok, refuse, Reader, field, body, Judged, unless, judged, orZero, limit}
+use Rattle.fields.specs.Reader.{Res, ok, refuse, Reader, field, body, judged, orZero, limit}
 use Rattle.fields.proofs.Laws.{field-in}
 use Rattle.fields.proofs.Inverse.{then-inv, judged-inv, body-inv, done-inv, unless-fine}
-use Rattle.descriptor.specs.Reading.{Row, is, leaf, sortOf, skip, flag, double, isUnit, unitDouble, descriptor}
+use Rattle.descriptor.specs.Reading.{Row, is, leaf, sortOf, skip, boolean, flag, bits, double, unit, unitDouble, descriptor}
 use Rattle.descriptor.specs.Leaves.{Leafed}
 use Rattle.descriptor.proofs.Leaves.{AllLeafed, rows-leafed}
 use Rattle.descriptor_read.specs.Values.{found, rowAt, rowIn, extentOf}
@@ -50,9 +50,8 @@ unit-sort = refl
 flag-room : (s : List ℕ) (v q : ℕ) → flag s v ≡ ok tt q → 1 ≤ length s - v
 unfolding flag
 flag-room s v q e =
-    let j : ℕ → Judged = λ b. unless (leb b 1) 5 in
-    let i = done-inv (judged 1 j s v) e in
-    judged-inv 1 s v j (i .1) .0
+    let i = done-inv (judged 1 boolean s v) e in
+    judged-inv 1 s v boolean (i .1) .0
 
 skip-room : (n : ℕ) (s : List ℕ) (v q : ℕ) → skip n s v ≡ ok tt q → n ≤ length s - v
 skip-room n s v q e =
@@ -63,17 +62,15 @@ skip-room n s v q e =
 double-room : (s : List ℕ) (v q : ℕ) → double s v ≡ ok tt q → (8 ≤ length s - v) × (finite (ofBits binary64 (num 8 s v)) ≡ true)
 unfolding double
 double-room s v q e =
-    let j : ℕ → Judged = λ b. unless (finite (ofBits binary64 b)) 5 in
-    let i = done-inv (judged 8 j s v) e in
-    let r = judged-inv 8 s v j (i .1) in
-    (r .0, ap (λ (b : ℕ). finite (ofBits binary64 b)) (r .1) ∙ unless-fine (finite (ofBits binary64 (i .0))) 5 (r .3))
+    let i = done-inv (judged 8 bits s v) e in
+    let r = judged-inv 8 s v bits (i .1) in
+    (r .0, ap (λ (b : ℕ). finite (ofBits binary64 b)) (r .1) ∙ unless-fine (finite (ofBits binary64 (i .0))) _ (r .3))
 
 unit-room : (s : List ℕ) (v q : ℕ) → unitDouble s v ≡ ok tt q → (4 ≤ length s - v) × (8 ≤ length s - (v + 4)) × (finite (ofBits binary64 (num 8 s (v + 4))) ≡ true)
 unfolding unitDouble
 unit-room s v q e =
-    let j : ℕ → Judged = λ u. unless (isUnit u) 4 in
-    let t = then-inv (judged 4 j s v) _ e in
-    let r = judged-inv 4 s v j (t .2) in
+    let t = then-inv (judged 4 unit s v) _ e in
+    let r = judged-inv 4 s v unit (t .2) in
     let x : double s (v + 4) ≡ ok tt q = ap (λ (k : ℕ). double s k) (r .2) ∙ t .3 in
     let d = double-room s (v + 4) q x in
     (r .0, d .0, d .1)

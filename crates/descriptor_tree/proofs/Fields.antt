@@ -10,13 +10,13 @@ use lib.Ieee.Scale.{finite}
 use borrow.Author.Tests.{leb-true, le-leb, ltb-true, lt-ltb, eqb-true, eq-eqb, ne-eqb}
 use native.Mathlib.Omega.{arith}
 use Rattle.fields.specs.Numbers.{num, nums, At, Bytes}
-use Rattle.fields.specs.Reader.{Reader, ok, then, pick, rule, body, unless}
+use Rattle.fields.specs.Reader.{Reader, ok, then, pick, rule, body}
 use Rattle.fields.specs.Store.{part}
 use Rattle.fields.proofs.Laws.{body-in, num-2}
 use Rattle.fields.proofs.Places.{at-in, at-right, at-next, at-part, length-part}
 use Rattle.fields.proofs.Inverse.{then-inv, rule-inv, unless-fine, body-inv, ok-place}
 use Rattle.fields.proofs.Floats.{finite-bits}
-use Rattle.descriptor.specs.Reading.{is, beside, among, skip, id, shut, unicode, class, flag, double, enumerated, run, units, arrayUnits, isUnit, isArrayUnit, unitDouble, column}
+use Rattle.descriptor.specs.Reading.{is, beside, among, skip, id, shut, closing, unicode, class, flag, double, enumerated, run, units, arrayUnits, isUnit, isArrayUnit, unitDouble, column}
 use Rattle.fields.specs.Sets.{Size}
 use Rattle.descriptor_tree.specs.Grammar.{IdBody, Id, Units, Text, Class, Enumerated, Raw, Boolean, Double, Measure, UnitDouble, ArrayMeasure, UnitDoubles}
 use Rattle.descriptor_tree.specs.Grammar.IdBody.{char, string}
@@ -93,7 +93,7 @@ id-body s (suc n) = subst (λ (z : Bool). Reads (IdBody (suc n)) s (skip (pick z
 
 -- the units behind a count at the place p
 abbrev unitsOf : ℕ → ℕ → Reader Unit
-unitsOf p n s at = then (body 2 n s at) (λ us end. rule (unless (shut us) 8) p (ok tt end))
+unitsOf p n s at = then (body 2 n s at) (λ us end. rule (closing (shut us)) p (ok tt end))
 
 zeros : (s : List ℕ) (at : ℕ) → at + 2 ≤ length s → num 2 s at ≡ 0 → At s at (0 ∷ 0 ∷ [])
 unfolding At
@@ -119,16 +119,16 @@ unfolding At
 units-back s p zero at q le e =
     let t = then-inv (body 2 0 s at) _ e in
     let i = body-inv 2 s at 0 (t .2) in
-    let r = rule-inv (unless (shut (t .0)) 8) p (ok tt (t .1)) (t .3) in
+    let r = rule-inv (closing (shut (t .0))) p (ok tt (t .1)) (t .3) in
     ([], none, le, omega (arith, i .2, ok-place (r .1)))
 units-back s p (suc m) at q le e =
     let t = then-inv (body 2 (suc m) s at) _ e in
     let i = body-inv 2 s at (suc m) (t .2) in
-    let r = rule-inv (unless (shut (t .0)) 8) p (ok tt (t .1)) (t .3) in
+    let r = rule-inv (closing (shut (t .0))) p (ok tt (t .1)) (t .3) in
     let z : List ℕ = 0 ∷ 0 ∷ [] in
     let c : List ℕ = part s at (m * 2) in
     let l : length c ≡ m * 2 = length-part s at (m * 2) (omega (arith, i .0)) in
-    let last : num 2 s (at + m * 2) ≡ 0 = eqb-true (num 2 s (at + m * 2)) 0 (sym (shut-nums m s at) ∙ ap shut (i .1) ∙ unless-fine (shut (t .0)) 8 (r .0)) in
+    let last : num 2 s (at + m * 2) ≡ 0 = eqb-true (num 2 s (at + m * 2)) 0 (sym (shut-nums m s at) ∙ ap shut (i .1) ∙ unless-fine (shut (t .0)) _ (r .0)) in
     (c ++ z, closed m c l, at-next s at c z (at + m * 2) (omega arith) (at-part s at (m * 2) (omega (arith, i .0))) (zeros s (at + m * 2) (omega (arith, i .0)) last), omega (arith, length-append c z, i .2, ok-place (r .1)))
 
 units-reads : (s : List ℕ) (p n : ℕ) → Reads (Units n) s (unitsOf p n)
@@ -160,22 +160,22 @@ module _ (s : List ℕ) (bytes : Bytes s) where
 
   pub boolean-reads : Reads Boolean s flag
   unfolding flag
-  boolean-reads = done-reads (number-reads 1 (tested-numbers s bytes 1 (λ b. leb b 1) 5 (λ n. n ≤ 1) (λ n h. le-leb n 1 h) (λ n h. leb-true n 1 h)))
+  boolean-reads = done-reads (number-reads 1 (tested-numbers s bytes 1 (λ b. leb b 1) _ (λ n. n ≤ 1) (λ n h. le-leb n 1 h) (λ n h. leb-true n 1 h)))
 
   pub double-reads : Reads Double s double
   unfolding double
-  double-reads = done-reads (number-reads 8 (tested-numbers s bytes 8 (λ b. finite (ofBits binary64 b)) 5 (λ n. n % 0x8000_0000_0000_0000 < 0x7FF0_0000_0000_0000)
+  double-reads = done-reads (number-reads 8 (tested-numbers s bytes 8 (λ b. finite (ofBits binary64 b)) _ (λ n. n % 0x8000_0000_0000_0000 < 0x7FF0_0000_0000_0000)
       (λ n h. finite-bits binary64 n ∙ lt-ltb (n % 0x8000_0000_0000_0000) 0x7FF0_0000_0000_0000 h)
       (λ n h. ltb-true (n % 0x8000_0000_0000_0000) 0x7FF0_0000_0000_0000 (sym (finite-bits binary64 n) ∙ h))))
 
   pub unit-reads : Reads UnitDouble s unitDouble
   unfolding unitDouble
-  unit-reads = when-reads (tested-numbers s bytes 4 isUnit 4 Measure (λ u h. measure-known h) known-measure) (λ u. double-reads)
+  unit-reads = when-reads (tested-numbers s bytes 4 isUnit _ Measure (λ u h. measure-known h) known-measure) (λ u. double-reads)
 
   -- ---- object arrays
 
   pub column-reads : (m : ℕ) → Reads (UnitDoubles m) s (column m)
   unfolding column
   column-reads m =
-      when-reads (tested-numbers s bytes 4 isArrayUnit 4 ArrayMeasure (λ u h. array-known h) known-array)
-      (λ u. when-reads (tag-numbers s bytes 4 m 5) (λ n. done-reads (run-reads double-reads n 0)))
+      when-reads (tested-numbers s bytes 4 isArrayUnit _ ArrayMeasure (λ u h. array-known h) known-array)
+      (λ u. when-reads (tag-numbers s bytes 4 m _) (λ n. done-reads (run-reads double-reads n 0)))

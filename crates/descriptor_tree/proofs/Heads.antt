@@ -53,7 +53,7 @@ item-small (Item.global n l c) = omega arith
 item-small (Item.reference n l) = omega arith
 item-small (Item.array m n l g c) = omega arith
 
-form-small : {kind : ℕ} {b : List ℕ} → Form kind b → kind < 256 ^ 4
+pub form-small : {kind : ℕ} {b : List ℕ} → Form kind b → kind < 256 ^ 4
 form-small Form.class = omega arith
 form-small (Form.enumerated h) = omega arith
 form-small (Form.identifier h) = omega arith

@@ -3,14 +3,13 @@ use Prim.Native.Nat.{ℕ, suc, _+_, _^_, _≤_, _<_}
 use mathlib.Core.Path.{_≡_, refl, sym, ap, ap₂, _∙_, subst}
 use mathlib.Core.List.{List, [], _∷_, _++_}
 use mathlib.Core.Logic.{⊎-elim}
-use lib.Dec.{eqb}
 use lib.ListN.{length, length-append}
 use native.Mathlib.Omega.{arith}
 use Rattle.fields.specs.Numbers.{be, At, Bytes}
-use Rattle.fields.specs.Reader.{Res, Reader, ok, then, field, unless, judged, _>>=_}
+use Rattle.fields.specs.Reader.{Res, Reader, ok, then, field, judged, _>>=_}
 use Rattle.fields.proofs.Places.{length-be, at-in, at-left, at-right, at-after, at-next}
 use Rattle.fields.proofs.Inverse.{clash, then-inv}
-use Rattle.descriptor.specs.Reading.{is, id, class, Sort, leaf, list, object, reference, array, sortOf, formOf, Row, headed, plain, siblings, children, refValue, refItem, column, arrayPair, arrayOf, keyed, objectOf, valueOf, item}
+use Rattle.descriptor.specs.Reading.{is, id, class, Sort, leaf, list, object, reference, array, sortOf, formOf, Row, headed, plain, siblings, children, refValue, refItem, column, columnType, arrayPair, arrayOf, keyed, objectOf, valueOf, item}
 use Rattle.descriptor_tree.specs.Tree.{Place, Item, Member, head}
 use Rattle.fields.proofs.Sets.{field-numbers, tag-numbers, number-whole, number-sound}
 use Rattle.descriptor_tree.proofs.Fields.{id-reads, column-reads}
@@ -173,11 +172,11 @@ module _ (s : List ℕ) (bytes : Bytes s) (d k : ℕ) where
         let at : ℕ = lo + length key in
         let ht = at-right s lo key (be 4 t ++ b) h in
         let w : at + length (be 4 t) ≡ at + 4 = ap (λ (z : ℕ). at + z) (length-be 4 t) in
-        let a = number-whole 4 (tag-numbers s bytes 4 t 4) at t (omega arith) refl (at-left s at (be 4 t) b ht) in
+        let a = number-whole 4 (tag-numbers s bytes 4 t _) at t (omega arith) refl (at-left s at (be 4 t) b ht) in
         let v = column-reads s bytes m .complete (at + 4) b x (at-after s at (be 4 t) b (at + 4) w ht) in
         let z : at + 4 + length b ≡ lo + length (head key t b) = omega (arith, length-head key t b) in
         let o : plain (column m) s (at + 4) ≡ out = ap (λ (r : Res Unit). then r (λ a q. ok [] q)) (v .1) ∙ ap (λ (i : ℕ). ok [] i) z ∙ g in
-        ap (λ (r : Res Unit). then r (λ u e. then (judged 4 (λ t. unless (eqb t 0x556e_466c) 4) s e) (λ t v. headed t d p lo v (plain (column m) s v)))) (u .1)
+        ap (λ (r : Res Unit). then r (λ u e. then (judged 4 columnType s e) (λ t v. headed t d p lo v (plain (column m) s v)))) (u .1)
         ∙ ap (λ (r : Res ℕ). then r (λ t v. headed t d p lo v (plain (column m) s v))) a ∙ ap (headed t d p lo (at + 4)) o
 
     pub record Read-one (c : Place) (rs : List Row) (e : ℕ) : Type 0 where
@@ -257,8 +256,8 @@ module _ (s : List ℕ) (bytes : Bytes s) (d k : ℕ) where
         let f = then-inv (id s lo) _ h in
         let i = id-reads s bytes .sound lo le (f .0) (f .1) (f .2) in
         let key : List ℕ = i .0 in
-        let g = then-inv (judged 4 (λ t. unless (eqb t 0x556e_466c) 4) s (f .1)) _ (f .3) in
-        let w = number-sound 4 (tag-numbers s bytes 4 t 4) (f .1) (g .0) (g .1) (omega (arith, at-in s lo key (i .2), i .3)) (g .2) in
+        let g = then-inv (judged 4 columnType s (f .1)) _ (f .3) in
+        let w = number-sound 4 (tag-numbers s bytes 4 t _) (f .1) (g .0) (g .1) (omega (arith, at-in s lo key (i .2), i .3)) (g .2) in
         let y = headed-inv (g .0) d p lo (g .1) (plain (column m) s (g .1)) (g .3) in
         let u = plain-inv (column m) s (g .1) (y .1) in
         let r = column-reads s bytes m .sound (g .1) (w .inside) tt e (u .0) in

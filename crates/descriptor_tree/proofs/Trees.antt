@@ -9,7 +9,8 @@ use Rattle.fields.specs.Numbers.{At, Bytes}
 use Rattle.fields.specs.Reader.{Reader, ok, refuse}
 use Rattle.fields.proofs.Places.{at-in, at-left, at-right, at-next}
 use Rattle.fields.proofs.Inverse.{clash, then-inv, ok-value, ok-place}
-use Rattle.descriptor.specs.Reading.{Row, siblings, refItem, arrayPair, keyed, item}
+use Rattle.descriptor.specs.Reading.{Row, siblings, item}
+use Rattle.descriptor.proofs.Refused.{deep-item-refused, deep-pair-refused, deep-form-refused, deep-column-refused}
 use Rattle.descriptor_tree.specs.Tree.{Members, none, one, count, head, bytes, rows, Place, Member, Allowed}
 use Rattle.descriptor_tree.proofs.Tiling.{bytes-one}
 use Rattle.descriptor_tree.proofs.Heads.{reader, rowOf}
@@ -113,13 +114,13 @@ module _ (s : List ℕ) (octets : Bytes s) (left : ℕ) (deeper : Finds s left) 
         reads = ap (λ (i : ℕ). (row ∷ below) ++ rows d p i (lo + size) (y .tree)) next ∙ then-same d p k (lo + size) mid (row ∷ below) (u .0) (y .tree) g (omega (arith, x .ends)) ∙ ap (λ (l : List Row). u .0 ++ l) (y .reads) ∙ u .5;
       }
 
-too-deep : (s : List ℕ) (c : Place) (p k lo : ℕ) → reader c 0 p k s lo ≡ refuse 10 lo 0 0
-unfolding item keyed refItem arrayPair
-too-deep s Place.items p k lo = refl
-too-deep s Place.pairs p k lo = refl
-too-deep s Place.forms p k lo = refl
+-- with no level left
+pub too-deep : (s : List ℕ) (c : Place) (p k lo : ℕ) → reader c 0 p k s lo ≡ refuse 10 lo 0 0
+too-deep s Place.items p k lo = deep-item-refused s lo p k lo
+too-deep s Place.pairs p k lo = deep-pair-refused s lo (item 0) p k
+too-deep s Place.forms p k lo = deep-form-refused s lo p k
 too-deep s Place.nowhere p k lo = refl
-too-deep s (Place.columns m) p k lo = refl
+too-deep s (Place.columns m) p k lo = deep-column-refused s lo m p k
 
 pub forest-sound : (s : List ℕ) → Bytes s → (left : ℕ) → Finds s left
 forest-sound s octets zero c d p zero k lo e rs h le q = nothing s c 0 d p k lo e rs le q

@@ -16,21 +16,25 @@ use Rattle.descriptor_tree.proofs.Tiling.{length-file}
 use Rattle.descriptor_tree.proofs.Whole.{file-inv, file-parts, length-root}
 use Rattle.descriptor_tree.proofs.RoundTrip.{allowed-reads}
 
--- a value for each row: it stands in s from where the row says that its value begins to the row's end
-abbrev Valued : List ℕ → List Row → List (List ℕ) → Type 0
-Valued s [] [] = Unit
-Valued s [] (v ∷ vs) = ⊥
-Valued s (r ∷ rs) [] = ⊥
-Valued s (r ∷ rs) (v ∷ vs) = (At s (r .value) v × (r .value + length v ≡ r .first + r .size)) × Valued s rs vs
+-- a value for each row, of which P holds
+abbrev pub Paired : (Row → List ℕ → Type 0) → List Row → List (List ℕ) → Type 0
+Paired P [] [] = Unit
+Paired P [] (v ∷ vs) = ⊥
+Paired P (r ∷ rs) [] = ⊥
+Paired P (r ∷ rs) (v ∷ vs) = P r v × Paired P rs vs
 
-valued-append : (s : List ℕ) (rs qs : List Row) (vs ws : List (List ℕ)) → Valued s rs vs → Valued s qs ws → Valued s (rs ++ qs) (vs ++ ws)
-valued-append s [] qs [] ws h g = g
-valued-append s [] qs (v ∷ vs) ws h g = absurd h
-valued-append s (r ∷ rs) qs [] ws h g = absurd h
-valued-append s (r ∷ rs) qs (v ∷ vs) ws h g = (h .0, valued-append s rs qs vs ws (h .1) g)
+pub paired-append : (P : Row → List ℕ → Type 0) (rs qs : List Row) (vs ws : List (List ℕ)) → Paired P rs vs → Paired P qs ws → Paired P (rs ++ qs) (vs ++ ws)
+paired-append P [] qs [] ws h g = g
+paired-append P [] qs (v ∷ vs) ws h g = absurd h
+paired-append P (r ∷ rs) qs [] ws h g = absurd h
+paired-append P (r ∷ rs) qs (v ∷ vs) ws h g = (h .0, paired-append P rs qs vs ws (h .1) g)
+
+-- it stands in s from where the row says that its value begins to the row's end
+abbrev pub Lies : List ℕ → Row → List ℕ → Type 0
+Lies s r v = At s (r .value) v × (r .value + length v ≡ r .first + r .size)
 
 module _ (s : List ℕ) where
-  forest-values : (m : Members) (d p k lo : ℕ) → At s lo (bytes m) → Valued s (rows d p k lo m) (memberValues m)
+  forest-values : (m : Members) (d p k lo : ℕ) → At s lo (bytes m) → Paired (Lies s) (rows d p k lo m) (memberValues m)
   unfolding rows memberValues bytes
   forest-values none d p k lo h = tt
   forest-values (one key kind fields children rest) d p k lo h =
@@ -48,12 +52,12 @@ module _ (s : List ℕ) where
       let size : v + length (fields ++ cs) ≡ lo + n = omega (arith, length-append fields cs, length-head key kind fields) in
       let next : lo + length hd + length cs ≡ lo + n = omega arith in (
         (at-next s v fields cs (lo + length hd) ends stands hc, size),
-        valued-append s below (rows d p (k + 1 + length below) (lo + n) rest) (memberValues children) (memberValues rest)
+        paired-append (Lies s) below (rows d p (k + 1 + length below) (lo + n) rest) (memberValues children) (memberValues rest)
             (forest-values children (d + 1) k (k + 1) (lo + length hd) hc)
             (forest-values rest d p (k + 1 + length below) (lo + n) (at-after s (lo + length hd) cs (bytes rest) (lo + n) next hr)),
       )
 
-file-values : (t : Descriptor) (s : List ℕ) → s ≡ fileBytes t → Valued s (fileRows t) (fileValues t)
+pub file-values : (t : Descriptor) (s : List ℕ) → s ≡ fileBytes t → Paired (Lies s) (fileRows t) (fileValues t)
 unfolding fileRows fileValues
 file-values t s e =
     let g = file-parts t s e in
@@ -63,7 +67,7 @@ file-values t s e =
       forest-values s (t .pairs) 1 0 1 (length (rootHead t)) (g .pairs),
     )
 
-valued-at : (s : List ℕ) (rs : List Row) (vs : List (List ℕ)) → Valued s rs vs → (i : ℕ) → i < length rs → valueIn s (rowAt i rs) ≡ getD vs i []
+valued-at : (s : List ℕ) (rs : List Row) (vs : List (List ℕ)) → Paired (Lies s) rs vs → (i : ℕ) → i < length rs → valueIn s (rowAt i rs) ≡ getD vs i []
 valued-at s [] vs h i l = absurd (omega arith)
 valued-at s (r ∷ rs) [] h i l = absurd h
 valued-at s (r ∷ rs) (v ∷ vs) h zero l =

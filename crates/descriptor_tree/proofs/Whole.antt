@@ -2,17 +2,17 @@
 use Prim.Native.Nat.{ℕ, _+_, _-_, _^_, _≤_, _<_}
 use mathlib.Core.Path.{_≡_, refl, sym, ap, ap₂, _∙_, subst}
 use mathlib.Core.List.{List, _∷_, _++_}
-use lib.Dec.{leb, eqb}
+use lib.Dec.{leb}
 use lib.ListN.{length, length-append}
 use borrow.Author.Tests.{leb-true, le-leb, eq-eqb}
 use native.Mathlib.Omega.{arith}
 use native.Mathlib.Nat.{zero-add}
 use Rattle.fields.specs.Numbers.{be, At, Bytes}
-use Rattle.fields.specs.Reader.{Res, ok, then, unless, judged, ended, limit}
+use Rattle.fields.specs.Reader.{Res, ok, then, judged, ended, limit}
 use Rattle.fields.proofs.Places.{length-be, at-in, at-left, at-after, at-next, at-all, at-whole}
 use Rattle.fields.proofs.Inverse.{then-inv, pick-inv, ended-inv}
 use Rattle.fields.proofs.Sets.{tag-numbers, number-whole, number-sound}
-use Rattle.descriptor.specs.Reading.{Row, headed, siblings, objectOf, item, root, whole, descriptor}
+use Rattle.descriptor.specs.Reading.{Row, headed, siblings, objectOf, item, version, root, whole, descriptor}
 use Rattle.descriptor_tree.specs.Grammar.{Class}
 use Rattle.descriptor_tree.specs.Tree.{Descriptor, count, bytes, rows, rootHead, fileBytes, fileRows, Place, Allowed, File, file}
 use Rattle.descriptor_tree.proofs.Tiling.{length-file}
@@ -75,7 +75,7 @@ file-reads t s f =
     class-at s (f .octets) (reader Place.pairs 32 0) 0 4 n (t .class) (f .fits) (f .class) (g .head)
     ∙ ap (λ (z : ℕ). siblings (reader Place.pairs 32 0) n 1 s z) (sym (length-root t)) ∙ x ∙ ap (λ (z : ℕ). ok kids z) (sym size) in
     let r : root s 0 ≡ ok (rowOf 0x4f62_6a63 32 0 0 4 (length s) ∷ kids) (length s) =
-    ap (λ (m : Res ℕ). then m (λ v e. headed 0x4f62_6a63 32 0 0 e (objectOf (item 32) 32 0 s e))) (number-whole 4 (tag-numbers s (f .octets) 4 16 3) 0 16 (omega arith) refl (g .version))
+    ap (λ (m : Res ℕ). then m (λ v e. headed 0x4f62_6a63 32 0 0 e (objectOf (item 32) 32 0 s e))) (number-whole 4 (tag-numbers s (f .octets) 4 16 _) 0 16 (omega arith) refl (g .version))
     ∙ ap (headed 0x4f62_6a63 32 0 0 4) y in
     let z : length s ≡ length (fileBytes t) = ap length (f .is) in
     rw (le-leb (length s) limit (f .short)) (rw r (rw (eq-eqb (length s) (length s) refl) (ap (λ (b : Row). ok (b ∷ kids) (length s)) (root-same 4 (length s) (length (fileBytes t)) refl z))))
@@ -87,8 +87,8 @@ file-sound s octets rs q h =
     let l = pick-inv (leb (length s) limit) (whole s 0) 1 0 0 0 h in
     let w = then-inv (root s 0) _ (l .1) in
     let i = ended-inv (w .0) s (w .1) (w .3) in
-    let v = then-inv (judged 4 (λ v. unless (eqb v 16) 3) s 0) _ (w .2) in
-    let a = number-sound 4 (tag-numbers s octets 4 16 3) 0 (v .0) (v .1) (omega arith) (v .2) in
+    let v = then-inv (judged 4 version s 0) _ (w .2) in
+    let a = number-sound 4 (tag-numbers s octets 4 16 _) 0 (v .0) (v .1) (omega arith) (v .2) in
     let y = headed-inv 0x4f62_6a63 32 0 0 (v .1) (objectOf (item 32) 32 0 s (v .1)) (v .3) in
     let u = class-inv s octets (reader Place.pairs 32 0) 0 (v .1) (a .inside) (y .1) in
     let b : List ℕ = u .0 in

@@ -2,3 +2,5 @@ pub mod Grammar
 pub mod Tree
 pub mod Promise
 pub mod Widths
+pub mod Damaged
+pub mod Typed
