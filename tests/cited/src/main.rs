@@ -3,6 +3,7 @@
 //! are fixed in docs/ARCHITECTURE.md.
 
 mod page;
+mod parts;
 mod tree;
 
 use page::Page;

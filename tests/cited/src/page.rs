@@ -1,7 +1,8 @@
 //! What a page cites, in the forms that docs/ARCHITECTURE.md fixes ("How these
 //! pages cite").
 
-use crate::tree::{is_name, Tree};
+use crate::parts::{parts_of, Part};
+use crate::tree::{is_name, Crate, Tree};
 
 /// The crates whose files a section of docs/PROMISES.md may name alone.
 const SECTIONS: [(&str, &[&str]); 7] = [
@@ -14,24 +15,18 @@ const SECTIONS: [(&str, &[&str]); 7] = [
     ("The readers' algebra", &["fields"]),
 ];
 
-/// A cell's parts: what stands in backquotes, a word, a comma or `and`, and any
-/// other sign that ends a list.
-#[derive(Clone, Copy, Debug, PartialEq)]
-enum Part<'a> {
-    Code(&'a str),
-    Word(&'a str),
-    And,
-    End,
-}
+/// A crate and a file of it.
+type File = (String, String);
 
 /// What the names that follow belong to.
 #[derive(Clone)]
 enum Holder {
     /// Any of the files.
-    Any(Vec<(String, String)>),
-    /// Each of the files, which are still being listed, or of which a name was cited.
-    Each(Vec<(String, String)>),
-    Named(Vec<(String, String)>),
+    Any(Vec<File>),
+    /// Each of the files, of which more may follow.
+    Each(Vec<File>),
+    /// Each of the files, of which a name was cited.
+    Named(Vec<File>),
     Code(String),
     Crate(String),
 }
@@ -109,11 +104,7 @@ impl<'a> Page<'a> {
             }
             let (holder, name) = edit.split_once('/').unwrap_or((of, edit));
             of = holder;
-            let there = self
-                .tree
-                .crates
-                .get(holder)
-                .is_some_and(|c| c.edits.contains(name));
+            let there = self.of(holder).is_some_and(|of| of.edits.contains(name));
             self.expect(there, edit, "no such must-fail edit");
         }
     }
@@ -139,30 +130,37 @@ impl<'a> Page<'a> {
         if names && self.tree.crates.contains_key(word) {
             return Some(Holder::Crate(word.into()));
         }
-        let files: Vec<(String, String)> = self.files_called(word);
+        let files = self.files_called(word);
         (names && !files.is_empty()).then_some(Holder::Any(files))
     }
 
-    /// The files of a name in the crates of the section, or in all.
-    fn files_called(&self, name: &str) -> Vec<(String, String)> {
-        let all = || self.tree.crates.keys().map(String::as_str).collect();
-        let crates: Vec<&str> = Some(self.section.to_vec())
-            .filter(|few| !few.is_empty())
-            .unwrap_or_else(all);
-        let has = |of: &&str| {
-            self.tree
+    /// The files of a name in the crates of the section, else in all.
+    fn files_called(&self, name: &str) -> Vec<File> {
+        let has = |of: &&str| self.of(of).is_some_and(|of| of.files.contains_key(name));
+        let mut found: Vec<&str> = self.section.iter().copied().filter(has).collect();
+        if found.is_empty() {
+            found = self
+                .tree
                 .crates
-                .get(*of)
-                .is_some_and(|c| c.files.contains_key(name))
-        };
-        let found = crates.into_iter().filter(has);
-        found.map(|of| (of.to_string(), name.to_string())).collect()
+                .keys()
+                .map(String::as_str)
+                .filter(has)
+                .collect();
+        }
+        found
+            .iter()
+            .map(|of| (of.to_string(), name.to_string()))
+            .collect()
+    }
+
+    fn of(&self, name: &str) -> Option<&'a Crate> {
+        self.tree.crates.get(name)
     }
 
     /// `crate/File`, `crate/edit` or a path; none where it is neither.
     fn slashed(&mut self, text: &str, before: &Option<Holder>) -> Option<Option<Holder>> {
         let (first, rest) = text.split_once('/')?;
-        if let Some(of) = self.tree.crates.get(first) {
+        if let Some(of) = self.of(first) {
             if ["src", "specs", "proofs", "must-fail"].contains(&rest.split('/').next()?) {
                 self.path(&format!("crates/{text}"));
             } else if rest.starts_with(|c: char| c.is_ascii_uppercase()) && is_name(rest) {
@@ -188,20 +186,14 @@ impl<'a> Page<'a> {
         None
     }
 
-    /// A path of the repository; one with a word in capitals stands for many.
+    /// A path of the repository; one with a part in capitals stands for many.
     fn path(&mut self, path: &str) {
         let path = path.split(char::is_whitespace).next().unwrap_or_default();
-        let many = |part: &str| {
-            part == "*" || part.len() > 1 && part.chars().all(|c| c.is_ascii_uppercase())
-        };
-        if path
-            .split(['/', '.'])
-            .any(|part| many(part) && part != "README")
-            && !path.ends_with(".md")
-        {
-            return;
+        let capitals = |part: &str| part.len() > 1 && part.chars().all(|c| c.is_ascii_uppercase());
+        let many = |part: &str| part == "*" || capitals(part);
+        if path.ends_with(".md") || !path.split(['/', '.']).any(many) {
+            self.expect(self.tree.root.join(path).exists(), path, "no such path");
         }
-        self.expect(self.tree.root.join(path).exists(), path, "no such path");
     }
 
     fn code(&mut self, code: &str, holder: Option<Holder>, from: &[Part]) -> Option<Holder> {
@@ -268,7 +260,7 @@ impl<'a> Page<'a> {
 
     fn name(&mut self, name: &str, holder: &Holder) {
         let crates = &self.tree.crates;
-        let in_file = |(of, file): &(String, String)| {
+        let in_file = |(of, file): &File| {
             let names = crates.get(of).and_then(|of| of.files.get(file));
             names.is_some_and(|names| names.contains(name))
         };
@@ -284,9 +276,9 @@ impl<'a> Page<'a> {
     /// A name by itself is a word of the sources. A plain word may be no name, and
     /// `x_` begins the crates of a format to come.
     fn anywhere(&mut self, name: &str) {
-        let marked = name.contains(['_', '-'])
-            || name.chars().skip(1).any(|c| c.is_ascii_uppercase())
-                && name.starts_with(|c: char| c.is_ascii_lowercase());
+        let capital = |c: char| c.is_ascii_uppercase();
+        let marked =
+            name.contains(['_', '-']) || !name.starts_with(capital) && name.contains(capital);
         if marked && !name.starts_with("x_") {
             self.expect(
                 self.tree.words.contains(name),
@@ -304,41 +296,10 @@ impl<'a> Page<'a> {
     }
 }
 
-fn shown(files: &[(String, String)]) -> String {
+fn shown(files: &[File]) -> String {
     let files: Vec<String> = files
         .iter()
         .map(|(of, file)| format!("{of}/{file}"))
         .collect();
     files.join(", ")
-}
-
-fn parts_of(cell: &str) -> Vec<Part<'_>> {
-    let mut parts = Vec::new();
-    for (i, piece) in cell.split('`').enumerate() {
-        if i % 2 == 1 {
-            parts.push(Part::Code(piece));
-            continue;
-        }
-        for word in piece.split_inclusive([' ', ',', ';', '(', ')', '[', ']', ':']) {
-            let sign = word.chars().last().filter(|c| !c.is_alphanumeric());
-            let plain = word.trim_end_matches([' ', ',', ';', '(', ')', '[', ']', '.']);
-            let plain = plain
-                .strip_suffix(':')
-                .filter(|_| sign == Some(':'))
-                .unwrap_or(plain);
-            match plain {
-                "" => {}
-                "and" => parts.push(Part::And),
-                _ => parts.push(Part::Word(plain)),
-            }
-            let ended = word.trim_end().ends_with(['.', ';', '(', ')', '[', ']']);
-            match sign {
-                _ if ended => parts.push(Part::End),
-                Some(',') => parts.push(Part::And),
-                Some(':') => parts.push(Part::End),
-                _ => {}
-            }
-        }
-    }
-    parts
 }
