@@ -1,4 +1,4 @@
-//! Every definition, theorem, function, must-fail edit and path that README.md,
+//! Every definition, theorem, function, must-fail edit, rule and path that README.md,
 //! tests/README.md and the pages under docs/ cite is there. The forms of citing
 //! are fixed in docs/ARCHITECTURE.md.
 
@@ -61,6 +61,8 @@ fn missing_is_seen(tree: &Tree) {
         (false, "aco/one_colour_less"),
         (false, "`no-such-theorem`"),
         (false, "`noSuchDefinition`"),
+        (true, "by A19 and G1"),
+        (false, "by A19, A99"),
         (false, "docs/NOTHING.md"),
         (false, "`aco/proofs/judge/Proof.antt`"),
         (true, "| A1 | colour | Must-fail edit |\n|---|---|---|\n| A2 | | aco/one_colour_more, names_after_colours |"),

@@ -126,6 +126,10 @@ impl<'a> Page<'a> {
         if let Some(found) = self.slashed(word, &holder) {
             return found;
         }
+        if is_rule(word) {
+            self.expect(self.tree.rules.contains(word), word, "no such rule");
+            return None;
+        }
         let names = matches!(after.first(), Some(Part::Code(_)));
         if names && self.tree.crates.contains_key(word) {
             return Some(Holder::Crate(word.into()));
@@ -294,6 +298,14 @@ impl<'a> Page<'a> {
             self.missing.push(format!("{what}: {missing}"));
         }
     }
+}
+
+/// A letter and one or two digits.
+fn is_rule(word: &str) -> bool {
+    let digits = word
+        .strip_prefix(|c: char| c.is_ascii_uppercase())
+        .unwrap_or_default();
+    matches!(digits.len(), 1..=2) && digits.chars().all(|c| c.is_ascii_digit())
 }
 
 fn shown(files: &[File]) -> String {

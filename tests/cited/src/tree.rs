@@ -22,6 +22,8 @@ pub struct Tree {
     pub root: PathBuf,
     pub crates: BTreeMap<String, Crate>,
     pub words: Names,
+    /// The rules that docs/RULES.md numbers.
+    pub rules: Names,
 }
 
 impl Crate {
@@ -37,6 +39,7 @@ impl Tree {
             root: root.into(),
             crates: BTreeMap::new(),
             words: Names::new(),
+            rules: rules(&root.join("docs/RULES.md")),
         };
         for folder in entries(&root.join("crates")) {
             let name = file_name(&folder);
@@ -93,6 +96,15 @@ impl Tree {
         self.words.extend(words.map(String::from));
         text
     }
+}
+
+/// The numbers at the heads of rules, `- **A19** ..`.
+fn rules(path: &Path) -> Names {
+    let text = fs::read_to_string(path).expect("the rules");
+    let heads = text
+        .lines()
+        .filter_map(|line| line.strip_prefix("- **")?.split_once("**"));
+    heads.map(|(number, _)| number.to_string()).collect()
 }
 
 /// The names that a line of a definition file declares: `name : type`, also of a
