@@ -1,9 +1,19 @@
 /* Khuyurek for C: colour files judged, read and written.
  *
  * Link target/staticlib/libkhuyurek.a, which `rt staticlib khuyurek` makes.
- * No call allocates, keeps a pointer or changes a buffer on a refusal. A pointer
- * is aligned and not null even where its length is 0. docs/INTERFACE.md has every
- * function with its refusals, and examples/list_palette.c a program.
+ * No call allocates, keeps a pointer or changes a buffer on a refusal.
+ * docs/INTERFACE.md has every function with its refusals, and
+ * examples/list_palette.c a program.
+ *
+ * A buffer is a pointer and the number of its elements. What a caller owes:
+ * - so many elements are there for the whole call, aligned for their type;
+ * - a buffer that is written, a table or an output, overlaps no other buffer of
+ *   its call; those that are only read may overlap;
+ * - no pointer is null, also where the number is 0: in the library a buffer is a
+ *   reference, which never is null, and its compiler may count on that. For an
+ *   empty buffer pass the address of any object of the type; it is neither read
+ *   nor written. (malloc(0) may give null: ask for one element more.)
+ * All else is judged by the call: any contents, any number, any place.
  */
 #ifndef KHUYUREK_H
 #define KHUYUREK_H
@@ -14,6 +24,37 @@
 #ifdef __cplusplus
 extern "C" {
 #endif
+
+/* What the number of an answer says: accepted, or why a file or a run is refused. */
+#define KHUYUREK_ACCEPTED 0u
+/* the file read, or the output to be written, is longer than the limit */
+#define KHUYUREK_TOO_LONG 1u
+/* a field needs more bytes than remain */
+#define KHUYUREK_CUT 2u
+/* wrong signature, version or closing tag */
+#define KHUYUREK_WRONG_MARK 3u
+/* unknown colour space, block type, model, item type, form or unit */
+#define KHUYUREK_UNKNOWN 4u
+/* a field outside its stated range */
+#define KHUYUREK_OUT_OF_RANGE 5u
+/* bytes left over after the end */
+#define KHUYUREK_LEFT_OVER 6u
+/* the two ACO lists disagree */
+#define KHUYUREK_LISTS_DISAGREE 7u
+/* a name badly closed */
+#define KHUYUREK_BADLY_CLOSED 8u
+/* groups unbalanced */
+#define KHUYUREK_UNBALANCED 9u
+/* nested too deep */
+#define KHUYUREK_TOO_DEEP 10u
+/* the lent output is shorter than the exact need */
+#define KHUYUREK_NO_ROOM 11u
+/* no record or page of that number */
+#define KHUYUREK_NO_RECORD 12u
+/* ASE block length disagrees with its content */
+#define KHUYUREK_LENGTH_DISAGREES 13u
+/* colour has no counterpart in the other format */
+#define KHUYUREK_NO_COUNTERPART 14u
 
 /* The longest file that is taken or written, in bytes: a longer one is 1. */
 #define KHUYUREK_LIMIT 16777216u
@@ -302,7 +343,8 @@ typedef struct {
 khuyurek_descriptor_answer khuyurek_descriptor_judge(const uint8_t *file, size_t file_len);
 
 /* Needs KHUYUREK_DESCRIPTOR_WIDTH * rows numbers of the table, else 11; the rest of it
- * keeps its contents. */
+ * keeps its contents. A file has at most file_len / 5 rows, so that a table of
+ * KHUYUREK_DESCRIPTOR_WIDTH * (file_len / 5) numbers is never refused for room. */
 khuyurek_descriptor_answer khuyurek_descriptor_read(const uint8_t *file, size_t file_len,
                                                     uint32_t *table, size_t table_len);
 

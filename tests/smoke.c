@@ -1,7 +1,8 @@
 /* The header and the archive from C: P3, P6 and a book of one Lab colour are read, listed by their
  * record and written back; P4 is refused with its record and field, P7 with its place, a group left
  * open and a tag that is none by the writer; the book's colour, full name and page are shown; P12 is
- * read into its rows; P3 and P6 are walked; a few samples and channels are converted. */
+ * read into its rows; P3 and P6 are walked; a few samples and channels are converted, and those that
+ * are refused are refused by their numbers. */
 #include <stdio.h>
 #include <string.h>
 
@@ -37,7 +38,7 @@ static const uint8_t P12[40] = {
 };
 
 /* The tags `RGB `, `CMYK` and `Gray` and the kinds `bool` and `VlLs` as numbers, and the bits of
- * two channels. */
+ * three channels. */
 #define RGB_MODEL 0x52474220u
 #define CMYK_MODEL 0x434D594Bu
 #define GRAY_MODEL 0x47726179u
@@ -45,6 +46,7 @@ static const uint8_t P12[40] = {
 #define LIST_KIND 0x566C4C73u
 #define HALF 0x3F000000u
 #define ONE 0x3F800000u
+#define NAN_BITS 0x7FC00000u
 
 #define CHECK(test)                                          \
     do {                                                     \
@@ -68,7 +70,7 @@ static int aco(void) {
     khuyurek_aco_record record = khuyurek_aco_record_at(P3, sizeof P3, 0);
     CHECK(record.number == 0 && record.space == 0 && record.samples[2] == 32896);
     CHECK(record.name == 32 && record.units == 1);
-    CHECK(khuyurek_aco_record_at(P3, sizeof P3, 1).number == 12);
+    CHECK(khuyurek_aco_record_at(P3, sizeof P3, 1).number == KHUYUREK_NO_RECORD);
 
     CHECK(khuyurek_aco_length(table, KHUYUREK_ACO_WIDTH, P3, sizeof P3).length == sizeof P3);
     khuyurek_length written =
@@ -80,7 +82,8 @@ static int aco(void) {
     memcpy(p4, P3, sizeof P3);
     p4[25] = 0x81;
     khuyurek_aco_answer differs = khuyurek_aco_judge(p4, sizeof p4);
-    CHECK(differs.number == 7 && differs.place == 24 && differs.record == 0 && differs.field == 3);
+    CHECK(differs.number == KHUYUREK_LISTS_DISAGREE && differs.place == 24);
+    CHECK(differs.record == 0 && differs.field == 3);
     return 0;
 }
 
@@ -95,12 +98,13 @@ static int ase(void) {
     CHECK(table[0] == 1 && table[1] == 20 && table[2] == 0 && table[3] == GRAY_MODEL);
     CHECK(table[4] == ONE && table[5] == 0 && table[6] == 0 && table[7] == 0 && table[8] == 2);
     CHECK(table[KHUYUREK_ASE_WIDTH] == 99);
-    CHECK(khuyurek_ase_read(P6, sizeof P6, table, KHUYUREK_ASE_WIDTH - 1).number == 11);
+    CHECK(khuyurek_ase_read(P6, sizeof P6, table, KHUYUREK_ASE_WIDTH - 1).number
+          == KHUYUREK_NO_ROOM);
 
     khuyurek_ase_record record = khuyurek_ase_record_at(P6, sizeof P6, 0);
     CHECK(record.number == 0 && record.block == 1 && record.name == 20 && record.units == 0);
     CHECK(record.model == GRAY_MODEL && record.channels[0] == ONE && record.type == 2);
-    CHECK(khuyurek_ase_record_at(P6, sizeof P6, 1).number == 12);
+    CHECK(khuyurek_ase_record_at(P6, sizeof P6, 1).number == KHUYUREK_NO_RECORD);
 
     CHECK(khuyurek_ase_length(table, KHUYUREK_ASE_WIDTH, P6, sizeof P6).length == sizeof P6);
     khuyurek_length written =
@@ -108,13 +112,15 @@ static int ase(void) {
     CHECK(written.number == 0 && written.length == sizeof P6);
     CHECK(memcmp(out, P6, sizeof P6) == 0 && out[32] == 7);
     table[0] = 0xC001;
-    CHECK(khuyurek_ase_length(table, KHUYUREK_ASE_WIDTH, P6, sizeof P6).number == 9);
+    CHECK(khuyurek_ase_length(table, KHUYUREK_ASE_WIDTH, P6, sizeof P6).number
+          == KHUYUREK_UNBALANCED);
 
     uint8_t p7[sizeof P6 + 1] = {0};
     memcpy(p7, P6, sizeof P6);
     p7[17] = 0x0F;
     khuyurek_ase_answer longer = khuyurek_ase_judge(p7, sizeof p7);
-    CHECK(longer.number == 13 && longer.place == 14 && longer.blocks == 0 && longer.colours == 0);
+    CHECK(longer.number == KHUYUREK_LENGTH_DISAGREES && longer.place == 14);
+    CHECK(longer.blocks == 0 && longer.colours == 0);
     return 0;
 }
 
@@ -133,12 +139,13 @@ static int acb(void) {
     CHECK(table[0] == 48 && table[1] == 1 && table[4] == 0x6E);
     CHECK(table[8] == 0xF8 && table[9] == 0x7B && table[10] == 0x7B && table[11] == 0);
     CHECK(table[KHUYUREK_ACB_WIDTH] == 99);
-    CHECK(khuyurek_acb_read(BOOK, sizeof BOOK, table, KHUYUREK_ACB_WIDTH - 1).number == 11);
+    CHECK(khuyurek_acb_read(BOOK, sizeof BOOK, table, KHUYUREK_ACB_WIDTH - 1).number
+          == KHUYUREK_NO_ROOM);
 
     khuyurek_acb_record record = khuyurek_acb_record_at(BOOK, sizeof BOOK, 0);
     CHECK(record.number == 0 && record.name == 48 && record.units == 1);
     CHECK(record.code[2] == 0x6E && record.components[0] == 0xF8);
-    CHECK(khuyurek_acb_record_at(BOOK, sizeof BOOK, 1).number == 12);
+    CHECK(khuyurek_acb_record_at(BOOK, sizeof BOOK, 1).number == KHUYUREK_NO_RECORD);
 
     khuyurek_acb_shown shown = khuyurek_acb_shown_at(BOOK, sizeof BOOK, 0);
     CHECK(shown.number == 0 && shown.count == 3);
@@ -150,12 +157,13 @@ static int acb(void) {
     CHECK(out[1] == 0x6E && out[3] == 0x7A && out[4] == 7);
     khuyurek_acb_page page = khuyurek_acb_page_at(BOOK, sizeof BOOK, 0);
     CHECK(page.number == 0 && page.record == 0);
-    CHECK(khuyurek_acb_page_at(BOOK, sizeof BOOK, 1).number == 12);
+    CHECK(khuyurek_acb_page_at(BOOK, sizeof BOOK, 1).number == KHUYUREK_NO_RECORD);
     CHECK(khuyurek_acb_shown_component(read.header.space, 1, 0x7B) == -5);
     page = khuyurek_acb_page_in(table, KHUYUREK_ACB_WIDTH, read.count, read.header.page_size,
                                 read.header.page_offset, 0);
     CHECK(page.number == 0 && page.record == 0);
-    CHECK(khuyurek_acb_page_in(table, KHUYUREK_ACB_WIDTH - 1, 1, 1, 0, 0).number == 12);
+    CHECK(khuyurek_acb_page_in(table, KHUYUREK_ACB_WIDTH - 1, 1, 1, 0, 0).number
+          == KHUYUREK_NO_RECORD);
 
     CHECK(khuyurek_acb_length(read.header, table, KHUYUREK_ACB_WIDTH, BOOK, sizeof BOOK).length
           == sizeof BOOK);
@@ -165,9 +173,9 @@ static int acb(void) {
     CHECK(memcmp(out, BOOK, sizeof BOOK) == 0 && out[sizeof BOOK] == 7);
     read.header.tag = 3;
     CHECK(khuyurek_acb_length(read.header, table, KHUYUREK_ACB_WIDTH, BOOK, sizeof BOOK).number
-          == 3);
+          == KHUYUREK_WRONG_MARK);
     khuyurek_acb_answer cut = khuyurek_acb_judge(BOOK, sizeof BOOK - 1);
-    CHECK(cut.number == 2 && cut.place == 59 && cut.count == 0 && cut.header.space == 0);
+    CHECK(cut.number == KHUYUREK_CUT && cut.place == 59 && cut.count == 0 && cut.header.space == 0);
     return 0;
 }
 
@@ -184,17 +192,20 @@ static int descriptor(void) {
     const uint32_t *last = table + 3 * KHUYUREK_DESCRIPTOR_WIDTH;
     CHECK(last[0] == BOOL_KIND && last[1] == 1 && last[2] == 35 && last[3] == 5 && last[4] == 2);
     CHECK(table[4 * KHUYUREK_DESCRIPTOR_WIDTH] == 99);
+    /* As many rows as any file of this length has. */
+    uint32_t most[KHUYUREK_DESCRIPTOR_WIDTH * (sizeof P12 / 5)];
+    CHECK(khuyurek_descriptor_read(P12, sizeof P12, most, sizeof most / sizeof *most).rows == 4);
     CHECK(khuyurek_descriptor_read(P12, sizeof P12, table, 4 * KHUYUREK_DESCRIPTOR_WIDTH - 1).number
-          == 11);
+          == KHUYUREK_NO_ROOM);
 
     khuyurek_descriptor_value value = khuyurek_descriptor_value_at(P12, sizeof P12, 1);
     CHECK(value.number == 0 && value.first == 26 && value.length == 14);
     khuyurek_descriptor_typed typed = khuyurek_descriptor_typed_at(P12, sizeof P12, 3);
     CHECK(typed.number == 0 && typed.kind == BOOL_KIND && typed.unit == 0 && typed.bits == 1);
     CHECK(khuyurek_descriptor_typed_at(P12, sizeof P12, 1).kind == 0);
-    CHECK(khuyurek_descriptor_typed_at(P12, sizeof P12, 4).number == 12);
+    CHECK(khuyurek_descriptor_typed_at(P12, sizeof P12, 4).number == KHUYUREK_NO_RECORD);
     khuyurek_descriptor_answer cut = khuyurek_descriptor_judge(P12, sizeof P12 - 1);
-    CHECK(cut.number == 2 && cut.place == 39 && cut.rows == 0);
+    CHECK(cut.number == KHUYUREK_CUT && cut.place == 39 && cut.rows == 0);
     return 0;
 }
 
@@ -208,7 +219,7 @@ static int walks(void) {
     khuyurek_aco_step end = khuyurek_aco_walk(P3, sizeof P3, swatch.next);
     CHECK(end.number == 0 && end.done == 1 && end.next == sizeof P3 && end.samples[0] == 0);
     khuyurek_aco_step lost = khuyurek_aco_walk(P3, sizeof P3, sizeof P3 + 1);
-    CHECK(lost.number == 5 && lost.done == 0);
+    CHECK(lost.number == KHUYUREK_OUT_OF_RANGE && lost.done == 0);
 
     khuyurek_ase_start ase = khuyurek_ase_walk_start(P6, sizeof P6);
     CHECK(ase.number == 0 && ase.place == 0 && ase.at == 12);
@@ -219,7 +230,7 @@ static int walks(void) {
     CHECK(khuyurek_ase_walk(P6, sizeof P6, colour.next).done == 1);
     khuyurek_ase_step block = khuyurek_ase_walk_block(P6, sizeof P6, ase.at);
     CHECK(block.block == KHUYUREK_ASE_COLOUR && block.next == sizeof P6);
-    CHECK(khuyurek_ase_walk_start(P6, sizeof P6 - 1).number == 2);
+    CHECK(khuyurek_ase_walk_start(P6, sizeof P6 - 1).number == KHUYUREK_CUT);
     return 0;
 }
 
@@ -231,7 +242,13 @@ static int conversions(void) {
     khuyurek_channel gray = khuyurek_to_channel(8, 65535);
     CHECK(gray.number == 0 && gray.bits == ONE);
     khuyurek_channel unknown = khuyurek_to_channel(3, 65535);
-    CHECK(unknown.number == 4 && unknown.bits == 0);
+    CHECK(unknown.number == KHUYUREK_UNKNOWN && unknown.bits == 0);
+    CHECK(khuyurek_to_channel(1, 0).number == KHUYUREK_NO_COUNTERPART);
+    CHECK(khuyurek_to_channel(7, 0).number == KHUYUREK_NO_COUNTERPART);
+    CHECK(khuyurek_to_sample(0, NAN_BITS).number == KHUYUREK_UNKNOWN);
+    CHECK(khuyurek_to_sample(KHUYUREK_LAB, NAN_BITS).number == KHUYUREK_OUT_OF_RANGE);
+    CHECK(khuyurek_to_sample(KHUYUREK_LAB, HALF).number == KHUYUREK_NO_COUNTERPART);
+    CHECK(khuyurek_to_sample(RGB_MODEL, ONE + 1).number == KHUYUREK_OUT_OF_RANGE);
     return 0;
 }
 

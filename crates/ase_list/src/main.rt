@@ -1,7 +1,7 @@
 // Lists the ASE file on standard input: its header, a line a block, `end`; or the refusal.
 ghost use mathlib.Core.Path.{_≡_};
-ghost use Prim.Native.Nat.{_≤_};
-ghost use lib.ListN.{take};
+ghost use Prim.Native.Nat.{_≤_, _<_};
+ghost use lib.ListN.{length, take};
 ghost use Rattle.fields.specs.Numbers.{joined};
 ghost use Rattle.ase.specs.Reading.{ase};
 ghost use Rattle.ase_walk.specs.Walking.{firstPlace, blockWalk};
@@ -141,10 +141,19 @@ fn put_listing(out: &mut [u8], file: &[u8]) -> usize
     }
 }
 
+// Takes standard input. The buffer has room for a byte more than is listed, so that a longer input is
+// not cut to one that is.
+fn take_file(input: &mut [u8]) -> usize
+    requires { ⌜ 65536 < length (now input) ⌝ }
+    ensures { λ r. ⌜ (r ≤ length (now (input .exit))) × (r ≡ length (take r (now (input .exit)))) ⌝ }
+{
+    take_input(input)
+}
+
 fn main() {
-    let mut input = [0u8; 65537];
+    let mut input = [0u8; TAKEN + 1];
     let mut out = [0u8; 16384];
-    let n = take_input(&mut input);
+    let n = take_file(&mut input);
     let full = put_listing(&mut out, &input[..n]);
     finish(&out, full);
 }

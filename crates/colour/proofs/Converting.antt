@@ -6,10 +6,9 @@ use native.Mathlib.Omega.{arith}
 use borrow.Author.Tests.{ne-eqb}
 use lib.Dec.{T}
 use lib.Ieee.{Float, binary32, ofBits}
-use Rattle.fields.specs.Reader.{pick}
 use Rattle.colour.specs.Spaces.{full, known}
 use Rattle.colour.specs.Channels.{inUnit, allows, channelOf}
-use Rattle.colour.specs.Convert.{Converted, gives, refused, toChannel, sampleOn, sampleIn}
+use Rattle.colour.specs.Convert.{Converted, gives, refused, unmatched, toChannel, sampleOn, sampleBy, sampleIn}
 use Rattle.colour.specs.declared.model.Model.{Model}
 use Rattle.colour.proofs.Unit.{unit-bits}
 
@@ -33,17 +32,17 @@ pub gray-channel : (x f v : ℕ) (q : Float) → x ≡ 8 → f ≡ full x → q 
 unfolding toChannel
 gray-channel x f v q k e h = ap gives (h ∙ ap (λ (n : ℕ). channelOf n v) e) ∙ rw k
 
-pub other-channel : (x v : ℕ) (b : Bool) → (x ≡ 0 → ⊥) → (x ≡ 2 → ⊥) → (x ≡ 8 → ⊥) → known x ≡ b → refused (pick b 14 4) 0 ≡ toChannel x v
+pub other-channel : (x v : ℕ) (b : Bool) → (x ≡ 0 → ⊥) → (x ≡ 2 → ⊥) → (x ≡ 8 → ⊥) → known x ≡ b → refused (unmatched b) 0 ≡ toChannel x v
 unfolding toChannel
 other-channel x v b p q r e = rw (ne-eqb x 0 p, ne-eqb x 2 q, ne-eqb x 8 r, e)
 
 -- ---- a channel to a sample
 
-pub refused-in : (m : Model) (x : Float) → allows m x ≡ false → refused 5 0 ≡ sampleIn m x
-refused-in m x e = ap (λ (t : Bool). pick t (sampleOn m x) (refused 5 0)) (sym e)
+pub refused-in : (m : Model) (x : Float) → allows m x ≡ false → sampleBy false m x ≡ sampleIn m x
+refused-in m x e = ap (λ (t : Bool). sampleBy t m x) (sym e)
 
 pub given-in : (m n : Model) (x : Float) (s : Converted ℕ) → m ≡ n → allows m x ≡ true → s ≡ sampleOn n x → s ≡ sampleIn m x
-given-in m n x s g e h = h ∙ ap (λ (k : Model). sampleOn k x) (sym g) ∙ ap (λ (t : Bool). pick t (sampleOn m x) (refused 5 0)) (sym e)
+given-in m n x s g e h = h ∙ ap (λ (k : Model). sampleOn k x) (sym g) ∙ ap (λ (t : Bool). sampleBy t m x) (sym e)
 
 pub allows-same : (m n : Model) (x : Float) → m ≡ n → allows m x ≡ true → allows n x ≡ true
 allows-same m n x g e = ap (λ (k : Model). allows k x) (sym g) ∙ e

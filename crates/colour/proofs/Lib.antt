@@ -8,3 +8,4 @@ pub mod Models
 pub mod Kept
 pub mod Converting
 pub mod Theorems
+pub mod Refused

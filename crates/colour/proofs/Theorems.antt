@@ -10,11 +10,10 @@ use lib.Pow.{pow-pos}
 use lib.Ieee.{binary32, ofBits, toBits, ofInt, round, le, lt, eq}
 use lib.Ieee.Bits.{is-true, ofBits-toBits}
 use lib.Ieee.Fits.{div-fits}
-use Rattle.fields.specs.Reader.{pick}
 use Rattle.colour.specs.Models.{traitsOf, modelOf}
 use Rattle.colour.specs.Spaces.{full}
 use Rattle.colour.specs.Channels.{inUnit, allows, channelOf, nearestUp, sampleOf}
-use Rattle.colour.specs.Convert.{gives, refused, toChannel, toSample, sampleIn, sampleOn, back, Counterparts, lights, inks, grays}
+use Rattle.colour.specs.Convert.{gives, toChannel, toSample, sampleBy, sampleIn, sampleOn, back, Counterparts, lights, inks, grays}
 use Rattle.colour.specs.declared.model.Model.{Model}
 use Rattle.colour.specs.declared.model.Model.the-variants.{Rgb, Cmyk, Gray}
 use Rattle.colour.proofs.Return.{samples-return, channel-in, channel-is}
@@ -48,7 +47,7 @@ in-unit : (n s : ℕ) → 0 < n → n < 2 ^ 23 → s ≤ n → inUnit (channelOf
 in-unit n s N few most = is-true (inUnit (channelOf n s)) (channel-in n s N few most)
 
 allowed-back : (m : Model) (n s : ℕ) → allows m (channelOf n s) ≡ true → sampleIn m (ofBits binary32 (toBits binary32 (channelOf n s))) ≡ sampleOn m (channelOf n s)
-allowed-back m n s e = ap (sampleIn m) (same-bits n s) ∙ ap (λ (t : Bool). pick t (sampleOn m (channelOf n s)) (refused 5 0)) e
+allowed-back m n s e = ap (sampleIn m) (same-bits n s) ∙ ap (λ (t : Bool). sampleBy t m (channelOf n s)) e
 
 pub all-return : {x : ℕ} {m : Model} → Counterparts x m → (v : ℕ) → v ≤ full x → back (traitsOf m .tag) (toChannel x v) ≡ gives v
 unfolding toChannel modelOf full

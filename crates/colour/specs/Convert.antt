@@ -1,5 +1,6 @@
 -- Samples and channels: one sample of a space to a channel, and one channel of a model to a sample.
 use Prim.Native.Nat.{ℕ, _-_}
+use mathlib.Core.Bool.{Bool}
 use lib.Dec.{eqb}
 use lib.Ieee.{Float, binary32, ofBits, toBits}
 use Rattle.fields.specs.Reader.{pick}
@@ -20,14 +21,17 @@ pub data Converted (A : Type 0) : Type 0 where
   gives : A → Converted A
   refused : ℕ → ℕ → Converted A
 
+-- of a space without a model: a known one has no counterpart, 14; an unknown one is 4
+abbrev pub unmatched : Bool → ℕ
+unmatched isKnown = pick isKnown 14 4
+
 -- RGB and gray: the sample as a channel. CMYK: what is left of the full scale, since ACO counts 0 as full ink.
--- The other known spaces have no counterpart, 14; an unknown one is 4
 unfoldable pub toChannel : ℕ → ℕ → Converted Float
 toChannel x v =
     pick (eqb x rgb) (gives (channelOf (full x) v))
     (pick (eqb x cmyk) (gives (channelOf (full x) (full x - v)))
     (pick (eqb x gray) (gives (channelOf (full x) v))
-    (refused (pick (known x) 14 4) 0)))
+    (refused (unmatched (known x)) 0)))
 
 -- a channel that the model allows: the nearest sample, in CMYK then taken from the full scale; Lab has no counterpart, 14
 abbrev pub sampleOn : Model → Float → Converted ℕ
@@ -36,9 +40,12 @@ sampleOn Cmyk x = gives (traitsOf Cmyk .full - sampleOf (traitsOf Cmyk .full) x)
 sampleOn Lab x = refused 14 0
 sampleOn Gray x = gives (sampleOf (traitsOf Gray .full) x)
 
--- 5 where it does not
+-- by whether the model allows it; 5 where it does not
+abbrev pub sampleBy : Bool → Model → Float → Converted ℕ
+sampleBy allowed m x = pick allowed (sampleOn m x) (refused 5 0)
+
 abbrev pub sampleIn : Model → Float → Converted ℕ
-sampleIn m x = pick (allows m x) (sampleOn m x) (refused 5 0)
+sampleIn m x = sampleBy (allows m x) m x
 
 -- before all that, 4 where no model has the tag
 abbrev pub sampleFound : Known → Float → Converted ℕ

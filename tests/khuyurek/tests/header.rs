@@ -69,6 +69,43 @@ fn widths_and_limit_are_the_librarys() {
     }
 }
 
+/// The header and docs/INTERFACE.md name the refusals of README's table, in its words.
+#[test]
+fn refusals_are_the_tables() {
+    let header = source("include/khuyurek.h");
+    let interface = source("docs/INTERFACE.md");
+    for (number, sentence) in refusals() {
+        let comment = format!("/* {sentence} */");
+        let mut lines = header.lines().skip_while(|line| *line != comment).skip(1);
+        let named = lines.next().unwrap_or_else(|| panic!("no {comment}"));
+        let name = named
+            .strip_prefix("#define ")
+            .and_then(|after| after.strip_suffix(&format!(" {number}u")));
+        let name = name.unwrap_or_else(|| panic!("{named} is not {number}"));
+        let row = format!("| {number} | `{name}` | {sentence}");
+        assert!(
+            interface.lines().any(|line| line.starts_with(&row)),
+            "{row}"
+        );
+    }
+}
+
+/// The numbers of README's table with their sentences, 0 left out.
+fn refusals() -> Vec<(usize, String)> {
+    let readme = source("README.md");
+    let (_, table) = readme
+        .split_once("\n## Refusals\n")
+        .expect("a table of refusals");
+    let rows = table
+        .lines()
+        .filter_map(|line| line.strip_prefix("| ")?.strip_suffix(" |"));
+    let rows = rows.filter_map(|row| row.split_once(" | "));
+    let rows = rows.filter_map(|(number, sentence)| Some((number.parse().ok()?, sentence.into())));
+    let rows: Vec<(usize, String)> = rows.filter(|(number, _)| *number != 0).collect();
+    assert!(rows.iter().map(|(number, _)| *number).eq(1..=14));
+    rows
+}
+
 /// A difference in a name, an order or a type is seen.
 #[test]
 fn differences_are_seen() {

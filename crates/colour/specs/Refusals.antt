@@ -1,0 +1,53 @@
+-- Which refusal a conversion gives, by spaces, tags and bits alone: nothing here converts, and the tables are its own.
+use Prim.Native.Nat.{ℕ, _%_, _≤_, _<_}
+use mathlib.Core.Path.{_≡_}
+
+-- ---- a sample of a space
+
+-- the spaces that have a model: RGB, CMYK, gray
+pub data Matched : ℕ → Type 0 where
+  rgb : Matched 0
+  cmyk : Matched 2
+  gray : Matched 8
+
+-- a space that is none of the five
+pub record UnknownSpace (x : ℕ) : Type 0 where
+  pub no-rgb : x ≡ 0 → ⊥
+  pub no-hsb : x ≡ 1 → ⊥
+  pub no-cmyk : x ≡ 2 → ⊥
+  pub no-lab : x ≡ 7 → ⊥
+  pub no-gray : x ≡ 8 → ⊥
+
+-- a space and the refusal of each of its samples
+pub data SampleRefused : ℕ → ℕ → Type 0 where
+  unknown : {x : ℕ} → UnknownSpace x → SampleRefused x 4
+  hsb : SampleRefused 1 14
+  lab : SampleRefused 7 14
+
+-- ---- a channel of a model, by its bits
+
+-- the models that have a space: `RGB `, `CMYK`, `Gray`
+pub data Tagged : ℕ → Type 0 where
+  rgb : Tagged 0x5247_4220
+  cmyk : Tagged 0x434D_594B
+  gray : Tagged 0x4772_6179
+
+-- a tag that is none of these and not `LAB `
+pub record UnknownModel (t : ℕ) : Type 0 where
+  pub no-rgb : t ≡ 0x5247_4220 → ⊥
+  pub no-cmyk : t ≡ 0x434D_594B → ⊥
+  pub no-lab : t ≡ 0x4C41_4220 → ⊥
+  pub no-gray : t ≡ 0x4772_6179 → ⊥
+
+-- a tag, the bits of a channel, and its refusal. Above 3F800000, which is 1, stand the floats above 1, the infinities, the NaNs and all that have a sign;
+-- of these only minus zero is from 0 to 1. Without the sign, an infinity and the NaNs stand from 7F800000 on
+pub data ChannelRefused : ℕ → ℕ → ℕ → Type 0 where
+  unknown : {t b : ℕ} → UnknownModel t → ChannelRefused t b 4
+  outside : {t b : ℕ} → Tagged t → 0x3F80_0000 < b → (b ≡ 0x8000_0000 → ⊥) → ChannelRefused t b 5
+  endless : {b : ℕ} → 0x7F80_0000 ≤ b % 0x8000_0000 → ChannelRefused 0x4C41_4220 b 5
+  lab : {b : ℕ} → b % 0x8000_0000 < 0x7F80_0000 → ChannelRefused 0x4C41_4220 b 14
+
+-- a tag and the bits of a channel that has a sample
+pub data ChannelGiven : ℕ → ℕ → Type 0 where
+  unit : {t b : ℕ} → Tagged t → b ≤ 0x3F80_0000 → ChannelGiven t b
+  minus : {t : ℕ} → Tagged t → ChannelGiven t 0x8000_0000
