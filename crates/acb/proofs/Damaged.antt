@@ -8,7 +8,7 @@ use borrow.Author.Tests.{le-leb, ne-eqb}
 use native.Mathlib.Omega.{arith}
 use Rattle.fields.specs.Numbers.{be, joined, At, Bytes}
 use Rattle.fields.specs.Reader.{ok, refuse, field, fault, judged}
-use Rattle.fields.proofs.Laws.{field-short, judged-bad, judged-short}
+use Rattle.fields.proofs.Laws.{judged-bad}
 use Rattle.fields.proofs.Places.{length-be, at-left, at-right, at-after}
 use Rattle.fields.proofs.Cuts.{judged-reads}
 use Rattle.fields.proofs.Sequence.{field-exact}
@@ -118,9 +118,3 @@ module _ (s : List ℕ) (bytes : Bytes s) where
   other-stops v at u h more =
       let wrong : tag v ≡ fault 3 0 0 = rw (no-tag v u) in
       rw (ne-eqb at (length s) (λ z. omega arith)) (rw (judged-bad 8 s at tag 3 0 0 (sym (field-reads 8 at v (u .small) h)) wrong))
-
-  -- one to seven bytes are 2 there
-  pub short-stops : (at : ℕ) → at < length s → length s < at + 8 → closing s at ≡ refuse 2 at 0 0
-  unfolding closing
-  short-stops at more less =
-      rw (ne-eqb at (length s) (λ z. omega arith)) (rw (judged-short 8 s at tag (sym (field-short 8 s at (omega arith)))))

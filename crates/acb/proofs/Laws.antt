@@ -5,18 +5,21 @@ use mathlib.Core.List.{List, [], _++_, map, append-nil}
 use mathlib.Core.Bool.{Bool, true, false}
 use lib.Dec.{ltb, eqb}
 use lib.ListN.{length, length-append}
-use borrow.Author.Tests.{eqb-true, ltb-true, lt-ltb}
+use borrow.Author.Tests.{eqb-true, ltb-true, lt-ltb, ne-eqb}
 use native.Mathlib.Omega.{arith}
 use Rattle.fields.specs.Numbers.{be, joined, At, Bytes, All}
-use Rattle.fields.specs.Reader.{Reader, ok, pick, field, body, Judged, fine, judged, give, _>>=_, each}
+use Rattle.fields.specs.Reader.{Reader, ok, refuse, pick, field, body, Judged, fine, judged, give, _>>=_, each}
 use Rattle.fields.specs.Text.{Name}
 use Rattle.fields.specs.Algebra.{Exact}
+use Rattle.fields.proofs.Laws.{field-short, judged-short}
+use Rattle.fields.proofs.Cuts.{judged-reads}
+use Rattle.fields.proofs.Stops.{ended-left}
 use Rattle.fields.proofs.Places.{at-in, at-left, at-right, at-next}
 use Rattle.fields.proofs.Inverse.{then-inv, unless-fine, ok-value, ok-place}
 use Rattle.fields.proofs.Exact.{all-map, map-id, judged-exact, body-exact, same-exact, one-exact, bind-exact, give-exact, each-exact}
 use Rattle.fields.proofs.Sequence.{field-exact, then-exact}
 use Rattle.acb.specs.Grammar.{Colour, Space, rgb, cmyk, lab, String, Octets, Swatch, stringBytes, colourBytes}
-use Rattle.acb.specs.Reading.{string, Entry, colour, isSpace, componentsOf, pageSize, space, Numbers, Header, signature, version, opening, strings, numbers, header, colourOf}
+use Rattle.acb.specs.Reading.{string, Entry, colour, isSpace, componentsOf, pageSize, space, Numbers, Header, signature, version, opening, strings, numbers, header, colourOf, isTag, tagOf, tag, closing}
 
 -- the same by another name of what was read
 view-exact : {A B : Type 0} {s : List ℕ} {p : Reader A} {view : A → B} {Ok : B → Type 0} {ser : B → List ℕ} → Exact s p view Ok ser → (see : A → B) → ((a : A) → view a ≡ see a) → Exact s p see Ok ser
@@ -70,6 +73,24 @@ size-fine z h = rw (lt-ltb 0 z h)
 
 pub space-fine : {x n : ℕ} → Space x n → space x ≡ fine
 space-fine {x} {n} h = rw (space-is h)
+
+pub tag-fine : (v : ℕ) → isTag v ≡ true → tag v ≡ fine
+tag-fine v known = rw known
+
+-- ---- what stands behind the records, where it is not what it should be
+
+module _ (s : List ℕ) where
+  -- one to seven bytes, whatever they are: 2 there
+  pub short-stops : (at : ℕ) → at < length s → length s < at + 8 → closing s at ≡ refuse 2 at 0 0
+  unfolding closing
+  short-stops at more less =
+      rw (ne-eqb at (length s) (λ z. omega arith)) (rw (judged-short 8 s at tag (sym (field-short 8 s at (omega arith)))))
+
+  -- a tag and more: 6 behind it
+  pub left-stops : Bytes s → (v at : ℕ) → v < 256 ^ 8 → isTag v ≡ true → At s at (be 8 v) → at + length (be 8 v) < length s → closing s at ≡ refuse 6 (at + length (be 8 v)) 0 0
+  unfolding closing
+  left-stops bytes v at small known h more =
+      rw (ne-eqb at (length s) (λ z. omega arith)) (rw (judged-reads s bytes 8 tag at v small (tag-fine v known) h) (ended-left (tagOf v) s (at + length (be 8 v)) more))
 
 -- ---- a string
 

@@ -15,9 +15,9 @@ use Rattle.acb.specs.Grammar.{none, Ending, tagged, Unknown, Book, Space
 use Rattle.acb.specs.Reading.{Contents, closing, acb, bookOf}
 use Rattle.acb.specs.Widths.{headWidths, colourWidths, endingWidths, fileWidths}
 use Rattle.acb.specs.Damaged.{signed, versioned, sized, spaced, sizeAt, spaceAt, Begins, ending, tagAt, untagged}
-use Rattle.acb.proofs.Laws.{topBytes}
+use Rattle.acb.proofs.Laws.{topBytes, short-stops}
 use Rattle.acb.proofs.Whole.{topIn, head-parts, bytes-string, bytes-head, bytes-colours, bytes-file, book-to, allowed-parts, file-reads}
-use Rattle.acb.proofs.Damaged.{header-stops, no-space, signature-stops, version-stops, size-stops, space-stops, other-stops, short-stops}
+use Rattle.acb.proofs.Damaged.{header-stops, no-space, signature-stops, version-stops, size-stops, space-stops, other-stops}
 use Rattle.acb.proofs.Cut.{book-cut, closing-left}
 
 -- ---- the header
@@ -103,7 +103,7 @@ module _ (b : Book) (a : Allowed b) where
   pub tail-refused : (x : List ℕ) → Bytes x → 0 < length x → length x < 8 → length (ending b x) ≤ 16777216 → acb (ending b x) ≡ refuse 2 (tagAt b) 0 0
   tail-refused x h some few short =
       let s : List ℕ = ending b x in
-      ending-refused x h short (λ g. short-stops s (bytes-ending x h) (tagAt b) (omega (arith, length-ending x)) (omega (arith, length-ending x)))
+      ending-refused x h short (λ g. short-stops s (tagAt b) (omega (arith, length-ending x)) (omega (arith, length-ending x)))
 
 -- bytes behind a book with a tag: 6 where they begin
 pub left-over-refused : {b : Book} {w : List ℕ} → File b w → (b .tag ≡ tagged none → ⊥) → (x : List ℕ) → Bytes x → 0 < length x → length (w ++ x) ≤ 16777216 → acb (w ++ x) ≡ refuse 6 (length w) 0 0

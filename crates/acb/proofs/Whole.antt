@@ -9,7 +9,7 @@ use borrow.Author.Tests.{eqb-true, eq-eqb, ne-eqb, le-leb, leb-true}
 use native.Mathlib.Omega.{arith}
 use native.Mathlib.Nat.{add-zero, zero-add}
 use Rattle.fields.specs.Numbers.{be, joined, At, Bytes, All}
-use Rattle.fields.specs.Reader.{Res, ok, pick, then, fine, judged, each, ended}
+use Rattle.fields.specs.Reader.{Res, ok, pick, then, judged, each, ended}
 use Rattle.fields.specs.Text.{Name}
 use Rattle.fields.specs.Algebra.{Exact}
 use Rattle.fields.proofs.Places.{length-be, at-in, at-next, at-left, at-after, at-all, at-whole, bytes-nil, bytes-append, bytes-be, bytes-joined}
@@ -17,7 +17,7 @@ use Rattle.fields.proofs.Inverse.{then-inv, pick-inv, unless-fine, ended-inv, o
 use Rattle.fields.proofs.Exact.{judged-exact, each-exact}
 use Rattle.acb.specs.Grammar.{Colour, Tag, none, spot, process, Ending, tagged, other, Book, Space, Swatch, stringBytes, colourBytes, tagBytes, endingBytes, headBytes, fileBytes, Allowed, File, file}
 use Rattle.acb.specs.Reading.{Entry, colour, colourOf, componentsOf, Numbers, Header, header, isTag, tagOf, tag, closing, Contents, book, acb, bookOf}
-use Rattle.acb.proofs.Laws.{space-components, colour-exact, numberBytes, Top, topOf, Headed, topBytes, header-exact}
+use Rattle.acb.proofs.Laws.{tag-fine, space-components, colour-exact, numberBytes, Top, topOf, Headed, topBytes, header-exact}
 
 -- ---- the header of a book
 
@@ -55,9 +55,6 @@ bytes-tag process = bytes-be 8 0x7370_666C_7072_6F63
 pub bytes-ending : (e : Ending) → Bytes (endingBytes e)
 bytes-ending (tagged t) = bytes-tag t
 bytes-ending (other v) = bytes-be 8 v
-
-pub tag-fine : (v : ℕ) → isTag v ≡ true → tag v ≡ fine
-tag-fine v known = rw known
 
 pub tag-is : (v : ℕ) → isTag v ≡ true → tagBytes (tagOf v) ≡ be 8 v
 tag-is v h = go (eqb v 0x7370_666C_7370_6F74) (eqb v 0x7370_666C_7072_6F63) refl refl h
