@@ -5,18 +5,21 @@ use mathlib.Core.List.{List, [], _++_, map, append-nil}
 use mathlib.Core.Bool.{Bool, true, false}
 use lib.Dec.{ltb, eqb}
 use lib.ListN.{length, length-append}
-use borrow.Author.Tests.{eqb-true, ltb-true, lt-ltb}
+use borrow.Author.Tests.{eqb-true, ltb-true, lt-ltb, ne-eqb}
 use native.Mathlib.Omega.{arith}
 use Rattle.fields.specs.Numbers.{be, joined, At, Bytes, All}
-use Rattle.fields.specs.Reader.{Reader, ok, pick, field, body, fine, unless, judged, give, _>>=_, each}
+use Rattle.fields.specs.Reader.{Reader, ok, refuse, pick, field, body, Judged, fine, judged, give, _>>=_, each}
 use Rattle.fields.specs.Text.{Name}
 use Rattle.fields.specs.Algebra.{Exact}
+use Rattle.fields.proofs.Laws.{field-short, judged-short}
+use Rattle.fields.proofs.Cuts.{judged-reads}
+use Rattle.fields.proofs.Stops.{ended-left}
 use Rattle.fields.proofs.Places.{at-in, at-left, at-right, at-next}
 use Rattle.fields.proofs.Inverse.{then-inv, unless-fine, ok-value, ok-place}
-use Rattle.fields.proofs.Exact.{all-map, map-id, judged-exact, body-exact, same-exact, give-exact, each-exact}
-use Rattle.fields.proofs.Sequence.{field-exact, mark-exact, then-exact}
+use Rattle.fields.proofs.Exact.{all-map, map-id, judged-exact, body-exact, same-exact, one-exact, bind-exact, give-exact, each-exact}
+use Rattle.fields.proofs.Sequence.{field-exact, then-exact}
 use Rattle.acb.specs.Grammar.{Colour, Space, rgb, cmyk, lab, String, Octets, Swatch, stringBytes, colourBytes}
-use Rattle.acb.specs.Reading.{string, Entry, colour, isSpace, componentsOf, pageSize, space, Numbers, Header, opening, strings, numbers, header, colourOf}
+use Rattle.acb.specs.Reading.{string, Entry, colour, isSpace, componentsOf, pageSize, space, Numbers, Header, signature, version, opening, strings, numbers, header, colourOf, isTag, tagOf, tag, closing}
 
 -- the same by another name of what was read
 view-exact : {A B : Type 0} {s : List ℕ} {p : Reader A} {view : A → B} {Ok : B → Type 0} {ser : B → List ℕ} → Exact s p view Ok ser → (see : A → B) → ((a : A) → view a ≡ see a) → Exact s p see Ok ser
@@ -62,6 +65,32 @@ is-space x h = go (eqb x 0) (eqb x 2) refl refl h
     go true b p q e = at-space 0 3 rgb p
     go false true p q e = at-space 2 4 cmyk q
     go false false p q e = at-space 7 3 lab e
+
+-- ---- what the reader finds fine
+
+pub size-fine : (z : ℕ) → 0 < z → pageSize z ≡ fine
+size-fine z h = rw (lt-ltb 0 z h)
+
+pub space-fine : {x n : ℕ} → Space x n → space x ≡ fine
+space-fine {x} {n} h = rw (space-is h)
+
+pub tag-fine : (v : ℕ) → isTag v ≡ true → tag v ≡ fine
+tag-fine v known = rw known
+
+-- ---- what stands behind the records, where it is not what it should be
+
+module _ (s : List ℕ) where
+  -- one to seven bytes, whatever they are: 2 there
+  pub short-stops : (at : ℕ) → at < length s → length s < at + 8 → closing s at ≡ refuse 2 at 0 0
+  unfolding closing
+  short-stops at more less =
+      rw (ne-eqb at (length s) (λ z. omega arith)) (rw (judged-short 8 s at tag (sym (field-short 8 s at (omega arith)))))
+
+  -- a tag and more: 6 behind it
+  pub left-stops : Bytes s → (v at : ℕ) → v < 256 ^ 8 → isTag v ≡ true → At s at (be 8 v) → at + length (be 8 v) < length s → closing s at ≡ refuse 6 (at + length (be 8 v)) 0 0
+  unfolding closing
+  left-stops bytes v at small known h more =
+      rw (ne-eqb at (length s) (λ z. omega arith)) (rw (judged-reads s bytes 8 tag at v small (tag-fine v known) h) (ended-left (tagOf v) s (at + length (be 8 v)) more))
 
 -- ---- a string
 
@@ -158,9 +187,21 @@ module _ (s : List ℕ) (bytes : Bytes s) where
 
   -- ---- the header
 
+  -- a field of which v alone is fine, and then more
+  only-exact : {A B : Type 0} {m : Reader A} {view : A → B} {Ok : B → Type 0} {rest : B → List ℕ} (w v : ℕ) (j : ℕ → Judged) → v < 256 ^ w → j v ≡ fine → ((x : ℕ) → j x ≡ fine → x ≡ v) → Exact s m view Ok rest
+      → Exact s (judged w j >>= (λ x. m)) view Ok (λ b. be w v ++ rest b)
+  only-exact {A} {B} {m} {view} {Ok} {rest} w v j small good only more =
+      same-exact
+      (bind-exact {k = λ x. m} {OkD = Ok} {rest = rest} (λ b. tt {0})
+      (one-exact (judged-exact s bytes w j) v (small, good) (λ x h. only x (h .1)))
+      (λ x. same-exact more (λ b. Ok b × (tt {0} ≡ tt)) rest (λ b h. (h, refl)) (λ b h. h .0) (λ b h. refl)))
+      Ok (λ b. be w v ++ rest b) (λ b h. h .1) (λ b h. (tt, h)) (λ b h. refl)
+
   pub opening-exact : Exact s opening (λ i. i) (λ i. i < 256 ^ 2) (λ i. be 4 0x3842_4342 ++ (be 2 1 ++ be 2 i))
   unfolding opening
-  opening-exact = mark-exact s bytes 4 0x3842_4342 (omega arith) (mark-exact s bytes 2 1 (omega arith) (field-exact s bytes 2))
+  opening-exact =
+      only-exact 4 0x3842_4342 signature (omega arith) refl (λ x h. eqb-true x 0x3842_4342 (unless-fine (eqb x 0x3842_4342) _ h))
+      (only-exact 2 1 version (omega arith) refl (λ x h. eqb-true x 1 (unless-fine (eqb x 1) _ h)) (field-exact s bytes 2))
 
   pub strings-exact : Exact s strings (map (λ (nm : Name). nm .units)) (λ ts. (length ts ≡ 4) × All (λ k us. String us) 0 ts) (joined stringBytes)
   unfolding strings
@@ -237,11 +278,11 @@ module _ (s : List ℕ) (bytes : Bytes s) where
       Counted numberBytes
       (λ d h. record {
         count = h .0;
-        size = (ltb-true 0 (d .size) (unless-fine (ltb 0 (d .size)) 5 (h .1 .0 .1)), h .1 .0 .0);
+        size = (ltb-true 0 (d .size) (unless-fine (ltb 0 (d .size)) _ (h .1 .0 .1)), h .1 .0 .0);
         offset = h .1 .1 .0;
-        space = is-space (d .space) (unless-fine (isSpace (d .space)) 4 (h .1 .1 .1 .0 .1));
+        space = is-space (d .space) (unless-fine (isSpace (d .space)) _ (h .1 .1 .1 .0 .1));
       })
-      (λ d h. (h .count, ((h .size .1, ap (λ (b : Bool). unless b 5) (lt-ltb 0 (d .size) (h .size .0))), (h .offset, ((space-small (h .space), ap (λ (b : Bool). unless b 4) (space-is (h .space))), refl)))))
+      (λ d h. (h .count, ((h .size .1, size-fine (d .size) (h .size .0)), (h .offset, ((space-small (h .space), space-fine (h .space)), refl)))))
       (λ d h. ap (λ (l : List ℕ). be 2 (d .count) ++ (be 2 (d .size) ++ (be 2 (d .offset) ++ l))) (append-nil (be 2 (d .space))))
 
   abbrev Four : List (List ℕ) → Type 0

@@ -1,7 +1,9 @@
 -- Laws of the definitions of specs/. The theorems that a user cares about stand in RoundTrip.
 pub mod Laws
 pub mod Whole
+pub mod Damaged
+pub mod Cut
+pub mod Refused
 pub mod Faultless
 pub mod RoundTrip
 pub mod Placed
-pub mod Cut

@@ -1,22 +1,25 @@
 -- What is promised of ACB files: reading and the grammar agree, and what a writer may write. Assumes nothing.
-use Prim.Native.Nat.{ℕ, _≤_}
+use Prim.Native.Nat.{ℕ, _≤_, _<_}
 use mathlib.Core.Path.{_≡_, refl, sym, ap, _∙_, subst}
-use mathlib.Core.List.{List, _++_}
+use mathlib.Core.List.{List, [], _++_, append-assoc, append-nil}
 use mathlib.Core.Bool.{Bool, true, false}
 use lib.Dec.{leb, ltb}
 use lib.ListN.{length}
-use borrow.Author.Tests.{leb-true, le-leb}
-use Rattle.fields.specs.Numbers.{joined, At, Bytes}
+use borrow.Author.Tests.{leb-true, le-leb, ltb-true, ltb-false}
+use native.Mathlib.Omega.{arith}
+use Rattle.fields.specs.Numbers.{be, joined, Bytes}
 use Rattle.fields.specs.Reader.{refuse, pick, ok, numberOf, limit}
 use Rattle.fields.specs.Faults.{firstOf}
-use Rattle.fields.proofs.Places.{at-whole}
+use Rattle.fields.proofs.Places.{bytes-nil, bytes-append, bytes-be}
 use Rattle.fields.proofs.Inverse.{ok-value}
-use Rattle.acb.specs.Grammar.{Book, colourBytes, tagBytes, fileBytes, File, file}
+use Rattle.acb.specs.Grammar.{none, Ending, tagged, other, Unknown, Book, Space, colourBytes, endingBytes, headBytes, fileBytes, File, file}
 use Rattle.acb.specs.Reading.{isSpace, Contents, book, acb, bookOf}
-use Rattle.acb.specs.Faults.{bookFault, BookFits}
-use Rattle.acb.proofs.Laws.{topBytes}
-use Rattle.acb.proofs.Whole.{topIn, length-file, bytes-file, file-reads, file-writes}
-use Rattle.acb.proofs.Faultless.{tested-allowed, faultless-allowed, allowed-faultless, size-fault, space-fault}
+use Rattle.acb.specs.Faults.{endingFault, EndingFits, bookFault, BookFits}
+use Rattle.acb.specs.Damaged.{sized, spaced, Begins, ending, untagged}
+use Rattle.acb.proofs.Laws.{space-is}
+use Rattle.acb.proofs.Whole.{bytes-colours, bytes-ending, file-reads, file-writes}
+use Rattle.acb.proofs.Refused.{size-refused, space-refused, tag-refused}
+use Rattle.acb.proofs.Faultless.{tested-allowed, faultless-allowed, allowed-faultless}
 
 -- ---- the grammar and the reader
 
@@ -41,6 +44,58 @@ whole : (s : List ℕ) → length s ≤ limit → book s 0 ≡ acb s
 unfolding acb
 whole s short = sym (rw (le-leb (length s) limit short))
 
+-- a book by its fields, and without its tag
+file-spaced : (b : Book) → fileBytes b ≡ spaced (b .identifier) (b .texts) (length (b .colours)) (b .size) (b .offset) (b .space) (joined colourBytes (b .colours) ++ endingBytes (b .tag))
+unfolding fileBytes headBytes spaced sized
+file-spaced b = simp append-assoc
+
+file-ending : (b : Book) (v : ℕ) → b .tag ≡ other v → fileBytes b ≡ ending (untagged b) (be 8 v ++ [])
+unfolding fileBytes headBytes ending
+file-ending b v e = ap (λ (g : Ending). headBytes b ++ (joined colourBytes (b .colours) ++ endingBytes g)) e ∙ ap (λ (l : List ℕ). headBytes b ++ (joined colourBytes (b .colours) ++ l)) (sym (append-nil (be 8 v)))
+
+unknown-space : (x : ℕ) → isSpace x ≡ false → (n : ℕ) → Space x n → ⊥
+unknown-space x e n h = let z : true ≡ false = sym (space-is h) ∙ e in let y : _≡_ {A = ℕ} 0 1 = cc in absurd (omega arith)
+
+module _ (b : Book) (f : BookFits b) (short : length (fileBytes b) ≤ limit) where
+  abbrev s : List ℕ
+  s = fileBytes b
+
+  abbrev rest : List ℕ
+  rest = joined colourBytes (b .colours) ++ endingBytes (b .tag)
+
+  begins : Begins (b .identifier) (b .texts) (length (b .colours))
+  begins = record { identifier = f .identifier; four = f .four; texts = f .texts; count = f .count }
+
+  bytes-rest : Bytes rest
+  bytes-rest = bytes-append (joined colourBytes (b .colours)) (endingBytes (b .tag)) (bytes-colours (b .colours)) (bytes-ending (b .tag))
+
+  -- the first fault of each kind
+  size-number : b .size ≡ 0 → numberOf (acb s) ≡ 5
+  unfolding spaced
+  size-number z =
+      let y : List ℕ = be 2 (b .offset) ++ (be 2 (b .space) ++ rest) in
+      let e : s ≡ sized (b .identifier) (b .texts) (length (b .colours)) 0 y = file-spaced b ∙ ap (λ (k : ℕ). sized (b .identifier) (b .texts) (length (b .colours)) k y) z in
+      let by : Bytes y = bytes-append (be 2 (b .offset)) (be 2 (b .space) ++ rest) (bytes-be 2 (b .offset)) (bytes-append (be 2 (b .space)) rest (bytes-be 2 (b .space)) bytes-rest) in
+      ap numberOf (ap acb e ∙ size-refused (b .identifier) (b .texts) (length (b .colours)) begins y by (subst (λ (l : List ℕ). length l ≤ limit) e short))
+
+  space-number : 0 < b .size → isSpace (b .space) ≡ false → numberOf (acb s) ≡ 4
+  space-number some unknown =
+      let e = file-spaced b in
+      ap numberOf (ap acb e ∙ space-refused (b .identifier) (b .texts) (length (b .colours)) begins (b .size) (b .offset) (b .space) some (f .size) (f .offset) (f .space) (unknown-space (b .space) unknown) rest bytes-rest (subst (λ (l : List ℕ). length l ≤ limit) e short))
+
+  other-number : (v : ℕ) → b .tag ≡ other v → Unknown v → ltb 0 (b .size) ≡ true → isSpace (b .space) ≡ true → numberOf (acb s) ≡ 3
+  other-number v e u z x =
+      let i = file-ending b v e in
+      let g : BookFits (untagged b) = record { identifier = f .identifier; four = f .four; texts = f .texts; count = f .count; size = f .size; offset = f .offset; space = f .space; colours = f .colours; tag = tt } in
+      ap numberOf (ap acb i ∙ tag-refused (untagged b) (tested-allowed (untagged b) g z x none refl) v u [] bytes-nil (subst (λ (l : List ℕ). length l ≤ limit) i short))
+
+  -- size, space and tag in this order
+  number-is : (t u : Bool) (e : Ending) → ltb 0 (b .size) ≡ t → isSpace (b .space) ≡ u → b .tag ≡ e → EndingFits e → numberOf (acb s) ≡ firstOf (pick t 0 5) (firstOf (pick u 0 4) (endingFault e))
+  number-is true true (tagged t) z x e g = ap numberOf (file-reads b (tested-allowed b f z x t e) short .1)
+  number-is true true (other v) z x e g = other-number v e g z x
+  number-is true false e z x i g = space-number (ltb-true 0 (b .size) z) x
+  number-is false u e z x i g = let n = ltb-false 0 (b .size) z in size-number (omega arith)
+
 -- of a book that fits its fields, the reader refuses what was written by the number of its first fault, and accepts it where it has none
 pub written-number : (b : Book) → BookFits b → numberOf (acb (fileBytes b)) ≡ pick (leb (length (fileBytes b)) limit) (bookFault b) 1
 unfolding acb bookFault
@@ -49,21 +104,13 @@ written-number b fits = go (leb (length (fileBytes b)) limit) refl
     s : List ℕ
     s = fileBytes b
 
-    stands : At s 0 (topBytes (topIn b) ++ (joined colourBytes (b .colours) ++ tagBytes (b .tag)))
-    stands = subst (λ (l : List ℕ). At s 0 l) (length-file b) (at-whole s)
-
-    inner : length s ≤ limit → (t u : Bool) → ltb 0 (b .size) ≡ t → isSpace (b .space) ≡ u → numberOf (book s 0) ≡ firstOf (pick t 0 5) (pick u 0 4)
-    inner short true true e g = ap numberOf (whole s short ∙ file-reads b (tested-allowed b fits e g) short .1)
-    inner short true false e g = space-fault s (bytes-file b) b fits (joined colourBytes (b .colours) ++ tagBytes (b .tag)) stands e g
-    inner short false u e g = size-fault s (bytes-file b) b fits (joined colourBytes (b .colours) ++ tagBytes (b .tag)) stands e
-
-    go : (t : Bool) → leb (length s) limit ≡ t → numberOf (pick t (book s 0) (refuse 1 0 0 0)) ≡ pick t (firstOf (pick (ltb 0 (b .size)) 0 5) (pick (isSpace (b .space)) 0 4)) 1
-    go true e = inner (leb-true (length s) limit e) (ltb 0 (b .size)) (isSpace (b .space)) refl refl
+    go : (t : Bool) → leb (length s) limit ≡ t → numberOf (pick t (book s 0) (refuse 1 0 0 0)) ≡ pick t (firstOf (pick (ltb 0 (b .size)) 0 5) (firstOf (pick (isSpace (b .space)) 0 4) (endingFault (b .tag)))) 1
+    go true e = let short : length s ≤ limit = leb-true (length s) limit e in ap numberOf (whole s short) ∙ number-is b fits short (ltb 0 (b .size)) (isSpace (b .space)) (b .tag) refl refl refl (fits .tag)
     go false e = refl
 
 -- a book that fits its fields and has no fault is written as a file of the grammar, so that it reads back
 pub written-allowed : (b : Book) → BookFits b → bookFault b ≡ 0 → length (fileBytes b) ≤ limit → File b (fileBytes b)
-written-allowed b fits none short = file (faultless-allowed b fits none) short
+written-allowed b fits sound short = file (faultless-allowed b fits sound) short
 
 -- no book of the grammar has a fault: what is refused is not allowed
 pub allowed-written : {b : Book} {s : List ℕ} → File b s → (bookFault b ≡ 0) × (s ≡ fileBytes b)

@@ -7,17 +7,17 @@ use lib.Dec.{leb, eqb}
 use lib.ListN.{length, length-append}
 use borrow.Author.Tests.{eqb-true, eq-eqb, ne-eqb, le-leb, leb-true}
 use native.Mathlib.Omega.{arith}
-use native.Mathlib.Nat.{add-zero}
+use native.Mathlib.Nat.{add-zero, zero-add}
 use Rattle.fields.specs.Numbers.{be, joined, At, Bytes, All}
-use Rattle.fields.specs.Reader.{ok, pick, then, unless, judged, each, ended}
+use Rattle.fields.specs.Reader.{Res, ok, pick, then, judged, each, ended}
 use Rattle.fields.specs.Text.{Name}
 use Rattle.fields.specs.Algebra.{Exact}
-use Rattle.fields.proofs.Places.{length-be, at-in, at-next, at-left, at-right, at-all, at-whole, bytes-nil, bytes-append, bytes-be, bytes-joined}
+use Rattle.fields.proofs.Places.{length-be, at-in, at-next, at-left, at-after, at-all, at-whole, bytes-nil, bytes-append, bytes-be, bytes-joined}
 use Rattle.fields.proofs.Inverse.{then-inv, pick-inv, unless-fine, ended-inv, ok-value, ok-place}
 use Rattle.fields.proofs.Exact.{judged-exact, each-exact}
-use Rattle.acb.specs.Grammar.{Colour, Tag, none, spot, process, Book, Space, Swatch, stringBytes, colourBytes, tagBytes, headBytes, fileBytes, Allowed, File, file}
-use Rattle.acb.specs.Reading.{Entry, colour, colourOf, componentsOf, Numbers, Header, header, isTag, tagOf, closing, Contents, book, acb, bookOf}
-use Rattle.acb.proofs.Laws.{space-components, colour-exact, numberBytes, Top, topOf, Headed, topBytes, header-exact}
+use Rattle.acb.specs.Grammar.{Colour, Tag, none, spot, process, Ending, tagged, other, Book, Space, Swatch, stringBytes, colourBytes, tagBytes, endingBytes, headBytes, fileBytes, Allowed, File, file}
+use Rattle.acb.specs.Reading.{Entry, colour, colourOf, componentsOf, Numbers, Header, header, isTag, tagOf, tag, closing, Contents, book, acb, bookOf}
+use Rattle.acb.proofs.Laws.{tag-fine, space-components, colour-exact, numberBytes, Top, topOf, Headed, topBytes, header-exact}
 
 -- ---- the header of a book
 
@@ -52,14 +52,26 @@ bytes-tag none = bytes-nil
 bytes-tag spot = bytes-be 8 0x7370_666C_7370_6F74
 bytes-tag process = bytes-be 8 0x7370_666C_7072_6F63
 
+pub bytes-ending : (e : Ending) → Bytes (endingBytes e)
+bytes-ending (tagged t) = bytes-tag t
+bytes-ending (other v) = bytes-be 8 v
+
+pub tag-is : (v : ℕ) → isTag v ≡ true → tagBytes (tagOf v) ≡ be 8 v
+tag-is v h = go (eqb v 0x7370_666C_7370_6F74) (eqb v 0x7370_666C_7072_6F63) refl refl h
+  where
+    go : (a b : Bool) → eqb v 0x7370_666C_7370_6F74 ≡ a → eqb v 0x7370_666C_7072_6F63 ≡ b → pick a true b ≡ true → tagBytes (pick a spot process) ≡ be 8 v
+    go true b p q e = ap (be 8) (sym (eqb-true v 0x7370_666C_7370_6F74 p))
+    go false true p q e = ap (be 8) (sym (eqb-true v 0x7370_666C_7072_6F63 q))
+    go false false p q e = let z : _≡_ {A = ℕ} 0 1 = cc in absurd (omega arith)
+
 module _ (s : List ℕ) (bytes : Bytes s) where
   -- a tag that is there and ends the file
   tag-reads : (v : ℕ) → v < 256 ^ 8 → isTag v ≡ true → (at : ℕ) → At s at (be 8 v) → at + length (be 8 v) ≡ length s → closing s at ≡ ok (tagOf v) (length s)
   unfolding closing ended
   tag-reads v small known at h end =
       let l : length (be 8 v) ≡ 8 = length-be 8 v in
-      let x = judged-exact s bytes 8 (λ t. unless (isTag t) 3) .reads at v (small, ap (λ (b : Bool). unless b 3) known) h in
-      let x2 : judged 8 (λ t. unless (isTag t) 3) s at ≡ ok v (length s) = x .1 ∙ ap₂ (λ (a q : ℕ). ok a q) (x .2) end in
+      let x = judged-exact s bytes 8 tag .reads at v (small, tag-fine v known) h in
+      let x2 : judged 8 tag s at ≡ ok v (length s) = x .1 ∙ ap₂ (λ (a q : ℕ). ok a q) (x .2) end in
       rw (ne-eqb at (length s) (λ z. omega arith)) (rw x2 (rw (eq-eqb (length s) (length s) refl)))
 
   pub closing-reads : (t : Tag) (at : ℕ) → At s at (tagBytes t) → at + length (tagBytes t) ≡ length s → closing s at ≡ ok t (length s)
@@ -68,27 +80,19 @@ module _ (s : List ℕ) (bytes : Bytes s) where
   closing-reads spot at h end = tag-reads 0x7370_666C_7370_6F74 (omega arith) refl at h end
   closing-reads process at h end = tag-reads 0x7370_666C_7072_6F63 (omega arith) refl at h end
 
-  tag-is : (v : ℕ) → isTag v ≡ true → tagBytes (tagOf v) ≡ be 8 v
-  tag-is v h = go (eqb v 0x7370_666C_7370_6F74) (eqb v 0x7370_666C_7072_6F63) refl refl h
-    where
-      go : (a b : Bool) → eqb v 0x7370_666C_7370_6F74 ≡ a → eqb v 0x7370_666C_7072_6F63 ≡ b → pick a true b ≡ true → tagBytes (pick a spot process) ≡ be 8 v
-      go true b p q e = ap (be 8) (sym (eqb-true v 0x7370_666C_7370_6F74 p))
-      go false true p q e = ap (be 8) (sym (eqb-true v 0x7370_666C_7072_6F63 q))
-      go false false p q e = let z : _≡_ {A = ℕ} 0 1 = cc in absurd (omega arith)
-
   pub closing-writes : (at : ℕ) → at ≤ length s → (t : Tag) (q : ℕ) → closing s at ≡ ok t q → At s at (tagBytes t) × (at + length (tagBytes t) ≡ length s) × (q ≡ length s)
   unfolding closing
   closing-writes at le t q e = go (eqb at (length s)) refl e
     where
-      go : (b : Bool) → eqb at (length s) ≡ b → pick b (ok none at) (then (judged 8 (λ t. unless (isTag t) 3) s at) (λ t q. ended (tagOf t) s q)) ≡ ok t q → At s at (tagBytes t) × (at + length (tagBytes t) ≡ length s) × (q ≡ length s)
+      go : (b : Bool) → eqb at (length s) ≡ b → pick b (ok none at) (then (judged 8 tag s at) (λ t q. ended (tagOf t) s q)) ≡ ok t q → At s at (tagBytes t) × (at + length (tagBytes t) ≡ length s) × (q ≡ length s)
       go true p k =
           let end : at ≡ length s = eqb-true at (length s) p in
           subst (λ (y : Tag). At s at (tagBytes y) × (at + length (tagBytes y) ≡ length s) × (q ≡ length s)) (ok-value k) (at-none s at le, add-zero at ∙ end, sym (ok-place k) ∙ end)
       go false p k =
-          let u = then-inv (judged 8 (λ t. unless (isTag t) 3) s at) _ k in
-          let x = judged-exact s bytes 8 (λ t. unless (isTag t) 3) .writes at le (u .0) (u .1) (u .2) in
+          let u = then-inv (judged 8 tag s at) _ k in
+          let x = judged-exact s bytes 8 tag .writes at le (u .0) (u .1) (u .2) in
           let z = ended-inv (tagOf (u .0)) s (u .1) (u .3) in
-          let w : tagBytes (tagOf (u .0)) ≡ be 8 (u .0) = tag-is (u .0) (unless-fine (isTag (u .0)) 3 (x .0 .1)) in
+          let w : tagBytes (tagOf (u .0)) ≡ be 8 (u .0) = tag-is (u .0) (unless-fine (isTag (u .0)) _ (x .0 .1)) in
           subst (λ (y : Tag). At s at (tagBytes y) × (at + length (tagBytes y) ≡ length s) × (q ≡ length s)) (z .1) (
             subst (λ (l : List ℕ). At s at l) (sym w) (x .1),
             ap (λ (l : List ℕ). at + length l) w ∙ x .2 ∙ z .0,
@@ -97,7 +101,7 @@ module _ (s : List ℕ) (bytes : Bytes s) where
 
 -- ---- what is written is bytes
 
-bytes-string : (us : List ℕ) → Bytes (stringBytes us)
+pub bytes-string : (us : List ℕ) → Bytes (stringBytes us)
 unfolding stringBytes
 bytes-string us = bytes-append (be 4 (length us)) (joined (be 2) us) (bytes-be 4 (length us)) (bytes-joined (be 2) (bytes-be 2) us)
 
@@ -107,7 +111,7 @@ bytes-colour c =
     let k : List ℕ = joined (be 1) (c .components) in
     bytes-append (stringBytes (c .name)) (joined (be 1) (c .code) ++ k) (bytes-string (c .name)) (bytes-append (joined (be 1) (c .code)) k (bytes-joined (be 1) (bytes-be 1) (c .code)) (bytes-joined (be 1) (bytes-be 1) (c .components)))
 
-bytes-head : (b : Book) → Bytes (headBytes b)
+pub bytes-head : (b : Book) → Bytes (headBytes b)
 bytes-head b =
     let n : Numbers = numbersOf b in
     let t : List ℕ = joined stringBytes (b .texts) in
@@ -119,11 +123,14 @@ bytes-head b =
     (bytes-append t (numberBytes n) (bytes-joined stringBytes bytes-string (b .texts))
     (bytes-append (be 2 (n .count)) l2 (bytes-be 2 (n .count)) (bytes-append (be 2 (n .size)) l3 (bytes-be 2 (n .size)) (bytes-append (be 2 (n .offset)) (be 2 (n .space)) (bytes-be 2 (n .offset)) (bytes-be 2 (n .space)))))))
 
+pub bytes-colours : (cs : List Colour) → Bytes (joined colourBytes cs)
+bytes-colours cs = bytes-joined colourBytes bytes-colour cs
+
 pub bytes-file : (b : Book) → Bytes (fileBytes b)
 unfolding fileBytes
 bytes-file b =
     let l : List ℕ = joined colourBytes (b .colours) in
-    bytes-append (headBytes b) (l ++ tagBytes (b .tag)) (bytes-head b) (bytes-append l (tagBytes (b .tag)) (bytes-joined colourBytes bytes-colour (b .colours)) (bytes-tag (b .tag)))
+    bytes-append (headBytes b) (l ++ endingBytes (b .tag)) (bytes-head b) (bytes-append l (endingBytes (b .tag)) (bytes-colours (b .colours)) (bytes-ending (b .tag)))
 
 -- ---- the grammar's bytes are read
 
@@ -135,40 +142,58 @@ module _ (b : Book) (a : Allowed b) where
   abbrev same-book : Header → List Entry → Type 0
   same-book h es = (topOf h ≡ topIn b) × (map colourOf es ≡ b .colours)
 
-  book-is : (h : Header) (p : ℕ) (es : List Entry) → same-book h es → bookOf (record { header = h; first = p; entries = es; tag = b .tag }) ≡ b
+  book-is : (h : Header) (p : ℕ) (es : List Entry) → same-book h es → bookOf (record { header = h; first = p; entries = es; tag = a .ends }) ≡ b
   book-is h p es e =
-      ap₂ (λ (t : Top) (cs : List Colour). record { identifier = t .identifier; texts = t .texts; size = t .numbers .size; offset = t .numbers .offset; space = t .numbers .space; colours = cs; tag = b .tag }) (e .0) (e .1)
+      ap₂ (λ (t : Top) (cs : List Colour). record { identifier = t .identifier; texts = t .texts; size = t .numbers .size; offset = t .numbers .offset; space = t .numbers .space; colours = cs; tag = tagged (a .ends) }) (e .0) (e .1)
+      ∙ ap (λ (g : Ending). record { identifier = b .identifier; texts = b .texts; size = b .size; offset = b .offset; space = b .space; colours = b .colours; tag = g }) (sym (a .tag))
 
-  book-reads : (s : List ℕ) → Bytes s → At s 0 (topBytes (topIn b) ++ (joined colourBytes (b .colours) ++ tagBytes (b .tag)))
-      → length (topBytes (topIn b) ++ (joined colourBytes (b .colours) ++ tagBytes (b .tag))) ≡ length s → (c : Contents) × (book s 0 ≡ ok c (length s)) × (bookOf c ≡ b)
+  -- where the header and the records stand they are read, and then what follows them
+  pub book-to : (s : List ℕ) → Bytes s → (x : List ℕ) → At s 0 (topBytes (topIn b) ++ (joined colourBytes (b .colours) ++ x))
+      → (h : Header) × (es : List Entry) × same-book h es
+      × (book s 0 ≡ then (closing s (length (topBytes (topIn b)) + length (joined colourBytes (b .colours)))) (λ t end. ok (record { header = h; first = length (topBytes (topIn b)); entries = es; tag = t }) end))
   unfolding book
-  book-reads s bytes h len =
+  book-to s bytes x h =
       let t : List ℕ = topBytes (topIn b) in
       let l : List ℕ = joined colourBytes (b .colours) in
-      let g : List ℕ = tagBytes (b .tag) in
-      let x = header-exact s bytes .reads 0 (topIn b) (allowed-headed b a) (at-left s 0 t (l ++ g) h) in
-      let hd : Header = x .0 in
-      let p : ℕ = 0 + length t in
-      let h1 = at-right s 0 t (l ++ g) h in
-      let ns : hd .numbers ≡ numbersOf b = ap (λ (y : Top). y .numbers) (x .2) in
+      let p : ℕ = length t in
+      let z : 0 + length t ≡ p = zero-add (length t) in
+      let r = header-exact s bytes .reads 0 (topIn b) (allowed-headed b a) (at-left s 0 t (l ++ x) h) in
+      let hd : Header = r .0 in
+      let h1 = at-after s 0 t (l ++ x) p z h in
+      let ns : hd .numbers ≡ numbersOf b = ap (λ (y : Top). y .numbers) (r .2) in
       let n : componentsOf (hd .numbers .space) ≡ a .components = ap (λ (y : Numbers). componentsOf (y .space)) ns ∙ space-components (a .space) in
       let k : length (b .colours) ≡ hd .numbers .count = sym (ap (λ (y : Numbers). y .count) ns) in
       let fit : All (λ i c. Swatch (componentsOf (hd .numbers .space)) c) 0 (b .colours) = subst (λ (m : ℕ). All (λ i c. Swatch m c) 0 (b .colours)) (sym n) (a .colours) in
-      let y = colours-exact s bytes (componentsOf (hd .numbers .space)) (hd .numbers .count) .reads p (b .colours) (k, fit) (at-left s p l g h1) in
-      let q : ℕ = p + length l in
-      let end : q + length g ≡ length s = omega (arith, length-append t (l ++ g), length-append l g) in
-      let z = closing-reads s bytes (b .tag) q (at-right s p l g h1) end in
-      (record { header = hd; first = p; entries = y .0; tag = b .tag }, rw (x .1) (rw (y .1) (rw z)), book-is hd p (y .0) (x .2, y .2))
+      let y = colours-exact s bytes (componentsOf (hd .numbers .space)) (hd .numbers .count) .reads p (b .colours) (k, fit) (at-left s p l x h1) in
+      let e : header s 0 ≡ ok hd p = r .1 ∙ ap (λ (m : ℕ). ok hd m) z in
+      (hd, y .0, (r .2, y .2), rw e (rw (y .1)))
 
-pub length-file : (b : Book) → fileBytes b ≡ topBytes (topIn b) ++ (joined colourBytes (b .colours) ++ tagBytes (b .tag))
+  book-reads : (s : List ℕ) → Bytes s → At s 0 (topBytes (topIn b) ++ (joined colourBytes (b .colours) ++ tagBytes (a .ends)))
+      → length (topBytes (topIn b) ++ (joined colourBytes (b .colours) ++ tagBytes (a .ends))) ≡ length s → (c : Contents) × (book s 0 ≡ ok c (length s)) × (bookOf c ≡ b)
+  book-reads s bytes h len =
+      let t : List ℕ = topBytes (topIn b) in
+      let l : List ℕ = joined colourBytes (b .colours) in
+      let g : List ℕ = tagBytes (a .ends) in
+      let x = book-to s bytes g h in
+      let q : ℕ = length t + length l in
+      let end : q + length g ≡ length s = omega (arith, length-append t (l ++ g), length-append l g) in
+      let h1 : At s q g = at-after s (length t) l g q refl (at-after s 0 t (l ++ g) (length t) (zero-add (length t)) h) in
+      let z = closing-reads s bytes (a .ends) q h1 end in
+      (record { header = x .0; first = length t; entries = x .1; tag = a .ends }, x .3 ∙ ap (λ (m : Res Tag). then m (λ t end. ok (record { header = x .0; first = length (topBytes (topIn b)); entries = x .1; tag = t }) end)) z, book-is (x .0) (length t) (x .1) (x .2))
+
+pub file-parts : (b : Book) → fileBytes b ≡ topBytes (topIn b) ++ (joined colourBytes (b .colours) ++ endingBytes (b .tag))
 unfolding fileBytes
-length-file b = ap (λ (l : List ℕ). l ++ (joined colourBytes (b .colours) ++ tagBytes (b .tag))) (head-parts b)
+file-parts b = ap (λ (l : List ℕ). l ++ (joined colourBytes (b .colours) ++ endingBytes (b .tag))) (head-parts b)
+
+-- the same of an allowed book, which ends as a file may
+pub allowed-parts : (b : Book) (a : Allowed b) → fileBytes b ≡ topBytes (topIn b) ++ (joined colourBytes (b .colours) ++ tagBytes (a .ends))
+allowed-parts b a = file-parts b ∙ ap (λ (g : Ending). topBytes (topIn b) ++ (joined colourBytes (b .colours) ++ endingBytes g)) (a .tag)
 
 pub file-reads : (b : Book) → Allowed b → length (fileBytes b) ≤ 16777216 → (c : Contents) × (acb (fileBytes b) ≡ ok c (length (fileBytes b))) × (bookOf c ≡ b)
 unfolding acb
 file-reads b a short =
     let s : List ℕ = fileBytes b in
-    let x = book-reads b a s (bytes-file b) (subst (λ (l : List ℕ). At s 0 l) (length-file b) (at-whole s)) (sym (ap length (length-file b))) in
+    let x = book-reads b a s (bytes-file b) (subst (λ (l : List ℕ). At s 0 l) (allowed-parts b a) (at-whole s)) (sym (ap length (allowed-parts b a))) in
     (x .0, simp (le-leb (length s) 16777216 short) (x .1), x .2)
 
 -- ---- what was read is the grammar's bytes
@@ -189,15 +214,15 @@ module _ (s : List ℕ) (bytes : Bytes s) where
       let z = closing-writes s bytes (u .1) (omega (arith, at-in s (t .1) l (y .1), y .2)) (v .0) (v .1) (v .2) in
       go hd (t .1) (u .0) (u .1) (v .0) x y (z .0, z .1) (ok-value (v .3)) (sym (ok-place (v .3)) ∙ z .2)
     where
-      go : (hd : Header) (p : ℕ) (es : List Entry) (r : ℕ) (tag : Tag) → Headed (topOf hd) × At s 0 (topBytes (topOf hd)) × (0 + length (topBytes (topOf hd)) ≡ p)
+      go : (hd : Header) (p : ℕ) (es : List Entry) (r : ℕ) (ending : Tag) → Headed (topOf hd) × At s 0 (topBytes (topOf hd)) × (0 + length (topBytes (topOf hd)) ≡ p)
           → ((length (map colourOf es) ≡ hd .numbers .count) × All (λ i k. Swatch (componentsOf (hd .numbers .space)) k) 0 (map colourOf es)) × At s p (joined colourBytes (map colourOf es)) × (p + length (joined colourBytes (map colourOf es)) ≡ r)
-          → At s r (tagBytes tag) × (r + length (tagBytes tag) ≡ length s)
-          → record { header = hd; first = p; entries = es; tag = tag } ≡ c → q ≡ length s → File (bookOf c) s × (q ≡ length s)
-      go hd p es r tag x y z is end =
-          let d : Contents = record { header = hd; first = p; entries = es; tag = tag } in
+          → At s r (tagBytes ending) × (r + length (tagBytes ending) ≡ length s)
+          → record { header = hd; first = p; entries = es; tag = ending } ≡ c → q ≡ length s → File (bookOf c) s × (q ≡ length s)
+      go hd p es r ending x y z is end =
+          let d : Contents = record { header = hd; first = p; entries = es; tag = ending } in
           let b : Book = bookOf d in
           let l : List ℕ = joined colourBytes (b .colours) in
-          let g : List ℕ = tagBytes tag in
+          let g : List ℕ = tagBytes ending in
           let same : topOf hd ≡ topIn b = ap (λ (k : ℕ). record { identifier = hd .identifier; texts = map (λ (nm : Name). nm .units) (hd .texts); numbers = record { count = k; size = hd .numbers .size; offset = hd .numbers .offset; space = hd .numbers .space } }) (sym (y .0 .0)) in
           let t : List ℕ = topBytes (topIn b) in
           let ht : At s 0 t = subst (λ (w : Top). At s 0 (topBytes w)) same (x .1) in
@@ -205,7 +230,7 @@ module _ (s : List ℕ) (bytes : Bytes s) where
           let tail : At s p (l ++ g) = at-next s p l g r (y .2) (y .1) (z .0) in
           let whole : At s 0 (t ++ (l ++ g)) = at-next s 0 t (l ++ g) p lt ht tail in
           let len : length (t ++ (l ++ g)) ≡ length s = omega (arith, length-append t (l ++ g), length-append l g, lt, y .2, z .1) in
-          let made : s ≡ fileBytes b = at-all s (t ++ (l ++ g)) whole len ∙ sym (length-file b) in
+          let made : s ≡ fileBytes b = at-all s (t ++ (l ++ g)) whole len ∙ sym (file-parts b) in
           let n = x .0 .numbers in
           let allowed : Allowed b = record {
             identifier = x .0 .identifier;
@@ -217,6 +242,8 @@ module _ (s : List ℕ) (bytes : Bytes s) where
             components = componentsOf (hd .numbers .space);
             space = n .space;
             colours = y .0 .1;
+            ends = ending;
+            tag = refl;
           } in
           (subst (λ (k : Contents). File (bookOf k) s) is (subst (File b) (sym made) (file allowed (omega (arith, short, ap length made)))), end)
 

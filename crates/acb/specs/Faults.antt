@@ -6,12 +6,21 @@ use lib.ListN.{length}
 use Rattle.fields.specs.Numbers.{All}
 use Rattle.fields.specs.Reader.{pick}
 use Rattle.fields.specs.Faults.{firstOf}
-use Rattle.acb.specs.Grammar.{Book, String, Swatch}
+use Rattle.acb.specs.Grammar.{Ending, tagged, other, Unknown, Book, String, Swatch}
 use Rattle.acb.specs.Reading.{isSpace, componentsOf}
 
--- page size 0 is 5, an unknown space 4; all else that fits its field is allowed
+-- another tag is 3
+abbrev pub endingFault : Ending → ℕ
+endingFault (tagged t) = 0
+endingFault (other v) = 3
+
+-- page size 0 is 5, an unknown space 4, and last another tag; all else that fits its field is allowed
 unfoldable pub bookFault : Book → ℕ
-bookFault b = firstOf (pick (ltb 0 (b .size)) 0 5) (pick (isSpace (b .space)) 0 4)
+bookFault b = firstOf (pick (ltb 0 (b .size)) 0 5) (firstOf (pick (isSpace (b .space)) 0 4) (endingFault (b .tag)))
+
+abbrev pub EndingFits : Ending → Type 0
+EndingFits (tagged t) = Unit
+EndingFits (other v) = Unknown v
 
 -- a book whose numbers fit their fields, whether or not they are allowed
 pub record BookFits (b : Book) : Type 0 where
@@ -23,3 +32,4 @@ pub record BookFits (b : Book) : Type 0 where
   pub offset : b .offset < 256 ^ 2
   pub space : b .space < 256 ^ 2
   pub colours : All (λ k c. Swatch (componentsOf (b .space)) c) 0 (b .colours)
+  pub tag : EndingFits (b .tag)

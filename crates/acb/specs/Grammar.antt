@@ -18,6 +18,11 @@ pub data Tag : Type 0 where
   spot : Tag
   process : Tag
 
+-- how a book ends that is given to a writer: as a file may end, or with eight bytes that are no tag
+pub data Ending : Type 0 where
+  tagged : Tag → Ending
+  other : ℕ → Ending
+
 -- the units of title, prefix, suffix and description, in this order, are `texts`
 pub record Book : Type 0 where
   pub identifier : ℕ
@@ -26,7 +31,7 @@ pub record Book : Type 0 where
   pub offset : ℕ
   pub space : ℕ
   pub colours : List Colour
-  pub tag : Tag
+  pub tag : Ending
 
 -- ---- its bytes
 
@@ -44,6 +49,15 @@ tagBytes none = []
 tagBytes spot = be 8 0x7370_666C_7370_6F74
 tagBytes process = be 8 0x7370_666C_7072_6F63
 
+-- eight bytes that are no tag
+pub record Unknown (v : ℕ) : Type 0 where
+  pub small : v < 256 ^ 8
+  pub no-tag : (t : Tag) → be 8 v ≡ tagBytes t → ⊥
+
+abbrev pub endingBytes : Ending → List ℕ
+endingBytes (tagged t) = tagBytes t
+endingBytes (other v) = be 8 v
+
 -- `8BCB`, 1, identifier, four strings, colour count, page size, page offset, space
 unfoldable pub headBytes : Book → List ℕ
 headBytes b =
@@ -52,7 +66,7 @@ headBytes b =
     ++ (be 2 (length (b .colours)) ++ (be 2 (b .size) ++ (be 2 (b .offset) ++ be 2 (b .space)))))))
 
 unfoldable pub fileBytes : Book → List ℕ
-fileBytes b = headBytes b ++ (joined colourBytes (b .colours) ++ tagBytes (b .tag))
+fileBytes b = headBytes b ++ (joined colourBytes (b .colours) ++ endingBytes (b .tag))
 
 -- ---- which books are allowed
 
@@ -89,6 +103,9 @@ pub record Allowed (b : Book) : Type 0 where
   pub components : ℕ
   pub space : Space (b .space) components
   pub colours : All (λ k c. Swatch components c) 0 (b .colours)
+  -- no other tag
+  pub ends : Tag
+  pub tag : b .tag ≡ tagged ends
 
 -- ---- a file: at most 16,777,216 bytes
 pub data File : Book → List ℕ → Type 0 where

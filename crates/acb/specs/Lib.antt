@@ -3,3 +3,4 @@ pub mod Reading
 pub mod Faults
 pub mod Widths
 pub mod Refusals
+pub mod Damaged

@@ -7,7 +7,7 @@ use lib.ListN.{length}
 use Rattle.fields.specs.Reader.{Res, ok, refuse, Reader, then, pick, field, body, Judged, unless, judged, give, _>>=_, each, ended, limit}
 use Rattle.fields.specs.Text.{Name}
 use Rattle.colour.specs.Spaces.{rgb, cmyk, lab}
-use Rattle.acb.specs.Grammar.{Colour, Tag, none, spot, process, Book}
+use Rattle.acb.specs.Grammar.{Colour, Tag, none, spot, process, tagged, Book}
 
 -- ---- records
 
@@ -63,11 +63,19 @@ pub record Header : Type 0 where
   pub texts : List Name
   pub numbers : Numbers
 
--- `8BCB`, 1, else 3 each; the identifier
+-- `8BCB`, else 3
+abbrev pub signature : ℕ → Judged
+signature x = unless (eqb x 0x3842_4342) 3
+
+-- another version than 1 is 3
+abbrev pub version : ℕ → Judged
+version v = unless (eqb v 1) 3
+
+-- signature, version, identifier
 unfoldable pub opening : Reader ℕ
 opening = do
-  x ← judged 4 (λ x. unless (eqb x 0x3842_4342) 3)
-  v ← judged 2 (λ v. unless (eqb v 1) 3)
+  x ← judged 4 signature
+  v ← judged 2 version
   field 2
 
 -- title, prefix, suffix, description
@@ -98,11 +106,15 @@ isTag t = pick (eqb t 0x7370_666C_7370_6F74) true (eqb t 0x7370_666C_7072_6F63)
 abbrev pub tagOf : ℕ → Tag
 tagOf t = pick (eqb t 0x7370_666C_7370_6F74) spot process
 
--- nothing, or a tag, else 3, and then nothing more, else 6; fewer than its eight bytes are 2
+-- other tags are 3
+abbrev pub tag : ℕ → Judged
+tag t = unless (isTag t) 3
+
+-- nothing, or a tag, and then nothing more, else 6; fewer than its eight bytes are 2
 unfoldable pub closing : Reader Tag
 closing s at =
     pick (eqb at (length s)) (ok none at)
-    (then (judged 8 (λ t. unless (isTag t) 3) s at) (λ t q. ended (tagOf t) s q))
+    (then (judged 8 tag s at) (λ t q. ended (tagOf t) s q))
 
 -- a file that was read, and the place of its first record
 pub record Contents : Type 0 where
@@ -136,5 +148,5 @@ bookOf c = record {
   offset = c .header .numbers .offset;
   space = c .header .numbers .space;
   colours = map colourOf (c .entries);
-  tag = c .tag;
+  tag = tagged (c .tag);
 }

@@ -1,6 +1,6 @@
 -- What the writer answers, on plain values. Assumes nothing.
 use Prim.Native.Nat.{ℕ, _≤_, _<_}
-use mathlib.Core.Path.{_≡_, sym, ap, _∙_}
+use mathlib.Core.Path.{_≡_, refl, sym, ap, _∙_}
 use mathlib.Core.List.{List}
 use lib.ListN.{length}
 use lib.Dec.{leb}
@@ -12,20 +12,21 @@ use Rattle.fields.specs.Writing.{bytes, refused}
 use Rattle.fields.proofs.Tells.{first-inv}
 use Rattle.fields.proofs.Writing.{needs-no, needs-all, needs-inv}
 use Rattle.fields.proofs.Firsts.{hit, pass, test-holds}
-use Rattle.acb.specs.Grammar.{Tag}
+use Rattle.acb.specs.Grammar.{Ending}
 use Rattle.acb.specs.Reading.{componentsOf}
+use Rattle.acb.specs.Faults.{endingFault}
 use Rattle.acb_judge.specs.Answer.{Shown}
 use Rattle.acb_records.specs.Writing.{Given, sizes, sizeIn, headSize, size, headFault, colourFault, fault, needed}
 use Rattle.acb_records.specs.Parts.{RecordsFit}
 use Rattle.acb.proofs.Laws.{components-some}
 
-module _ (text : List ℕ) (h : Shown) (t : Tag) (gs : List Given) where
+module _ (text : List ℕ) (h : Shown) (t : Ending) (gs : List Given) where
   pub too-long : limit < size h t gs → refused 1 0 ≡ needed text h t gs
   unfolding fault
   too-long k = needs-no (fault text h t gs) (size h t gs) 1 (simp (lt-leb _ _ k)) (λ z. omega arith)
 
   module _ (fits : size h t gs ≤ limit) where
-    rest : fault text h t gs ≡ firstOf (headFault text h (length gs)) (faults (colourFault text (componentsOf (h .space))) gs)
+    rest : fault text h t gs ≡ firstOf (headFault text h (length gs)) (firstOf (faults (colourFault text (componentsOf (h .space))) gs) (endingFault t))
     unfolding fault
     rest = simp (le-leb _ _ fits)
 
@@ -39,24 +40,37 @@ module _ (text : List ℕ) (h : Shown) (t : Tag) (gs : List Given) where
 
       -- and each record with m components
       module _ (z : x ≡ 0) (y : ℕ) {m : ℕ} (c : m ≡ componentsOf (h .space)) (w : y ≡ faults (colourFault text m) gs) where
-        behind : y ≡ fault text h t gs
-        behind = pass y (headFault text h (length gs)) _ x first z (w ∙ ap (λ (j : ℕ). faults (colourFault text j) gs) c) ∙ sym rest
+        behind : (r : ℕ) → r ≡ firstOf (faults (colourFault text (componentsOf (h .space))) gs) (endingFault t) → r ≡ fault text h t gs
+        behind r e = pass r (headFault text h (length gs)) _ x first z e ∙ sym rest
+
+        second : y ≡ faults (colourFault text (componentsOf (h .space))) gs
+        second = w ∙ ap (λ (j : ℕ). faults (colourFault text j) gs) c
 
         pub bad-colour : (y ≡ 0 → ⊥) → refused y 0 ≡ needed text h t gs
-        bad-colour k = needs-no (fault text h t gs) (size h t gs) y behind k
+        bad-colour k = needs-no (fault text h t gs) (size h t gs) y (behind y (hit y _ _ second k)) k
 
-        pub all-fine : (k : ℕ) → y ≡ 0 → size h t gs ≡ k → bytes k ≡ needed text h t gs
-        all-fine k v s = needs-all (fault text h t gs) (size h t gs) k (sym behind ∙ v) s
+        -- the records have no fault: the tag decides
+        module _ (v : y ≡ 0) where
+          last : endingFault t ≡ fault text h t gs
+          last = behind (endingFault t) (pass (endingFault t) (faults (colourFault text (componentsOf (h .space))) gs) _ y second v refl)
+
+          pub bad-ending : endingFault t ≡ 3 → refused 3 0 ≡ needed text h t gs
+          bad-ending k = needs-no (fault text h t gs) (size h t gs) 3 (sym k ∙ last) (λ a. omega arith)
+
+          pub all-fine : (k : ℕ) → endingFault t ≡ 0 → size h t gs ≡ k → bytes k ≡ needed text h t gs
+          all-fine k g s = needs-all (fault text h t gs) (size h t gs) k (sym last ∙ g) s
 
   -- what the answer says of the book
   pub needed-bytes : (k : ℕ) → bytes k ≡ needed text h t gs → (fault text h t gs ≡ 0) × (size h t gs ≡ k)
   needed-bytes k e = needs-inv (fault text h t gs) (size h t gs) k e
 
-  pub no-fault : fault text h t gs ≡ 0 → (headFault text h (length gs) ≡ 0) × (faults (colourFault text (componentsOf (h .space))) gs ≡ 0)
+  pub no-fault : fault text h t gs ≡ 0 → (headFault text h (length gs) ≡ 0) × (faults (colourFault text (componentsOf (h .space))) gs ≡ 0) × (endingFault t ≡ 0)
   unfolding fault
   no-fault e =
       let a = test-holds (leb (size h t gs) limit) _ 1 (omega arith) e in
-      first-inv (headFault text h (length gs)) (faults (colourFault text (componentsOf (h .space))) gs) (a .1)
+      let b = first-inv (headFault text h (length gs)) _ (a .1) in
+      let c = first-inv (faults (colourFault text (componentsOf (h .space))) gs) (endingFault t) (b .1) in
+      (b .0, c .0, c .1)
 
   -- what storing the records asks, behind the header
   pub records-fit : fault text h t gs ≡ 0 → (m p room : ℕ) → m ≡ componentsOf (h .space) → p ≡ headSize h → size h t gs ≤ room → RecordsFit text m gs p room

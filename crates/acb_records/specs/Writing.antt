@@ -7,8 +7,9 @@ use Rattle.fields.specs.Numbers.{counted, nums}
 use Rattle.fields.specs.Reader.{pick, body, numberOf, limit}
 use Rattle.fields.specs.Faults.{firstOf, faults}
 use Rattle.fields.specs.Writing.{Outcome, needs, writes}
-use Rattle.acb.specs.Grammar.{Colour, Tag, none, spot, process, Book, fileBytes}
+use Rattle.acb.specs.Grammar.{Colour, Tag, none, spot, process, Ending, tagged, other, Book, fileBytes}
 use Rattle.acb.specs.Reading.{isSpace, componentsOf}
+use Rattle.acb.specs.Faults.{endingFault}
 use Rattle.acb_judge.specs.Answer.{Shown}
 
 -- ---- the records of a run
@@ -48,7 +49,7 @@ componentsIn n g = take n (g .components)
 abbrev pub colourIn : List ℕ → ℕ → Given → Colour
 colourIn text n g = record { name = unitsIn text (g .name); code = g .code; components = componentsIn n g }
 
-abbrev pub bookIn : List ℕ → Shown → Tag → List Given → Book
+abbrev pub bookIn : List ℕ → Shown → Ending → List Given → Book
 bookIn text h t gs = record {
   identifier = h .identifier;
   texts = map (unitsIn text) (h .texts);
@@ -79,13 +80,18 @@ tagSize none = 0
 tagSize spot = 8
 tagSize process = 8
 
+-- another tag has eight bytes too
+abbrev pub endingSize : Ending → ℕ
+endingSize (tagged t) = tagSize t
+endingSize (other v) = 8
+
 -- seven numbers, and the strings
 abbrev pub headSize : Shown → ℕ
 headSize h = 16 + sizes stringSize (h .texts)
 
 -- an unknown space counts three components
-abbrev pub size : Shown → Tag → List Given → ℕ
-size h t gs = headSize h + sizes (sizeIn (componentsOf (h .space))) gs + tagSize t
+abbrev pub size : Shown → Ending → List Given → ℕ
+size h t gs = headSize h + sizes (sizeIn (componentsOf (h .space))) gs + endingSize t
 
 -- ---- which fault comes first: a number of the refusal table, 0 where there is none
 
@@ -109,19 +115,19 @@ byteFault v = pick (leb v 255) 0 5
 unfoldable pub colourFault : List ℕ → ℕ → Given → ℕ
 colourFault text n g = firstOf (textFault text (g .name)) (firstOf (faults byteFault (g .code)) (faults byteFault (componentsIn n g)))
 
--- first the limit, on the whole output's length; then the header; then the records in their order
-unfoldable pub fault : List ℕ → Shown → Tag → List Given → ℕ
+-- first the limit, on the whole output's length; then the header; then the records in their order; then the tag
+unfoldable pub fault : List ℕ → Shown → Ending → List Given → ℕ
 fault text h t gs =
     pick (leb (size h t gs) limit)
-    (firstOf (headFault text h (length gs)) (faults (colourFault text (componentsOf (h .space))) gs))
+    (firstOf (headFault text h (length gs)) (firstOf (faults (colourFault text (componentsOf (h .space))) gs) (endingFault t)))
     1
 
 -- ---- the answer
 
 -- the exact length that writing needs, or the refusal
-abbrev pub needed : List ℕ → Shown → Tag → List Given → Outcome
+abbrev pub needed : List ℕ → Shown → Ending → List Given → Outcome
 needed text h t gs = needs (fault text h t gs) (size h t gs)
 
 -- what writing does with the lent bytes
-abbrev pub written : List ℕ → Shown → Tag → List Given → List ℕ → Outcome × List ℕ
+abbrev pub written : List ℕ → Shown → Ending → List Given → List ℕ → Outcome × List ℕ
 written text h t gs out = writes (fault text h t gs) (size h t gs) (fileBytes (bookIn text h t gs)) out

@@ -8,9 +8,10 @@ ghost use Rattle.fields.specs.Reader.{pick, limit};
 ghost use Rattle.fields.specs.Faults.{faults};
 ghost use Rattle.fields.specs.Writing.{bytes, refused};
 ghost use Rattle.acb_judge.specs.Answer.{toldText, toldHeader, toldTag};
-ghost use Rattle.acb_records.specs.Writing.{givenAt, givens, given, componentsIn, stringSize, tagSize, headSize, size, textFault, byteFault, headFault, colourFault, fault, needed};
+ghost use Rattle.acb_records.specs.Writing.{givenAt, givens, given, componentsIn, stringSize, tagSize, endingSize, headSize, size, textFault, byteFault, headFault, colourFault, fault, needed};
 ghost use Rattle.fields.specs.Answer.{toldWritten};
 ghost use Rattle.acb_records.specs.Parts.{givenOf, noRecord, recordIn};
+ghost use Rattle.acb_records.specs.Answer.{toldEnding};
 use acb::WIDTH;
 use acb_judge::Header;
 use acb_judge::Tag;
@@ -30,6 +31,12 @@ pub struct Record {
     pub l: u32,
     pub m: u32,
     pub n: u32,
+}
+
+// How a book to be written ends: as a file may end, or with another tag, which is refused.
+pub enum Ending {
+    Tagged(Tag),
+    Other,
 }
 
 // Record k of a run that has it; nothing else knows how a run lays it out.
@@ -104,6 +111,16 @@ fn tag_size(tag: Tag) -> usize
     }
 }
 
+// The same, where the tag may be another; one has eight bytes too.
+fn ending_size(ending: Ending) -> usize
+    ensures { λ r. ⌜ (r ≡ endingSize (toldEnding ending)) × (r ≤ 8) ⌝ }
+{
+    match ending {
+        Ending::Tagged(tag) => tag_size(tag),
+        Ending::Other => 8,
+    }
+}
+
 // How many bytes the header takes.
 fn head_size(header: Header) -> usize
     ensures { λ r. ⌜ (r ≡ headSize (toldHeader header)) × (r < 0x10_0000_0000) ⌝ }
@@ -114,12 +131,12 @@ fn head_size(header: Header) -> usize
 }
 
 // How many bytes the file of n records takes. It stops at the limit, so that no sum passes 64 bits.
-fn size_of(header: Header, tag: Tag, run: &[u32], n: usize) -> Written
+fn size_of(header: Header, ending: Ending, run: &[u32], n: usize) -> Written
     requires { ⌜ 12 * n ≤ length (now run) ⌝ }
-    ensures { λ r. ⌜ toldWritten r ≡ pick (leb (size (toldHeader header) (toldTag tag) (givens (now (run .entry)) n 0)) limit) (bytes (size (toldHeader header) (toldTag tag) (givens (now (run .entry)) n 0))) (refused 1 0) ⌝ }
+    ensures { λ r. ⌜ toldWritten r ≡ pick (leb (size (toldHeader header) (toldEnding ending) (givens (now (run .entry)) n 0)) limit) (bytes (size (toldHeader header) (toldEnding ending) (givens (now (run .entry)) n 0))) (refused 1 0) ⌝ }
 {
     let tones = 6 + acb_judge::components_of(header.space);
-    let mut total = head_size(header) + tag_size(tag);
+    let mut total = head_size(header) + ending_size(ending);
     if acb::LIMIT < total {
         return Written::Refused(1);
     }
@@ -274,11 +291,11 @@ fn colours_fault(run: &[u32], text: &[u8], count: usize, n: usize) -> u32
 }
 
 // The exact length that writing needs, or the refusal.
-pub fn write_length(header: Header, tag: Tag, records: &[u32], text: &[u8]) -> Written
-    ensures { λ r. ⌜ toldWritten r ≡ needed (now (text .entry)) (toldHeader header) (toldTag tag) (given (now (records .entry))) ⌝ }
+pub fn write_length(header: Header, ending: Ending, records: &[u32], text: &[u8]) -> Written
+    ensures { λ r. ⌜ toldWritten r ≡ needed (now (text .entry)) (toldHeader header) (toldEnding ending) (given (now (records .entry))) ⌝ }
 {
     let n = records.len() / WIDTH;
-    let Written::Bytes(size) = size_of(header, tag, records, n) else {
+    let Written::Bytes(size) = size_of(header, ending, records, n) else {
         return Written::Refused(1);
     };
     let x = head_fault(text, header, n);
@@ -289,5 +306,8 @@ pub fn write_length(header: Header, tag: Tag, records: &[u32], text: &[u8]) -> W
     if y != 0 {
         return Written::Refused(y);
     }
-    Written::Bytes(size)
+    match ending {
+        Ending::Other => Written::Refused(3),
+        Ending::Tagged(_) => Written::Bytes(size),
+    }
 }

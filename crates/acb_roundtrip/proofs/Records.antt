@@ -15,7 +15,7 @@ use Rattle.fields.proofs.Inverse.{then-inv, pick-inv, body-inv, ok-value, each-
 use Rattle.fields.proofs.Exact.{all-map, all-both, length-map}
 use Rattle.fields.proofs.Firsts.{all-image, all-source}
 use Rattle.fields.proofs.Rows.{rows-back, length-rows, all-fit}
-use Rattle.acb.specs.Grammar.{Colour, Book, String, Swatch, Allowed, File, file}
+use Rattle.acb.specs.Grammar.{Colour, tagged, Book, String, Swatch, Allowed, File, file}
 use Rattle.acb.specs.Reading.{string, Entry, colour, componentsOf, Header, strings, numbers, opening, header, closing, Contents, book, acb, colourOf, bookOf}
 use Rattle.acb_judge.specs.Answer.{lies, shown}
 use Rattle.acb.proofs.Laws.{components-some, space-components, space-small}
@@ -170,7 +170,7 @@ module _ (s : List ℕ) (bytes : Bytes s) {c : Contents} {q : ℕ} (e : acb s �
   sounds = all-both (λ k x. NameIn s (x .name)) (λ k x. Swatch n (colourOf x)) 0 (c .entries) (all-lie s e .1) (all-source colourOf (λ k x. Swatch n x) 0 (c .entries) swatches)
 
   -- it is the book that was read
-  pub given-book : bookIn s (shown (c .header)) (c .tag) (tabled (c .entries)) ≡ bookOf c
+  pub given-book : bookIn s (shown (c .header)) (tagged (c .tag)) (tabled (c .entries)) ≡ bookOf c
   given-book =
       let a = texts-back s 0 (c .header .texts) (all-lie s e .0) in
       let b = colours-back s n (components-some (c .header .numbers .space) .1) 0 (c .entries) sounds in
@@ -181,11 +181,11 @@ module _ (s : List ℕ) (bytes : Bytes s) {c : Contents} {q : ℕ} (e : acb s �
         offset = c .header .numbers .offset;
         space = c .header .numbers .space;
         colours = b i;
-        tag = c .tag;
+        tag = tagged (c .tag);
       }
 
   -- it fits
-  pub given-fit : BookFitting s (shown (c .header)) (tabled (c .entries))
+  pub given-fit : BookFitting s (shown (c .header)) (tagged (c .tag)) (tabled (c .entries))
   given-fit = record {
     headed = record {
       four = length-map lies (c .header .texts) ∙ sym (length-map (λ (nm : Name). nm .units) (c .header .texts)) ∙ allowed .four;
@@ -200,4 +200,5 @@ module _ (s : List ℕ) (bytes : Bytes s) {c : Contents} {q : ℕ} (e : acb s �
     count = subst (λ (k : ℕ). k < 256 ^ 2) (length-map colourOf (c .entries) ∙ sym (length-map taken (c .entries))) (allowed .count);
     records = all-image taken (λ k g. Fitting s n g) 0 (c .entries)
         (all-map (λ k x. NameIn s (x .name) × Swatch n (colourOf x)) (λ k x. Fitting s n (taken x)) (λ k x h. taken-fits s n (components-some (c .header .numbers .space) .1) x h) 0 (c .entries) sounds);
+    tag = tt;
   }

@@ -11,7 +11,7 @@ use Rattle.fields.specs.Numbers.{joined, Bytes}
 use Rattle.fields.specs.Reader.{ok, numberOf, limit}
 use Rattle.fields.specs.Writing.{bytes}
 use Rattle.fields.proofs.Firsts.{test-holds}
-use Rattle.acb.specs.Grammar.{Tag, Book, fileBytes}
+use Rattle.acb.specs.Grammar.{Ending, tagged, Book, fileBytes}
 use Rattle.acb.specs.Reading.{Entry, Contents, componentsOf, acb}
 use Rattle.acb_judge.specs.Answer.{Shown, shown}
 use Rattle.acb.specs.Faults.{bookFault}
@@ -28,7 +28,7 @@ use Rattle.acb_roundtrip.proofs.Spare.{colour-alike, fault-alike, size-
 -- ---- what is written reads back
 
 -- a header, records and a tag without a fault are made into a file that holds their book, and that is as long as the writer says
-pub written-reads : (text : List ℕ) (h : Shown) (t : Tag) (run : List ℕ) → Bytes text → Headed h → fault text h t (given run) ≡ 0
+pub written-reads : (text : List ℕ) (h : Shown) (t : Ending) (run : List ℕ) → Bytes text → Headed h → fault text h t (given run) ≡ 0
     → Holds (made text h t (given run)) (bookIn text h t (given run)) × (length (made text h t (given run)) ≡ size h t (given run))
 written-reads text h t run b hd e =
     let gs : List Given = given run in
@@ -38,7 +38,7 @@ written-reads text h t run b hd e =
     (allowed-reads (written-allowed d (book-fits text h t gs fit b) (x .1) (leb-true (length (fileBytes d)) limit (x .0))), length-made text h t gs fit)
 
 -- where the writer says that it wrote n bytes, the first n bytes are a file that holds the book that was given, and the rest is as it was
-pub written-holds : (text : List ℕ) (h : Shown) (t : Tag) (run out out′ : List ℕ) (n : ℕ) → Bytes text → Headed h → written text h t (given run) out ≡ (bytes n, out′)
+pub written-holds : (text : List ℕ) (h : Shown) (t : Ending) (run out out′ : List ℕ) (n : ℕ) → Bytes text → Headed h → written text h t (given run) out ≡ (bytes n, out′)
     → (n ≤ length out′) × (length out′ ≡ length out) × Holds (take n out′) (bookIn text h t (given run)) × (drop n out′ ≡ drop n out)
 written-holds text h t run out out′ n b hd e =
     let file : List ℕ = made text h t (given run) in
@@ -57,17 +57,17 @@ read-gives es = given-rows es
 
 -- the header, the records and the tag of an accepted file, written back with the file itself for their strings and names, are the file, byte for byte
 pub read-writes : (s : List ℕ) → Bytes s → {c : Contents} {q : ℕ} → acb s ≡ ok c q
-    → (out : List ℕ) → length s ≤ length out → written s (shown (c .header)) (c .tag) (tabled (c .entries)) out ≡ (bytes (length s), s ++ drop (length s) out)
+    → (out : List ℕ) → length s ≤ length out → written s (shown (c .header)) (tagged (c .tag)) (tabled (c .entries)) out ≡ (bytes (length s), s ++ drop (length s) out)
 read-writes s b e out h = writes-all s b e out h
 
 -- and they need as many bytes as the file has
-pub read-needs : (s : List ℕ) → Bytes s → {c : Contents} {q : ℕ} → acb s ≡ ok c q → needed s (shown (c .header)) (c .tag) (tabled (c .entries)) ≡ bytes (length s)
+pub read-needs : (s : List ℕ) → Bytes s → {c : Contents} {q : ℕ} → acb s ≡ ok c q → needed s (shown (c .header)) (tagged (c .tag)) (tabled (c .entries)) ≡ bytes (length s)
 read-needs s b e = needs-all s b e
 
 -- ---- refusals
 
 -- of a header and records that fit their fields the writer's refusal, 11 aside, has the number that the reader gives for the bytes made of them; 0 is none
-pub refusals-agree : (text : List ℕ) → Bytes text → (h : Shown) (t : Tag) (gs : List Given) → BookFitting text h gs → fault text h t gs ≡ numberOf (acb (made text h t gs))
+pub refusals-agree : (text : List ℕ) → Bytes text → (h : Shown) (t : Ending) (gs : List Given) → BookFitting text h t gs → fault text h t gs ≡ numberOf (acb (made text h t gs))
 refusals-agree text b h t gs fit = fault-same text h t gs fit ∙ sym (written-number (bookIn text h t gs) (book-fits text h t gs fit b))
 
 -- ---- spare places
@@ -78,6 +78,6 @@ pub spare-ignored : (text : List ℕ) (n : ℕ) (g h : Given) → Alike n g h
 spare-ignored text n g h x = (colour-alike text n g h x, fault-alike text n g h x, size-alike text n g h x)
 
 -- and so they are written the same
-pub spare-writes : (text : List ℕ) (h : Shown) (t : Tag) (gs hs : List Given) → AllAlike (componentsOf (h .space)) gs hs
+pub spare-writes : (text : List ℕ) (h : Shown) (t : Ending) (gs hs : List Given) → AllAlike (componentsOf (h .space)) gs hs
     → (needed text h t gs ≡ needed text h t hs) × ((out : List ℕ) → written text h t gs out ≡ written text h t hs out)
 spare-writes text h t gs hs x = (needed-alike text h t gs hs x, written-alike text h t gs hs x)

@@ -7,10 +7,11 @@ use lib.ListN.{length}
 use Rattle.fields.specs.Reader.{pick, limit}
 use Rattle.fields.specs.Faults.{firstOf, faults}
 use Rattle.fields.specs.Writing.{needs, writes}
-use Rattle.acb.specs.Grammar.{Colour, Tag, fileBytes}
+use Rattle.acb.specs.Grammar.{Colour, Ending, fileBytes}
 use Rattle.acb.specs.Reading.{componentsOf}
+use Rattle.acb.specs.Faults.{endingFault}
 use Rattle.acb_judge.specs.Answer.{Shown}
-use Rattle.acb_records.specs.Writing.{Given, unitsIn, colourIn, sizes, sizeIn, tagSize, headSize, textFault, byteFault, headFault, colourFault, fault, needed, written}
+use Rattle.acb_records.specs.Writing.{Given, unitsIn, colourIn, sizes, sizeIn, endingSize, headSize, textFault, byteFault, headFault, colourFault, fault, needed, written}
 use Rattle.acb_roundtrip.specs.Tie.{Alike, AllAlike}
 
 module _ (text : List ℕ) (n : ℕ) where
@@ -52,19 +53,19 @@ module _ (text : List ℕ) (n : ℕ) where
   length-alike (g ∷ gs) [] x = absurd x
   length-alike (g ∷ gs) (h ∷ hs) x = ap suc (length-alike gs hs (x .1))
 
-module _ (text : List ℕ) (h : Shown) (t : Tag) (gs hs : List Given) (x : AllAlike (componentsOf (h .space)) gs hs) where
+module _ (text : List ℕ) (h : Shown) (t : Ending) (gs hs : List Given) (x : AllAlike (componentsOf (h .space)) gs hs) where
   abbrev m : ℕ
   m = componentsOf (h .space)
 
   first-alike : fault text h t gs ≡ fault text h t hs
   unfolding fault
-  first-alike = λ i. pick (leb (headSize h + sizes-alike text m gs hs x i + tagSize t) limit) (firstOf (headFault text h (length-alike text m gs hs x i)) (faults-alike text m gs hs x i)) 1
+  first-alike = λ i. pick (leb (headSize h + sizes-alike text m gs hs x i + endingSize t) limit) (firstOf (headFault text h (length-alike text m gs hs x i)) (firstOf (faults-alike text m gs hs x i) (endingFault t))) 1
 
   pub needed-alike : needed text h t gs ≡ needed text h t hs
-  needed-alike = λ i. needs (first-alike i) (headSize h + sizes-alike text m gs hs x i + tagSize t)
+  needed-alike = λ i. needs (first-alike i) (headSize h + sizes-alike text m gs hs x i + endingSize t)
 
   pub written-alike : (out : List ℕ) → written text h t gs out ≡ written text h t hs out
-  written-alike out = λ i. writes (first-alike i) (headSize h + sizes-alike text m gs hs x i + tagSize t)
+  written-alike out = λ i. writes (first-alike i) (headSize h + sizes-alike text m gs hs x i + endingSize t)
       (fileBytes (record {
         identifier = h .identifier;
         texts = map (unitsIn text) (h .texts);

@@ -5,7 +5,8 @@ use mathlib.Core.List.{List, [], _∷_, map}
 use lib.ListN.{length}
 use Rattle.fields.specs.Numbers.{All}
 use Rattle.fields.specs.Reader.{ok}
-use Rattle.acb.specs.Grammar.{Tag, Book, fileBytes}
+use Rattle.acb.specs.Grammar.{Ending, Book, fileBytes}
+use Rattle.acb.specs.Faults.{EndingFits}
 use Rattle.acb.specs.Reading.{Entry, Contents, bookOf, componentsOf, acb}
 use Rattle.acb_judge.specs.Answer.{Shown}
 use Rattle.acb_read.specs.Table.{sixOf, fourOf}
@@ -24,7 +25,7 @@ abbrev pub Holds : List ℕ → Book → Type 0
 Holds s b = (c : Contents) × (acb s ≡ ok c (length s)) × (bookOf c ≡ b)
 
 -- the bytes that are made of a header, given records and a tag, whose strings and names lie in `text`
-abbrev pub made : List ℕ → Shown → Tag → List Given → List ℕ
+abbrev pub made : List ℕ → Shown → Ending → List Given → List ℕ
 made text h t gs = fileBytes (bookIn text h t gs)
 
 -- ---- the records of a file that was read, as they are given to a writer
@@ -51,12 +52,13 @@ pub record Fitting (text : List ℕ) (n : ℕ) (g : Given) : Type 0 where
   pub four : length (g .components) ≡ 4
   pub components-small : All (λ i b. b < 256) 0 (componentsIn n g)
 
--- the number of records fits 16 bits
-pub record BookFitting (text : List ℕ) (h : Shown) (gs : List Given) : Type 0 where
+-- the number of records fits 16 bits, and another tag is eight bytes that are none
+pub record BookFitting (text : List ℕ) (h : Shown) (t : Ending) (gs : List Given) : Type 0 where
   pub headed : Headed h
   pub strings : All (λ k l. TextFitting text l) 0 (h .texts)
   pub count : length gs < 256 ^ 2
   pub records : All (λ k g. Fitting text (componentsOf (h .space)) g) 0 gs
+  pub tag : EndingFits t
 
 -- ---- records of n components that differ only in spare places
 

@@ -14,10 +14,10 @@ use Rattle.fields.specs.Store.{stored, part}
 use Rattle.fields.proofs.Places.{length-be, length-bes, length-nums, part-nums}
 use Rattle.fields.proofs.Exact.{length-map}
 use Rattle.fields.proofs.Storing.{as-sets, peel, peel-be, length-kept}
-use Rattle.acb.specs.Grammar.{Tag, none, spot, process, stringBytes, colourBytes, tagBytes, headBytes, fileBytes}
+use Rattle.acb.specs.Grammar.{Tag, none, spot, process, Ending, tagged, other, stringBytes, colourBytes, tagBytes, endingBytes, headBytes, fileBytes}
 use Rattle.acb.specs.Reading.{componentsOf}
 use Rattle.acb_judge.specs.Answer.{Shown}
-use Rattle.acb_records.specs.Writing.{Given, givenAt, givens, unitsIn, componentsIn, colourIn, bookIn, sizes, stringSize, sizeIn, tagSize, headSize, size, textFault}
+use Rattle.acb_records.specs.Writing.{Given, givenAt, givens, unitsIn, componentsIn, colourIn, bookIn, sizes, stringSize, sizeIn, tagSize, endingSize, headSize, size, textFault}
 use Rattle.acb_records.specs.Parts.{start, numberBytes, headingBytes}
 use Rattle.acb_records.proofs.Judging.{text-inside}
 use Rattle.acb.proofs.Laws.{components-some}
@@ -208,9 +208,13 @@ length-tag none = refl
 length-tag spot = length-be 8 0x7370_666C_7370_6F74
 length-tag process = length-be 8 0x7370_666C_7072_6F63
 
+length-ending : (t : Ending) → length (endingBytes t) ≡ endingSize t
+length-ending (tagged t) = length-tag t
+length-ending (other v) = length-be 8 v
+
 -- ---- the whole file
 
-module _ (text : List ℕ) (h : Shown) (t : Tag) (gs : List Given) where
+module _ (text : List ℕ) (h : Shown) (t : Ending) (gs : List Given) where
   heading-is : headBytes (bookIn text h t gs) ≡ headingBytes text h (length gs)
   unfolding headBytes
   heading-is = ap (headingBytes text h) (length-map (colourIn text (componentsOf (h .space))) gs)
@@ -225,12 +229,12 @@ module _ (text : List ℕ) (h : Shown) (t : Tag) (gs : List Given) where
       let m : ℕ = componentsOf (h .space) in
       let a : List ℕ = headBytes (bookIn text h t gs) in
       let b : List ℕ = joined colourBytes (map (colourIn text m) gs) in
-      omega (arith, length-append a (b ++ tagBytes t), length-append b (tagBytes t), length-head, length-colours text m (components-some (h .space) .1) 0 gs s, length-tag t)
+      omega (arith, length-append a (b ++ endingBytes t), length-append b (endingBytes t), length-head, length-colours text m (components-some (h .space) .1) 0 gs s, length-ending t)
 
-module _ (run text : List ℕ) (h : Shown) (t : Tag) (n : ℕ) where
+module _ (run text : List ℕ) (h : Shown) (t : Ending) (n : ℕ) where
   pub put-file : (m : ℕ) → m ≡ componentsOf (h .space) → (o₀ o₁ o₂ o₃ : List ℕ) (p q : ℕ) → o₁ ≡ sets o₀ 0 (headingBytes text h n) → p ≡ headSize h
       → o₂ ≡ sets o₁ p (joined colourBytes (map (colourIn text m) (givens run n 0))) → q ≡ p + sizes (sizeIn m) (givens run n 0)
-      → o₃ ≡ sets o₂ q (tagBytes t) → o₃ ≡ sets o₀ 0 (fileBytes (bookIn text h t (givens run n 0)))
+      → o₃ ≡ sets o₂ q (endingBytes t) → o₃ ≡ sets o₀ 0 (fileBytes (bookIn text h t (givens run n 0)))
   unfolding fileBytes
   put-file m w o₀ o₁ o₂ o₃ p q e₁ x e₂ y e₃ =
       let gs : List Given = givens run n 0 in
@@ -240,7 +244,7 @@ module _ (run text : List ℕ) (h : Shown) (t : Tag) (n : ℕ) where
       let v : p + sizes (sizeIn k) gs ≡ q = omega (arith, ap (λ (j : ℕ). sizes (sizeIn j) gs) w) in
       e₃ ∙ sym (
       peel o₀ o₁ (headBytes (bookIn text h t gs)) _ 0 (headSize h) p (length-head text h t gs) u (e₁ ∙ ap (sets o₀ 0) (sym s))
-      ∙ peel o₁ o₂ (joined colourBytes (map (colourIn text k) gs)) (tagBytes t) p (sizes (sizeIn k) gs) q (length-colours text k (components-some (h .space) .1) 0 gs (givens-shaped run n 0 0)) v
+      ∙ peel o₁ o₂ (joined colourBytes (map (colourIn text k) gs)) (endingBytes t) p (sizes (sizeIn k) gs) q (length-colours text k (components-some (h .space) .1) 0 gs (givens-shaped run n 0 0)) v
       (e₂ ∙ ap (λ (j : ℕ). sets o₁ p (joined colourBytes (map (colourIn text j) gs))) w))
 
   -- a file stored in front of what was there

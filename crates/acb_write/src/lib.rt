@@ -5,15 +5,18 @@ ghost use Prim.Native.Nat.{_+_, _*_, _≤_, _<_};
 ghost use lib.ListN.{length};
 ghost use lib.Seq.{sets};
 ghost use Rattle.fields.specs.Numbers.{be, joined};
-ghost use Rattle.acb.specs.Grammar.{stringBytes, colourBytes, tagBytes, fileBytes};
+ghost use Rattle.acb.specs.Grammar.{stringBytes, colourBytes, tagBytes, endingBytes, fileBytes};
+ghost use Rattle.acb.specs.Faults.{endingFault};
 ghost use Rattle.acb_judge.specs.Answer.{toldText, toldHeader, toldTag};
-ghost use Rattle.acb_records.specs.Writing.{givens, given, unitsIn, componentsIn, colourIn, bookIn, sizes, stringSize, sizeIn, tagSize, headSize, size, headFault, fault, written};
+ghost use Rattle.acb_records.specs.Writing.{givens, given, unitsIn, componentsIn, colourIn, bookIn, sizes, stringSize, sizeIn, tagSize, endingSize, headSize, size, headFault, fault, written};
 ghost use Rattle.fields.specs.Answer.{toldWritten};
+ghost use Rattle.acb_records.specs.Answer.{toldEnding};
 ghost use Rattle.acb_records.specs.Parts.{givenOf, start, numberBytes, headingBytes, StringFits, TextsFit, RecordFits, RecordsFit};
 use acb::WIDTH;
 use acb_judge::Header;
 use acb_judge::Tag;
 use acb_judge::Text;
+use acb_records::Ending;
 use acb_records::Record;
 use fields::Written;
 
@@ -154,10 +157,21 @@ fn put_tag(out: &mut [u8], at: usize, tag: Tag)
     }
 }
 
+// The same of a book without a fault, so that its tag is not another.
+fn put_ending(out: &mut [u8], at: usize, ending: Ending)
+    requires { ⌜ (at + endingSize (toldEnding ending) ≤ length (now out)) × (endingFault (toldEnding ending) ≡ 0) ⌝ }
+    ensures { λ _. ⌜ now (out .exit) ≡ sets (now (out .entry)) at (endingBytes (toldEnding ending)) ⌝ }
+{
+    match ending {
+        Ending::Tagged(tag) => put_tag(out, at, tag),
+        Ending::Other => {}
+    }
+}
+
 // The whole file of n records.
-fn put_file(out: &mut [u8], header: Header, tag: Tag, run: &[u32], text: &[u8], n: usize)
-    requires { ⌜ (12 * n ≤ length (now run)) × (size (toldHeader header) (toldTag tag) (givens (now run) n 0) ≤ length (now out)) × (fault (now text) (toldHeader header) (toldTag tag) (givens (now run) n 0) ≡ 0) ⌝ }
-    ensures { λ _. ⌜ now (out .exit) ≡ sets (now (out .entry)) 0 (fileBytes (bookIn (now (text .entry)) (toldHeader header) (toldTag tag) (givens (now (run .entry)) n 0))) ⌝ }
+fn put_file(out: &mut [u8], header: Header, ending: Ending, run: &[u32], text: &[u8], n: usize)
+    requires { ⌜ (12 * n ≤ length (now run)) × (size (toldHeader header) (toldEnding ending) (givens (now run) n 0) ≤ length (now out)) × (fault (now text) (toldHeader header) (toldEnding ending) (givens (now run) n 0) ≡ 0) ⌝ }
+    ensures { λ _. ⌜ now (out .exit) ≡ sets (now (out .entry)) 0 (fileBytes (bookIn (now (text .entry)) (toldHeader header) (toldEnding ending) (givens (now (run .entry)) n 0))) ⌝ }
 {
     let first = put_head(out, text, header, n);
     let end = put_colours(
@@ -168,21 +182,27 @@ fn put_file(out: &mut [u8], header: Header, tag: Tag, run: &[u32], text: &[u8], 
         n,
         acb_judge::components_of(header.space),
     );
-    put_tag(out, end, tag);
+    put_ending(out, end, ending);
 }
 
 // Writes the header, the records and the tag into `out`; strings and names lie in `text`. A refusal
 // changes nothing.
-pub fn write(header: Header, tag: Tag, records: &[u32], text: &[u8], out: &mut [u8]) -> Written
-    ensures { λ r. ⌜ (toldWritten r, now (out .exit)) ≡ written (now (text .entry)) (toldHeader header) (toldTag tag) (given (now (records .entry))) (now (out .entry)) ⌝ }
+pub fn write(
+    header: Header,
+    ending: Ending,
+    records: &[u32],
+    text: &[u8],
+    out: &mut [u8],
+) -> Written
+    ensures { λ r. ⌜ (toldWritten r, now (out .exit)) ≡ written (now (text .entry)) (toldHeader header) (toldEnding ending) (given (now (records .entry))) (now (out .entry)) ⌝ }
 {
-    match acb_records::write_length(header, tag, records, text) {
+    match acb_records::write_length(header, ending, records, text) {
         Written::Refused(x) => Written::Refused(x),
         Written::Bytes(size) => {
             if out.len() < size {
                 return Written::Refused(11);
             }
-            put_file(out, header, tag, records, text, records.len() / WIDTH);
+            put_file(out, header, ending, records, text, records.len() / WIDTH);
             Written::Bytes(size)
         }
     }

@@ -5,10 +5,8 @@ use lib.Dec.{eqb}
 use lib.IntN.{ℤ, pos}
 use lib.ListN.{getD}
 use Rattle.fields.specs.Reader.{pick}
-use Rattle.fields.specs.Writing.{refused as unwritten}
-use Rattle.acb.specs.Grammar.{Tag, none, spot, process}
+use Rattle.acb.specs.Grammar.{Tag, none, spot, process, Ending, tagged, other}
 use Rattle.acb_judge.specs.Answer.{Shown, Verdict, accepted, refused}
-use Rattle.acb_judge.specs.Parts.{Found, tagged, unknown}
 use Rattle.acb_read.specs.Answer.{Where, lies, refusal}
 use Rattle.acb_read.specs.Answer as record-of
 use Rattle.acb_show.specs.Pages.{sampleOf, dummiesIn}
@@ -124,16 +122,13 @@ givenOf h = record {
   space = h .space;
 }
 
--- the tag that a number is
-abbrev pub tagOf : ℕ → Found
-tagOf n = pick (eqb n 0) (tagged none) (pick (eqb n 1) (tagged spot) (pick (eqb n 2) (tagged process) unknown))
+-- the tag that a number is; one that is none has eight other bytes, and zeros stand for them
+abbrev pub tagOf : ℕ → Ending
+tagOf n = pick (eqb n 0) (tagged none) (pick (eqb n 1) (tagged spot) (pick (eqb n 2) (tagged process) (other 0)))
 
--- a number that is no tag is 3, before all else
-abbrev pub lengthOf : List ℕ → AcbHeader → Found → List Given → Length
-lengthOf text h (tagged t) gs = writtenOf (needed text (givenOf h) t gs)
-lengthOf text h unknown gs = writtenOf (unwritten 3 0)
+abbrev pub lengthOf : List ℕ → AcbHeader → List Given → Length
+lengthOf text h gs = writtenOf (needed text (givenOf h) (tagOf (h .tag)) gs)
 
 -- the same, and what the lent bytes then hold
-abbrev pub wroteOf : List ℕ → AcbHeader → Found → List Given → List ℕ → Length × List ℕ
-wroteOf text h (tagged t) gs out = sizedOf (written text (givenOf h) t gs out)
-wroteOf text h unknown gs out = sizedOf (unwritten 3 0, out)
+abbrev pub wroteOf : List ℕ → AcbHeader → List Given → List ℕ → Length × List ℕ
+wroteOf text h gs out = sizedOf (written text (givenOf h) (tagOf (h .tag)) gs out)

@@ -1,7 +1,7 @@
 // ACB colour books for C.
 ghost use mathlib.Core.Path.{_≡_};
 ghost use Rattle.acb.specs.Reading.{acb};
-ghost use Rattle.acb_judge.specs.Answer.{verdict, told, toldTag, toldHeader, toldKnown};
+ghost use Rattle.acb_judge.specs.Answer.{verdict, told, toldTag, toldHeader};
 ghost use Rattle.acb_read.specs.Table.{filled, recordAt};
 ghost use Rattle.acb_read.specs.Answer.{shown};
 ghost use Rattle.acb_show.specs.Components.{shownComponent};
@@ -10,15 +10,16 @@ ghost use Rattle.acb_show.specs.Answer.{toldPage};
 ghost use Rattle.acb_view.specs.View.{shownAt, pageAt, fullLength, fullNameAt};
 ghost use Rattle.acb_view.specs.Answer.{toldCount};
 ghost use Rattle.acb_records.specs.Writing.{given};
+ghost use Rattle.acb_records.specs.Answer.{toldEnding};
 ghost use Rattle.khuyurek.specs.Acb.{numberOf, headerOf, noHeader, answerOf, readOf, recordOf, fourOf, shownOf, fullOf, fullReadOf, pageOf, pageInOf, givenOf, tagOf, lengthOf, wroteOf};
 use crate::Length;
 use crate::exported_length;
 use acb_judge::Answer;
 use acb_judge::Header;
-use acb_judge::Known;
 use acb_judge::Tag;
 use acb_judge::Text;
 use acb_read::NamePlace;
+use acb_records::Ending;
 use acb_show::Page;
 use acb_view::Count;
 
@@ -373,32 +374,33 @@ fn header_given(g: AcbHeader) -> Header
     }
 }
 
-fn tag_given(number: u32) -> Known
-    ensures { λ r. ⌜ toldKnown r ≡ tagOf number ⌝ }
+// A number that is no tag is another one, which is refused in its turn.
+fn tag_given(number: u32) -> Ending
+    ensures { λ r. ⌜ toldEnding r ≡ tagOf number ⌝ }
 {
     if number == 0 {
-        return Known::Is(Tag::None);
+        return Ending::Tagged(Tag::None);
     }
     if number == 1 {
-        return Known::Is(Tag::Spot);
+        return Ending::Tagged(Tag::Spot);
     }
     if number == 2 {
-        return Known::Is(Tag::Process);
+        return Ending::Tagged(Tag::Process);
     }
-    Known::Unknown
+    Ending::Other
 }
 
 // How many bytes writing a book takes.
 #[no_mangle]
 pub extern "C" fn khuyurek_acb_length(header: AcbHeader, records: &[u32], text: &[u8]) -> Length
-    ensures { λ r. ⌜ r ≡ lengthOf (now (text .entry)) header (tagOf (header .tag)) (given (now (records .entry))) ⌝ }
+    ensures { λ r. ⌜ r ≡ lengthOf (now (text .entry)) header (given (now (records .entry))) ⌝ }
 {
-    match tag_given(header.tag) {
-        Known::Unknown => Length { number: 3, size: 0 },
-        Known::Is(tag) => {
-            exported_length(acb_records::write_length(header_given(header), tag, records, text))
-        }
-    }
+    exported_length(acb_records::write_length(
+        header_given(header),
+        tag_given(header.tag),
+        records,
+        text,
+    ))
 }
 
 // Writes a book, whose strings and names lie in `text`, into `out`.
@@ -409,12 +411,13 @@ pub extern "C" fn khuyurek_acb_write(
     text: &[u8],
     out: &mut [u8],
 ) -> Length
-    ensures { λ r. ⌜ (r, now (out .exit)) ≡ wroteOf (now (text .entry)) header (tagOf (header .tag)) (given (now (records .entry))) (now (out .entry)) ⌝ }
+    ensures { λ r. ⌜ (r, now (out .exit)) ≡ wroteOf (now (text .entry)) header (given (now (records .entry))) (now (out .entry)) ⌝ }
 {
-    match tag_given(header.tag) {
-        Known::Unknown => Length { number: 3, size: 0 },
-        Known::Is(tag) => {
-            exported_length(acb_write::write(header_given(header), tag, records, text, out))
-        }
-    }
+    exported_length(acb_write::write(
+        header_given(header),
+        tag_given(header.tag),
+        records,
+        text,
+        out,
+    ))
 }

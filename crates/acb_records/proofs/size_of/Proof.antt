@@ -4,7 +4,8 @@ use Rattle.fields.proofs.Writing.{size-fits, size-over}
 use mathlib.Core.Path.{_≡_, ap, _∙_}
 use native.Mathlib.Omega.{arith}
 use Prim.Native.Nat.{ℕ, _+_, _-_, _≤_}
-use Rattle.acb_judge.specs.Answer.{toldHeader, toldTag}
+use Rattle.acb_judge.specs.Answer.{toldHeader}
+use Rattle.acb_records.specs.Answer.{toldEnding}
 use Rattle.acb_records.specs.Writing.{Given, givens, sizes, stringSize, sizeIn, size}
 use borrow.Author.Needs.{needs}
 use Rattle.acb_records.proofs.size_of.Statement.{statement}
@@ -25,15 +26,15 @@ add-tones c = omega (arith, c .components-of .ensures, components-some (c .befor
 head-size-requires : tie.Need-head-size-requires Inv-loop μ-loop
 head-size-requires c κs = search needs
 
-tag-size-requires : tie.Need-tag-size-requires Inv-loop μ-loop
-tag-size-requires c κs = search needs
+ending-size-requires : tie.Need-ending-size-requires Inv-loop μ-loop
+ending-size-requires c κs = search needs
 
 add-total : tie.Need-add-total Inv-loop μ-loop
 add-total c = search needs
 
 returns : tie.Need-returns Inv-loop μ-loop
 returns c = let a = c .before .before .before .before .before .args in
-    size-over (size (toldHeader (a .header)) (toldTag (a .tag)) (givens (a .run .now) (a .n) 0)) (omega (arith, c .before .before .head-size .ensures .0, c .before .tag-size .ensures .0, c .if1 .taken))
+    size-over (size (toldHeader (a .header)) (toldEnding (a .ending)) (givens (a .run .now) (a .n) 0)) (omega (arith, c .before .before .head-size .ensures .0, c .before .ending-size .ensures .0, c .if1 .taken))
 
 loop-holds : tie.Need-loop-holds Inv-loop μ-loop
 loop-holds c = let a = c .before .before .before .before .before .args in
@@ -59,7 +60,7 @@ returns-2 c = let l = c .before .before .before .before .loop in
     let z = ap (λ (j : ℕ). sizes (sizeIn j) gs) (m .ensures) in
     let e = c .before .string-size .ensures .0 ∙ ap (λ (g : Given). stringSize (g .name)) (c .before .before .whole-at .ensures) in
     let t = sizes-turn (a .run .now) (toned (6 + m .result)) (a .n) (l .i) (c .before .before .before .loop-test .taken) in
-    size-over (size (toldHeader (a .header)) (toldTag (a .tag)) gs) (omega (arith, e, t, z, l .inv .2, c .before .before .before .before .before .before .before .head-size .ensures .0, c .before .before .before .before .before .before .tag-size .ensures .0, c .if2 .taken))
+    size-over (size (toldHeader (a .header)) (toldEnding (a .ending)) gs) (omega (arith, e, t, z, l .inv .2, c .before .before .before .before .before .before .before .head-size .ensures .0, c .before .before .before .before .before .before .ending-size .ensures .0, c .if2 .taken))
 
 add-i : tie.Need-add-i Inv-loop μ-loop
 add-i c = search needs
@@ -82,7 +83,7 @@ returns-3 c = let l = c .before .loop in
     let gs = givens (a .run .now) (a .n) 0 in
     let z = ap (λ (j : ℕ). sizes (sizeIn j) gs) (m .ensures) in
     let t = sizes-end (a .run .now) (toned (6 + m .result)) (a .n) (l .i) (c .loop-test .left) in
-    size-fits (size (toldHeader (a .header)) (toldTag (a .tag)) gs) (l .total) (omega (arith, t, z, l .inv .2, c .before .before .before .before .head-size .ensures .0, c .before .before .before .tag-size .ensures .0)) (l .inv .1)
+    size-fits (size (toldHeader (a .header)) (toldEnding (a .ending)) gs) (l .total) (omega (arith, t, z, l .inv .2, c .before .before .before .before .head-size .ensures .0, c .before .before .before .ending-size .ensures .0)) (l .inv .1)
 
 pub size-of-spec : {M : Type 1} → statement M
 size-of-spec =
@@ -93,7 +94,7 @@ size-of-spec =
     components-of-requires
     add-tones
     head-size-requires
-    tag-size-requires
+    ending-size-requires
     add-total
     returns
     loop-holds

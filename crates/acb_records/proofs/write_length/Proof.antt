@@ -5,8 +5,10 @@ use Rattle.fields.specs.Answer.{toldWritten}
 use Rattle.fields.proofs.Counted.{length-counted}
 use Rattle.fields.proofs.Writing.{size-is, size-passes}
 use Rattle.acb.proofs.Laws.{components-some}
+use Rattle.acb.specs.Faults.{endingFault}
 use Rattle.acb_records.specs.Writing.{givenAt}
-use Rattle.acb_records.proofs.Outcomes.{too-long, bad-head, bad-colour, all-fine}
+use Rattle.acb_records.specs.Answer.{toldEnding}
+use Rattle.acb_records.proofs.Outcomes.{too-long, bad-head, bad-colour, bad-ending, all-fine}
 use Rattle.acb_records.proofs.write_length.Statement.{statement}
 use Rattle.acb_records.proofs.write_length.Tie as tie
 
@@ -47,13 +49,29 @@ returns-3 c =
     let counts = length-counted (givenAt (size .before .before .before .before .before .args .records .now)) _ 0 in
     bad-colour _ _ _ _ (s .0) _ counts (x .head-fault .ensures) (c .before .before .before .if1 .left) _ (c .before .before .components-of .ensures) (c .before .colours-fault .ensures) (c .if2 .taken)
 
+enum-told-2 : tie.Need-enum-told-2
+enum-told-2 c = search needs
+
+enum-told-3 : tie.Need-enum-told-3
+enum-told-3 c = search needs
+
 returns-4 : tie.Need-returns-4
 returns-4 c =
-    let x = c .before .before .before .before in
+    let y = c .before .before in
+    let x = y .before .before .before .before in
     let size = x .before .before in
     let s = size-is _ _ (sym (ap toldWritten (size .size .given .1)) ∙ size .before .before .size-of .ensures) in
     let counts = length-counted (givenAt (size .before .before .before .before .before .args .records .now)) _ 0 in
-    all-fine _ _ _ _ (s .0) _ counts (x .head-fault .ensures) (c .before .before .before .if1 .left) _ (c .before .before .components-of .ensures) (c .before .colours-fault .ensures) _ (c .if2 .left) (s .1)
+    bad-ending _ _ _ _ (s .0) _ counts (x .head-fault .ensures) (y .before .before .before .if1 .left) _ (y .before .before .components-of .ensures) (y .before .colours-fault .ensures) (y .if2 .left) (ap (λ t. endingFault (toldEnding t)) (c .enum-told2 .given .1))
+
+returns-5 : tie.Need-returns-5
+returns-5 c =
+    let y = c .before .before in
+    let x = y .before .before .before .before in
+    let size = x .before .before in
+    let s = size-is _ _ (sym (ap toldWritten (size .size .given .1)) ∙ size .before .before .size-of .ensures) in
+    let counts = length-counted (givenAt (size .before .before .before .before .before .args .records .now)) _ 0 in
+    all-fine _ _ _ _ (s .0) _ counts (x .head-fault .ensures) (y .before .before .before .if1 .left) _ (y .before .before .components-of .ensures) (y .before .colours-fault .ensures) (y .if2 .left) _ (ap (λ t. endingFault (toldEnding t)) (c .enum-told3 .given .1)) (s .1)
 
 pub write-length-spec : {M : Type 1} → statement M
 write-length-spec =
@@ -68,4 +86,7 @@ write-length-spec =
     components-of-requires
     colours-fault-requires
     returns-3
-    returns-4)
+    enum-told-2
+    enum-told-3
+    returns-4
+    returns-5)

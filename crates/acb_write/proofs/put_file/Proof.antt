@@ -4,7 +4,8 @@ use Rattle.acb_records.proofs.Outcomes.{no-fault, records-fit}
 use mathlib.Core.Path.{_≡_, subst, ap}
 use native.Mathlib.Omega.{arith}
 use Prim.Native.Nat.{ℕ}
-use Rattle.acb_judge.specs.Answer.{toldHeader, toldTag}
+use Rattle.acb_judge.specs.Answer.{toldHeader}
+use Rattle.acb_records.specs.Answer.{toldEnding}
 use Rattle.acb_records.specs.Writing.{givenAt, givens, sizes, sizeIn, headFault}
 use borrow.Author.Needs.{needs}
 use Rattle.acb_write.proofs.put_file.Statement.{statement}
@@ -14,7 +15,7 @@ put-head-requires : tie.Need-put-head-requires
 put-head-requires c κs = let s = c .before .before .before .before in
     let a = s .args in
     let h = toldHeader (a .header) in
-    let t = toldTag (a .tag) in
+    let t = toldEnding (a .ending) in
     let gs = givens (a .run .now) (a .n) 0 in
     (omega (arith, s .pre .1), subst (λ (k : ℕ). headFault (a .text .now) h k ≡ 0) (length-counted (givenAt (a .run .now)) (a .n) 0) (no-fault (a .text .now) h t gs (s .pre .2) .0))
 
@@ -25,20 +26,20 @@ put-colours-requires : tie.Need-put-colours-requires
 put-colours-requires c κs = let s = c .before .before .before .before .before .before .before .before .before in
     let a = s .args in
     let h = toldHeader (a .header) in
-    let t = toldTag (a .tag) in
+    let t = toldEnding (a .ending) in
     let gs = givens (a .run .now) (a .n) 0 in
     let p = c .before .before .before .before .put-head in
     (s .pre .0, records-fit (a .text .now) h t gs (s .pre .2) _ _ _ (c .components-of .ensures) (p .ensures .0) (omega (arith, s .pre .1, p .kept .0)))
 
-put-tag-requires : tie.Need-put-tag-requires
-put-tag-requires c κs = let s = c .before .before .before .before .before .before .before .before .before .before .before .before .before in
+put-ending-requires : tie.Need-put-ending-requires
+put-ending-requires c κs = let s = c .before .before .before .before .before .before .before .before .before .before .before .before .before in
     let a = s .args in
     let h = toldHeader (a .header) in
-    let t = toldTag (a .tag) in
+    let t = toldEnding (a .ending) in
     let gs = givens (a .run .now) (a .n) 0 in
     let p = c .before .before .before .before .before .before .before .before .put-head in
     let q = c .before .before .before .put-colours in
-    omega (arith, s .pre .1, p .ensures .0, p .kept .0, q .ensures .0, q .kept .0, ap (λ (j : ℕ). sizes (sizeIn j) gs) (c .before .before .before .before .components-of .ensures))
+    (omega (arith, s .pre .1, p .ensures .0, p .kept .0, q .ensures .0, q .kept .0, ap (λ (j : ℕ). sizes (sizeIn j) gs) (c .before .before .before .before .components-of .ensures)), no-fault (a .text .now) h t gs (s .pre .2) .2)
 
 same-length : tie.Need-same-length
 same-length c = search needs
@@ -47,11 +48,11 @@ returns : tie.Need-returns
 returns c = let s = c .before .before .before .before .before .before .before .before .before .before .before .before .before .before .before .before in
     let a = s .args in
     let h = toldHeader (a .header) in
-    let t = toldTag (a .tag) in
+    let t = toldEnding (a .ending) in
     let gs = givens (a .run .now) (a .n) 0 in
     let p = c .before .before .before .before .before .before .before .before .before .before .before .put-head in
     let q = c .before .before .before .before .before .before .put-colours in
-    put-file (a .run .now) (a .text .now) h t (a .n) _ (c .before .before .before .before .before .before .before .components-of .ensures) (a .out .now) _ _ _ _ _ (p .ensures .1) (p .ensures .0) (q .ensures .1) (q .ensures .0) (c .before .before .put-tag .ensures)
+    put-file (a .run .now) (a .text .now) h t (a .n) _ (c .before .before .before .before .before .before .before .components-of .ensures) (a .out .now) _ _ _ _ _ (p .ensures .1) (p .ensures .0) (q .ensures .1) (q .ensures .0) (c .before .before .put-ending .ensures)
 
 pub put-file-spec : {M : Type 1} → statement M
 put-file-spec =
@@ -60,6 +61,6 @@ put-file-spec =
     put-head-requires
     components-of-requires
     put-colours-requires
-    put-tag-requires
+    put-ending-requires
     same-length
     returns)

@@ -4,7 +4,8 @@ use Rattle.fields.proofs.Writing.{writes-no, writes-none, writes-all}
 use Rattle.fields.specs.Answer.{toldWritten}
 use mathlib.Core.Path.{sym, ap, _∙_}
 use native.Mathlib.Omega.{arith}
-use Rattle.acb_judge.specs.Answer.{toldHeader, toldTag}
+use Rattle.acb_judge.specs.Answer.{toldHeader}
+use Rattle.acb_records.specs.Answer.{toldEnding}
 use Prim.Native.Nat.{_/_}
 use lib.ListN.{length}
 use Rattle.acb.specs.Grammar.{fileBytes}
@@ -26,7 +27,7 @@ returns : tie.Need-returns
 returns c = let a = c .before .before .before .before .before .before .before .before .args in
     let text = a .text .now in
     let h = toldHeader (a .header) in
-    let t = toldTag (a .tag) in
+    let t = toldEnding (a .ending) in
     let n = length (a .records .now) / 12 in
     let gs = givens (a .records .now) n 0 in
     let q = sym (ap toldWritten (c .before .before .size .given .1)) ∙ c .before .before .before .before .write-length .ensures in
@@ -36,7 +37,7 @@ put-file-requires : tie.Need-put-file-requires
 put-file-requires c κs = let a = c .before .before .before .before .before .before .before .before .before .args in
     let text = a .text .now in
     let h = toldHeader (a .header) in
-    let t = toldTag (a .tag) in
+    let t = toldEnding (a .ending) in
     let n = length (a .records .now) / 12 in
     let gs = givens (a .records .now) n 0 in
     let q = sym (ap toldWritten (c .before .before .before .size .given .1)) ∙ c .before .before .before .before .before .write-length .ensures in
@@ -47,7 +48,7 @@ returns-2 : tie.Need-returns-2
 returns-2 c = let a = c .before .before .before .before .before .before .before .args in
     let text = a .text .now in
     let h = toldHeader (a .header) in
-    let t = toldTag (a .tag) in
+    let t = toldEnding (a .ending) in
     let n = length (a .records .now) / 12 in
     let gs = givens (a .records .now) n 0 in
     let q = sym (ap toldWritten (c .before .x .given .1)) ∙ c .before .before .before .write-length .ensures in
@@ -60,7 +61,7 @@ returns-3 : tie.Need-returns-3
 returns-3 c = let a = c .before .before .before .before .before .before .before .before .before .before .before .before .args in
     let text = a .text .now in
     let h = toldHeader (a .header) in
-    let t = toldTag (a .tag) in
+    let t = toldEnding (a .ending) in
     let n = length (a .records .now) / 12 in
     let gs = givens (a .records .now) n 0 in
     let q = sym (ap toldWritten (c .before .before .before .before .before .before .size .given .1)) ∙ c .before .before .before .before .before .before .before .before .write-length .ensures in
