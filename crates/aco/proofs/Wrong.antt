@@ -11,23 +11,24 @@ use native.Mathlib.Omega.{arith}
 use native.Mathlib.Nat.{zero-add}
 use Rattle.fields.specs.Numbers.{be, joined, At, Bytes, All}
 use Rattle.fields.specs.Reader.{Res, ok, refuse, then, pick, Judged, fine, fault, unless, judged, each}
-use Rattle.fields.specs.Text.{name, Named, Unclosed}
+use Rattle.fields.specs.Text.{name, Named}
 use Rattle.fields.proofs.Places.{length-be, length-bes, at-in, at-left, at-right, at-after, at-whole, bytes-append, bytes-be, bytes-joined}
 use Rattle.fields.proofs.Exact.{all-map, all-both, length-map, judged-exact, each-exact}
 use Rattle.fields.proofs.Cuts.{judged-reads}
-use Rattle.fields.proofs.Stops.{judged-refuses, name-refuses, each-stops}
+use Rattle.fields.proofs.Stops.{judged-refuses, each-stops}
+use Rattle.fields.proofs.Tails.{name-none, name-open}
 use Rattle.colour.specs.declared.space.Colour.{Colour}
 use Rattle.colour.specs.Spaces.{known, uses, allowed}
-use Rattle.aco.specs.Grammar.{Swatch, Space, Sample, Allowed, Palette, colourBytes, entryBytes, listOne}
+use Rattle.aco.specs.Grammar.{Swatch, Space, Sample, Allowed, Palette, colourBytes, entryBytes, listOne, twoLists}
 use Rattle.aco.specs.Reading.{space, sample, samples, colour, version, heading, firstCount, fieldOf, twin, entry, black, second, secondCount, after, lists, aco}
-use Rattle.aco.specs.Differing.{fieldsOf, swatchAt}
-use Rattle.aco.specs.Damaged.{counting, colouring, colouringAt, Wrong, Coloured, versioned, naming, namingAt, Misnamed}
+use Rattle.aco.specs.Differing.{fieldsOf, swatchAt, differing, recounted}
+use Rattle.aco.specs.Damaged.{counting, colouring, colouringAt, Wrong, Coloured, versioned, BadName, naming, namingAt, Misnamed, Damaged}
 use Rattle.aco.proofs.Fine.{space-fine, sample-fine, version-fine, first-fine}
 use Rattle.aco.proofs.Laws.{hue, paint, Painted, Sized, space-known, space-uses, space-small, known-space, allowed-unused, unused-allowed, allowed-painted, colour-exact, twins-exact, entry-exact}
 use Rattle.aco.proofs.Whole.{hues-bytes, all-painted, hue-at, bytes-colour, bytes-entry, bytes-one}
 use Rattle.aco.proofs.Cut.{heading-reads, length-heading}
 use Rattle.aco.proofs.Behind.{Ok, sized, heading-passed}
-use Rattle.aco.proofs.Refused.{behind-one, at-behind, same-hue}
+use Rattle.aco.proofs.Refused.{behind-one, at-behind, same-hue, left-over-refused, recounted-refused, differing-refused}
 
 -- ---- versions
 
@@ -158,57 +159,92 @@ second-version-refused ws pal v small ne x b short =
     behind-one ws pal y bs (omega (arith, length-append (be 2 v) x, length-be 2 v)) short
     ∙ rw (heading-refuses s (bytes-append (listOne ws) y (bytes-one ws) bs) 2 v (secondCount (length (map hue ws))) q (omega arith) ne (at-left s q (be 2 v) x (at-behind ws y)))
 
+bad-refuses : (s : List ℕ) (at : ℕ) {y : List ℕ} → BadName y → At s at y → name 4 s at ≡ refuse 8 at 0 0
+bad-refuses s at BadName.no-units h = name-none s 4 at (omega arith) h
+bad-refuses s at (BadName.unclosed us few small o) h = name-open s 4 at us few small o h
+
+bytes-bad : {y : List ℕ} → BadName y → Bytes y
+bytes-bad BadName.no-units = bytes-be 4 0
+bytes-bad (BadName.unclosed us few small o) = bytes-append (be 4 (length us)) (joined (be 2) us) (bytes-be 4 (length us)) (bytes-joined (be 2) (bytes-be 2) us)
+
 module _ (s : List ℕ) (bytes : Bytes s) where
   -- a record with list 1's colour c and a name that is badly closed
-  entry-refuses : (i : ℕ) (c : Colour) → Sized c → (at : ℕ) (vs : List ℕ) → length vs < 256 ^ 4 → All (λ k u. u < 256 ^ 2) 0 vs → Unclosed vs
-      → At s at (paint c ++ (be 4 (length vs) ++ joined (be 2) vs)) → entry i c s at ≡ refuse 8 (at + 10) 0 0
+  entry-refuses : (i : ℕ) (c : Colour) → Sized c → (at : ℕ) (y : List ℕ) → BadName y → At s at (paint c ++ y) → entry i c s at ≡ refuse 8 (at + 10) 0 0
   unfolding entry
-  entry-refuses i c p at vs few small bad h =
+  entry-refuses i c p at y bad h =
       let l : at + length (paint c) ≡ at + 10 = omega (arith, length-append (be 2 (c .space)) (joined (be 2) (c .samples)), length-be 2 (c .space), length-bes 2 (c .samples), p .four) in
-      let one = twins-exact s bytes i c p .reads at tt tt (at-left s at (paint c) (be 4 (length vs) ++ joined (be 2) vs) h) .1 in
-      let two : name 4 s (at + length (paint c)) ≡ refuse 8 (at + length (paint c)) 0 0 = name-refuses s bytes 4 (at + length (paint c)) vs few small bad (at-right s at (paint c) (be 4 (length vs) ++ joined (be 2) vs) h) in
+      let one = twins-exact s bytes i c p .reads at tt tt (at-left s at (paint c) y h) .1 in
+      let two : name 4 s (at + length (paint c)) ≡ refuse 8 (at + length (paint c)) 0 0 = bad-refuses s (at + length (paint c)) bad (at-right s at (paint c) y h) in
       rw one (rw two (ap (λ (k : ℕ). refuse 8 k 0 0) l))
 
   module _ (ws : List Swatch) (pal : Palette ws) where
-    names-refuse : (q : ℕ) (before : List Swatch) (vs : List ℕ) → Misnamed ws before vs
-        → At s q (be 2 2 ++ (be 2 (length ws) ++ (joined entryBytes before ++ (paint (getD (map hue ws) (length before) black) ++ (be 4 (length vs) ++ joined (be 2) vs)))))
+    names-refuse : (q : ℕ) (before : List Swatch) (y : List ℕ) → Misnamed ws before y
+        → At s q (be 2 2 ++ (be 2 (length ws) ++ (joined entryBytes before ++ (paint (getD (map hue ws) (length before) black) ++ y))))
         → second (map hue ws) s q ≡ refuse 8 (q + 4 + length (joined entryBytes before) + 10) 0 0
     unfolding second
-    names-refuse q before vs m h =
+    names-refuse q before y m h =
         let cs : List Colour = map hue ws in
         let i : ℕ = length before in
         let c : Colour = getD cs i black in
-        let rest : List ℕ = paint c ++ (be 4 (length vs) ++ joined (be 2) vs) in
+        let rest : List ℕ = paint c ++ y in
         let hd = heading-passed s bytes ws pal q (joined entryBytes before ++ rest) h in
         let at : ℕ = q + 4 + length (joined entryBytes before) in
         let same : All (λ k w. hue w ≡ getD cs k black) 0 before =
         all-map (λ k w. fieldsOf w ≡ fieldsOf (swatchAt ws k)) (λ k w. hue w ≡ getD cs k black) (λ k w z. same-hue w (swatchAt ws k) z ∙ sym (hue-at ws k)) 0 before (m .same) in
         let fit : All (Ok s bytes ws pal) 0 before = all-both (λ k w. hue w ≡ getD cs k black) (λ k w. Named 4 (w .name)) 0 before same (m .names) in
-        let one : entry i c s at ≡ refuse 8 (at + 10) 0 0 = entry-refuses i c (sized s bytes ws pal i) at vs (m .counted) (m .units) (m .unclosed) (at-right s (q + 4) (joined entryBytes before) rest (hd .1)) in
+        let one : entry i c s at ≡ refuse 8 (at + 10) 0 0 = entry-refuses i c (sized s bytes ws pal i) at y (m .bad) (at-right s (q + 4) (joined entryBytes before) rest (hd .1)) in
         let e : each (length cs) 0 (λ i. entry i (getD cs i black)) s (q + 4) ≡ refuse 8 (at + 10) 0 0 =
         each-stops {p = λ i. entry i (getD cs i black)} {Ok = Ok s bytes ws pal} (λ i. entry-exact s bytes i (getD cs i black) (sized s bytes ws pal i)) (length cs) 0 (q + 4) before (omega (arith, m .more, length-map hue ws)) fit (at-left s (q + 4) (joined entryBytes before) rest (hd .1))
         (subst (λ (k : ℕ). entry k (getD cs k black) s at ≡ refuse 8 (at + 10) 0 0) (sym (zero-add i)) one) in
         rw (hd .0) (rw e)
 
 -- a name of list 2 that is badly closed, or has the count 0, is 8 at its count, before any later record is looked at
-pub name-refused : (ws : List Swatch) → Palette ws → (before : List Swatch) (vs : List ℕ) → Misnamed ws before vs → (x : List ℕ) → Bytes x → length (naming ws before vs x) ≤ 16777216
-    → aco (naming ws before vs x) ≡ refuse 8 (namingAt ws before) 0 0
+pub name-refused : (ws : List Swatch) → Palette ws → (before : List Swatch) (y : List ℕ) → Misnamed ws before y → (x : List ℕ) → Bytes x → length (naming ws before y x) ≤ 16777216
+    → aco (naming ws before y x) ≡ refuse 8 (namingAt ws before) 0 0
 unfolding naming colourBytes
-name-refused ws pal before vs m x b short =
+name-refused ws pal before y m x b short =
     let q : ℕ = length (listOne ws) in
     let w : Swatch = swatchAt ws (length before) in
     let c : Colour = getD (map hue ws) (length before) black in
     let n : List ℕ = be 2 (length ws) in
     let rs : List ℕ = joined entryBytes before in
-    let k : List ℕ = be 4 (length vs) in
-    let us : List ℕ = joined (be 2) vs in
-    let y : List ℕ = be 2 2 ++ (n ++ (rs ++ (paint (hue w) ++ (k ++ (us ++ x))))) in
-    let s : List ℕ = listOne ws ++ y in
-    let bs : Bytes y =
+    let l : List ℕ = be 2 2 ++ (n ++ (rs ++ (paint (hue w) ++ (y ++ x)))) in
+    let s : List ℕ = listOne ws ++ l in
+    let bs : Bytes l =
     bytes-append (be 2 2) _ (bytes-be 2 2) (bytes-append n _ (bytes-be 2 (length ws)) (bytes-append rs _ (bytes-joined entryBytes bytes-entry before) (bytes-append (paint (hue w)) _ (bytes-append (be 2 (w .space)) _ (bytes-be 2 (w .space)) (bytes-joined (be 2) (bytes-be 2) (w .samples)))
-    (bytes-append k _ (bytes-be 4 (length vs)) (bytes-append us x (bytes-joined (be 2) (bytes-be 2) vs) b))))) in
-    let e : y ≡ (be 2 2 ++ (n ++ (rs ++ (paint (hue w) ++ (k ++ us))))) ++ x = simp append-assoc in
-    let h : At s q (be 2 2 ++ (n ++ (rs ++ (paint c ++ (k ++ us))))) =
-    subst (λ (z : Colour). At s q (be 2 2 ++ (n ++ (rs ++ (paint z ++ (k ++ us)))))) (sym (hue-at ws (length before))) (at-left s q (be 2 2 ++ (n ++ (rs ++ (paint (hue w) ++ (k ++ us))))) x (subst (λ (z : List ℕ). At s q z) e (at-behind ws y))) in
-    behind-one ws pal y bs (omega (arith, length-append (be 2 2) (n ++ (rs ++ (paint (hue w) ++ (k ++ (us ++ x))))), length-be 2 2)) short
-    ∙ names-refuse s (bytes-append (listOne ws) y (bytes-one ws) bs) ws pal q before vs m h
+    (bytes-append y x (bytes-bad (m .bad)) b)))) in
+    let e : l ≡ (be 2 2 ++ (n ++ (rs ++ (paint (hue w) ++ y)))) ++ x = simp append-assoc in
+    let h : At s q (be 2 2 ++ (n ++ (rs ++ (paint c ++ y)))) =
+    subst (λ (z : Colour). At s q (be 2 2 ++ (n ++ (rs ++ (paint z ++ y))))) (sym (hue-at ws (length before))) (at-left s q (be 2 2 ++ (n ++ (rs ++ (paint (hue w) ++ y)))) x (subst (λ (z : List ℕ). At s q z) e (at-behind ws l))) in
+    behind-one ws pal l bs (omega (arith, length-append (be 2 2) (n ++ (rs ++ (paint (hue w) ++ (y ++ x)))), length-be 2 2)) short
+    ∙ names-refuse s (bytes-append (listOne ws) l (bytes-one ws) bs) ws pal q before y m h
+
+-- ---- every damaged file
+
+bytes-end : (a x : List ℕ) → Bytes (a ++ x) → Bytes x
+bytes-end [] x h = h
+bytes-end (y ∷ a) x h = bytes-end a x (λ k. h (suc k))
+
+-- a damaged file is refused by its number, at its place, with its record and field
+pub damaged-refused : {b : List ℕ} {z p r f : ℕ} → Damaged b z p r f → Bytes b → length b ≤ 16777216 → aco b ≡ refuse z p r f
+unfolding counting colouring versioned recounted differing naming
+damaged-refused (Damaged.version v x small ne) b short = version-refused v small ne x (bytes-end (be 2 v) x b) short
+damaged-refused (Damaged.count n x many small) b short = count-refused n many small x (bytes-end (be 2 n) x (bytes-end (be 2 1) (be 2 n ++ x) b)) short
+damaged-refused (Damaged.colour n before w g v z x c) b short =
+    let l : List ℕ = joined colourBytes before in
+    let fs : List ℕ = joined (be 2) (take g (fieldsOf w)) in
+    colour-refused n before w g v z c x (bytes-end (be 2 v) x (bytes-end fs (be 2 v ++ x) (bytes-end l (fs ++ (be 2 v ++ x)) (bytes-end (be 2 n) (l ++ (fs ++ (be 2 v ++ x))) (bytes-end (be 2 1) (be 2 n ++ (l ++ (fs ++ (be 2 v ++ x)))) b))))) short
+damaged-refused (Damaged.second-version ws v x pal small ne) b short = second-version-refused ws pal v small ne x (bytes-end (be 2 v) x (bytes-end (listOne ws) (be 2 v ++ x) b)) short
+damaged-refused (Damaged.second-count ws m x pal small ne) b short =
+    recounted-refused ws pal m small ne x (bytes-end (be 2 m) x (bytes-end (be 2 2) (be 2 m ++ x) (bytes-end (listOne ws) (be 2 2 ++ (be 2 m ++ x)) b))) short
+damaged-refused (Damaged.difference ws before g v x pal d) b short =
+    let n : List ℕ = be 2 (length ws) in
+    let rs : List ℕ = joined entryBytes before in
+    let fs : List ℕ = joined (be 2) (take g (fieldsOf (swatchAt ws (length before)))) in
+    differing-refused ws pal before g v d x (bytes-end (be 2 v) x (bytes-end fs (be 2 v ++ x) (bytes-end rs (fs ++ (be 2 v ++ x)) (bytes-end n (rs ++ (fs ++ (be 2 v ++ x))) (bytes-end (be 2 2) (n ++ (rs ++ (fs ++ (be 2 v ++ x)))) (bytes-end (listOne ws) (be 2 2 ++ (n ++ (rs ++ (fs ++ (be 2 v ++ x))))) b)))))) short
+damaged-refused (Damaged.name ws before y x pal m) b short =
+    let n : List ℕ = be 2 (length ws) in
+    let rs : List ℕ = joined entryBytes before in
+    let c : List ℕ = colourBytes (swatchAt ws (length before)) in
+    name-refused ws pal before y m x (bytes-end y x (bytes-end c (y ++ x) (bytes-end rs (c ++ (y ++ x)) (bytes-end n (rs ++ (c ++ (y ++ x))) (bytes-end (be 2 2) (n ++ (rs ++ (c ++ (y ++ x)))) (bytes-end (listOne ws) (be 2 2 ++ (n ++ (rs ++ (c ++ (y ++ x))))) b)))))) short
+damaged-refused (Damaged.left-over ws x pal some) b short = left-over-refused ws pal x (bytes-end (twoLists ws) x b) some short

@@ -1,12 +1,14 @@
--- Files of which one field is wrong: what stands in them, and where. Nothing here reads.
+-- ACO files of which one thing is wrong: what stands in them, the number that refuses them, its place, and the record and field of refusal 7. Nothing here reads.
+-- What is wrong is the first in the order of turns; any bytes may stand behind it.
 use Prim.Native.Nat.{ℕ, suc, _+_, _*_, _^_, _≤_, _<_}
 use mathlib.Core.Path.{_≡_}
 use mathlib.Core.List.{List, [], _∷_, _++_}
 use lib.ListN.{length, take}
-use Rattle.fields.specs.Numbers.{be, joined, All}
-use Rattle.fields.specs.Text.{Named, Unclosed}
-use Rattle.aco.specs.Grammar.{Swatch, Space, Sample, Allowed, colourBytes, entryBytes, listOne}
-use Rattle.aco.specs.Differing.{fieldsOf, swatchAt}
+use Rattle.fields.specs.Numbers.{be, joined, Bytes, All}
+use Rattle.fields.specs.Text.{Named}
+use Rattle.fields.specs.Closing.{Open}
+use Rattle.aco.specs.Grammar.{Swatch, Space, Sample, Allowed, Palette, colourBytes, entryBytes, listOne, twoLists}
+use Rattle.aco.specs.Differing.{fieldsOf, swatchAt, differing, differsAt, Differs, recounted}
 
 -- ---- in list 1
 
@@ -42,19 +44,34 @@ pub record Coloured (n : ℕ) (before : List Swatch) (w : Swatch) (f v x : ℕ) 
 unfoldable pub versioned : List Swatch → ℕ → List ℕ → List ℕ
 versioned ws v x = listOne ws ++ (be 2 v ++ x)
 
--- list 1 of ws; list 2 with the same count, the records `before`, the colour of the next, then a name's count, its units vs and any bytes
+-- the bytes of a name that is badly closed: its count is 0, or its units are open
+pub data BadName : List ℕ → Type 0 where
+  no-units : BadName (be 4 0)
+  unclosed : (us : List ℕ) → length us < 256 ^ 4 → All (λ k u. u < 256 ^ 2) 0 us → Open us → BadName (be 4 (length us) ++ joined (be 2) us)
+
+-- list 1 of ws; list 2 with the same count, the records `before`, the colour of the next, then the bytes y of a name and any bytes
 unfoldable pub naming : List Swatch → List Swatch → List ℕ → List ℕ → List ℕ
-naming ws before vs x = listOne ws ++ (be 2 2 ++ (be 2 (length ws) ++ (joined entryBytes before ++ (colourBytes (swatchAt ws (length before)) ++ (be 4 (length vs) ++ (joined (be 2) vs ++ x))))))
+naming ws before y x = listOne ws ++ (be 2 2 ++ (be 2 (length ws) ++ (joined entryBytes before ++ (colourBytes (swatchAt ws (length before)) ++ (y ++ x)))))
 
 -- where the name's count stands
 abbrev pub namingAt : List Swatch → List Swatch → ℕ
 namingAt ws before = length (listOne ws) + 4 + length (joined entryBytes before) + 10
 
--- the records `before` have the colours of ws and any allowed names; vs are units that no name has
-pub record Misnamed (ws before : List Swatch) (vs : List ℕ) : Type 0 where
+-- the records `before` have the colours of ws and any allowed names, and y is no name
+pub record Misnamed (ws before : List Swatch) (y : List ℕ) : Type 0 where
   pub more : length before < length ws
   pub same : All (λ k w. fieldsOf w ≡ fieldsOf (swatchAt ws k)) 0 before
   pub names : All (λ k w. Named 4 (w .name)) 0 before
-  pub counted : length vs < 256 ^ 4
-  pub units : All (λ k u. u < 256 ^ 2) 0 vs
-  pub unclosed : Unclosed vs
+  pub bad : BadName y
+
+-- ---- the file: its bytes, the number, the place, the record and the field
+
+pub data Damaged : List ℕ → ℕ → ℕ → ℕ → ℕ → Type 0 where
+  version : (v : ℕ) (x : List ℕ) → v ≤ 65535 → (v ≡ 1 → ⊥) → Damaged (be 2 v ++ x) 3 0 0 0
+  count : (n : ℕ) (x : List ℕ) → 4096 < n → n ≤ 65535 → Damaged (counting n x) 5 2 0 0
+  colour : (n : ℕ) (before : List Swatch) (w : Swatch) (f v z : ℕ) (x : List ℕ) → Coloured n before w f v z → Damaged (colouring n before w f v x) z (colouringAt before f) 0 0
+  second-version : (ws : List Swatch) (v : ℕ) (x : List ℕ) → Palette ws → v ≤ 65535 → (v ≡ 2 → ⊥) → Damaged (versioned ws v x) 3 (length (listOne ws)) 0 0
+  second-count : (ws : List Swatch) (m : ℕ) (x : List ℕ) → Palette ws → m ≤ 65535 → (m ≡ length ws → ⊥) → Damaged (recounted ws m x) 7 (length (listOne ws) + 2) 0 5
+  difference : (ws before : List Swatch) (f v : ℕ) (x : List ℕ) → Palette ws → Differs ws before f v → Damaged (differing ws before f v x) 7 (differsAt ws before f) (length before) f
+  name : (ws before : List Swatch) (y x : List ℕ) → Palette ws → Misnamed ws before y → Damaged (naming ws before y x) 8 (namingAt ws before) 0 0
+  left-over : (ws : List Swatch) (x : List ℕ) → Palette ws → 0 < length x → Damaged (twoLists ws ++ x) 6 (length (twoLists ws)) 0 0

@@ -1,6 +1,5 @@
 -- Names: counted text units with a closing zero.
 use Prim.Native.Nat.{ℕ, zero, _+_, _^_, _<_}
-use mathlib.Core.Path.{_≡_}
 use mathlib.Core.List.{List, [], _∷_, _++_}
 use mathlib.Core.Bool.{Bool, true, false, not}
 use lib.ListN.{length}
@@ -67,7 +66,3 @@ countedUnits w n b = be w n ++ (b ++ be 2 0)
 pub record Named (w : ℕ) (us : List ℕ) : Type 0 where
   pub counted : length us + 1 < 256 ^ w
   pub units : All (λ k u. (0 < u) × (u < 256 ^ 2)) 0 us
-
--- units that no name has with its closing zero: the last is not zero, or another is, or there are none
-abbrev pub Unclosed : List ℕ → Type 0
-Unclosed vs = (us : List ℕ) → All (λ k u. 0 < u) 0 us → vs ≡ us ++ (0 ∷ []) → ⊥
