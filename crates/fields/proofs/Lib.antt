@@ -22,3 +22,4 @@ pub mod Cuts
 pub mod Stops
 pub mod SetCuts
 pub mod Tails
+pub mod Begins
