@@ -15,7 +15,7 @@ use Rattle.fields.proofs.Exact.{all-both, all-left, all-from}
 use Rattle.colour.specs.Models.{isModel, channelsOf}
 use Rattle.colour.specs.Channels.{allowsBits}
 use Rattle.ase.specs.Grammar.{Block, start, stop, colour, other, typeOf, payload, blockBytes, fileBytes, Known, starts, stops, colours, Unknown, Model, Channel, Colour, Allowed, Nested, File, file}
-use Rattle.ase.specs.Damaged.{signature-cut, wrong-signature, major-cut, wrong-major, minor-cut, wrong-minor, blocks-cut, DamagedName, count-cut, no-units, units-cut, unclosed, DamagedGroup, group-name, group-left, DamagedColour, colour-name, model-cut, wrong-model, channel-cut, wrong-channel, type-cut, wrong-type, colour-left, modelAt, channelAt, framed, loaded, DamagedBlock, block-cut, length-cut, unknown, payload-cut, deep, wrong-group, full-stop, no-group, wrong-colour, followed, behind, Damaged, wrong-heading, wrong-block, left-open, left-over}
+use Rattle.ase.specs.Damaged.{signature-cut, wrong-signature, major-cut, wrong-major, minor-cut, wrong-minor, blocks-cut, DamagedName, count-cut, no-units, units-cut, unclosed, DamagedGroup, group-name, group-left, DamagedColour, colour-name, model-cut, wrong-model, channel-cut, wrong-channel, type-cut, wrong-type, colour-left, modelAt, channelAt, framed, loaded, DamagedBlock, block-cut, length-cut, unknown, payload-cut, too-deep, wrong-group, end-with-payload, end-without-group, wrong-colour, followed, behind, Damaged, wrong-heading, wrong-block, left-open, left-over}
 use Rattle.ase.specs.Reading.{standing}
 use Rattle.ase.proofs.Laws.{Steps}
 use Rattle.ase.proofs.Tables.{model-known, known-model, channel-allowed, allowed-channel}
@@ -164,20 +164,20 @@ module _ (d : ℕ) where
 
   start-by : (x : List ℕ) → Bytes x → {l : List ℕ} → GroupOr l → BlockOr d (loaded 0xC001 l x)
   start-by x b (bad-group {l} z p g) = elim (decLe 16 d) [
-    | yes h ↦ bad-block 10 0 (deep l x h)
+    | yes h ↦ bad-block 10 0 (too-deep l x h)
     | no h ↦ bad-block z p (wrong-group l x z p (lt-of-not-le h) g)
   ]
   start-by x b (good-group us nm) = elim (decLe 16 d) [
-    | yes h ↦ bad-block 10 0 (deep (nameBytes 2 us) x h)
+    | yes h ↦ bad-block 10 0 (too-deep (nameBytes 2 us) x h)
     | no h ↦ block-parts (start us) x nm (lt-of-not-le h) b
   ]
 
   stop-by : (l x : List ℕ) → Bytes x → BlockOr d (loaded 0xC002 l x)
   stop-by [] x b = elim (ℕ-discrete d 0) [
-    | yes e ↦ bad-block 9 0 (no-group x e)
+    | yes e ↦ bad-block 9 0 (end-without-group x e)
     | no e ↦ block-parts stop x tt (omega arith) b
   ]
-  stop-by (y ∷ l) x b = bad-block 13 2 (full-stop (y ∷ l) x (omega arith))
+  stop-by (y ∷ l) x b = bad-block 13 2 (end-with-payload (y ∷ l) x (omega arith))
 
   colour-block : (x : List ℕ) → Bytes x → {l : List ℕ} → ColourOr l → BlockOr d (loaded 0x0001 l x)
   colour-block x b (bad-colour {l} z p c) = bad-block z p (wrong-colour l x z p c)
