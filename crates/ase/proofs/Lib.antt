@@ -6,6 +6,7 @@ pub mod Laws
 pub mod Blocks
 pub mod Cut
 pub mod Refused
+pub mod Total
 pub mod Whole
 pub mod Faultless
 pub mod Written

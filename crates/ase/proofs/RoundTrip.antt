@@ -1,7 +1,8 @@
 -- What is promised of ASE files: reading and the grammar agree, and what a writer may write. Assumes nothing.
 use Prim.Native.Nat.{ℕ, _^_, _≤_, _<_}
-use mathlib.Core.Path.{_≡_, refl, sym, ap, _∙_, subst}
+use mathlib.Core.Path.{_≡_, refl, sym, ap, _∙_, subst, subst₂}
 use mathlib.Core.List.{List, map}
+use mathlib.Core.Logic.{_⊎_, inl, inr}
 use mathlib.Core.Bool.{Bool, true, false}
 use lib.Dec.{leb}
 use lib.ListN.{length}
@@ -9,14 +10,17 @@ use borrow.Author.Tests.{leb-true}
 use Rattle.fields.specs.Numbers.{At, Bytes, All}
 use Rattle.fields.specs.Reader.{ok, refuse, pick, numberOf, limit}
 use Rattle.fields.proofs.Places.{at-whole}
-use Rattle.fields.proofs.Inverse.{ok-value}
+use Rattle.fields.proofs.Inverse.{clash, ok-value}
 use Rattle.fields.proofs.Exact.{all-both}
 use Rattle.fields.proofs.Tells.{outcome-number}
 use Rattle.ase.specs.Grammar.{Block, payload, fileBytes, File, file}
 use Rattle.ase.specs.Reading.{Entry, blockOf, palette, ase}
 use Rattle.ase.specs.Faults.{paletteFault, BlockFits}
+use Rattle.ase.specs.Damaged.{Damaged}
 use Rattle.ase.proofs.Blocks.{file-parts, length-file, file-short, few-blocks, small-payloads, bytes-file}
 use Rattle.ase.proofs.Whole.{file-reads, file-writes}
+use Rattle.ase.proofs.Refused.{damaged-refused}
+use Rattle.ase.proofs.Total.{FileOr, is-file, is-damaged, file-or}
 use Rattle.ase.proofs.Written.{palette-outcome}
 use Rattle.ase.proofs.Faultless.{faultless-allowed, allowed-faultless}
 
@@ -36,6 +40,27 @@ allowed-unique f g =
     let x = allowed-reads f in
     let y = allowed-reads g in
     sym (x .2) ∙ ap (map blockOf) (ok-value (sym (x .1) ∙ y .1)) ∙ y .2
+
+-- ---- refusals
+
+-- every file within the limit is one of the grammar or a damaged one
+pub allowed-or-damaged : (s : List ℕ) → Bytes s → length s ≤ 16777216 → ((bs : List Block) × File bs s) ⊎ ((z p : ℕ) × Damaged s z p)
+allowed-or-damaged s bytes short = elim (file-or s bytes short) [
+  | is-file bs f ↦ inl (bs, f)
+  | is-damaged z p d ↦ inr (z, p, d)
+]
+
+-- what is refused within the limit is damaged, and the refusal's number and place are those of the damage; no refusal names a record or a field
+pub refused-damaged : {s : List ℕ} → Bytes s → length s ≤ 16777216 → {z p r f : ℕ} → ase s ≡ refuse z p r f → Damaged s z p × (r ≡ 0) × (f ≡ 0)
+refused-damaged {s} bytes short {z} {p} {r} {f} e = go (file-or s bytes short)
+  where
+    go : FileOr s → Damaged s z p × (r ≡ 0) × (f ≡ 0)
+    go (is-file bs g) = clash (sym e ∙ allowed-reads g .1)
+    go (is-damaged y q d) =
+        let same : refuse y q 0 0 ≡ refuse z p r f = sym (damaged-refused d bytes short) ∙ e in
+        let a : y ≡ z = cc in
+        let b : q ≡ p = cc in
+        (subst₂ (λ (n m : ℕ). Damaged s n m) a b d, cc, cc)
 
 -- ---- what a writer may write
 

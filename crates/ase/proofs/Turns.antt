@@ -19,7 +19,7 @@ use Rattle.fields.proofs.Tails.{Tail, tail-left, tail-after, field-there, field
 use Rattle.colour.specs.Models.{channelsOf}
 use Rattle.ase.specs.Grammar.{colour, payload, Known, starts, stops, colours, Unknown, Model, Channel}
 use Rattle.ase.specs.Reading.{Entry, coloured, group, model, channel, type, shade, inside, within, content, block, standingAfter, marked, heading, blocks, palette}
-use Rattle.ase.specs.Damaged.{DamagedHeading, signature-cut, wrong-signature, major-cut, wrong-major, minor-cut, wrong-minor, blocks-cut, DamagedName, count-cut, no-units, units-cut, unclosed, DamagedGroup, group-name, group-left, Begun, DamagedColour, colour-name, model-cut, wrong-model, channel-cut, wrong-channel, type-cut, wrong-type, colour-left, modelAt, channelAt, framed, loaded, DamagedBlock, block-cut, length-cut, unknown, payload-cut, deep, wrong-group, full-stop, no-group, wrong-colour}
+use Rattle.ase.specs.Damaged.{DamagedHeading, signature-cut, wrong-signature, major-cut, wrong-major, minor-cut, wrong-minor, blocks-cut, DamagedName, count-cut, no-units, units-cut, unclosed, DamagedGroup, group-name, group-left, Begun, DamagedColour, colour-name, model-cut, wrong-model, channel-cut, wrong-channel, type-cut, wrong-type, colour-left, modelAt, channelAt, framed, loaded, DamagedBlock, block-cut, length-cut, unknown, payload-cut, too-deep, wrong-group, end-with-payload, end-without-group, wrong-colour}
 use Rattle.ase.proofs.Payload.{at-cut}
 use Rattle.ase.proofs.Tables.{known-type, known-small, unknown-type, model-known, model-count, model-small, unknown-model, channel-refused, channels-fine}
 
@@ -131,8 +131,9 @@ module _ (s : List ℕ) (bytes : Bytes s) (at : ℕ) where
   behind-channels : (us bs l : List ℕ) → Tail s (at + modelAt us + 4) (joined (be 4) bs ++ l) → Tail s (at + modelAt us + 4 + 4 * length bs) l
   behind-channels us bs l h = tail-after s (at + modelAt us + 4) (joined (be 4) bs) l (at + modelAt us + 4 + 4 * length bs) (omega (arith, length-bes 4 bs)) h
 
-  -- where a colour's channels begin, once its name and model are read
+  -- behind a colour's name and model
   module _ (us : List ℕ) (t n : ℕ) (bs : List ℕ) (b : Begun us t n bs) where
+    -- where its channels begin
     abbrev first : ℕ
     first = at + modelAt us + 4
 
@@ -219,6 +220,7 @@ module _ (s : List ℕ) (bytes : Bytes s) (d at : ℕ) where
   unfolding block
   unknown-stops t m x u few h = let f = framed-there t m x (u .small) few h in rw (f .0) (rw (f .1) (rw (unknown-type t u)))
 
+  -- a fault at the block itself
   here : {A : Type 0} (z : ℕ) → _≡_ {A = Res A} (refuse z at 0 0) (refuse z (at + 0) 0 0)
   here z = ap (λ (k : ℕ). refuse z k 0 0) (sym (add-zero at))
 
@@ -232,12 +234,12 @@ module _ (s : List ℕ) (bytes : Bytes s) (d at : ℕ) where
   block-stops short (payload-cut t m x known few less) h =
       let f = framed-there t m x (known-small known) few (h .stands) in
       rw (f .0) (rw (f .1) (rw (known-type known) (rw (lt-leb m (length s - (at + 6)) (omega (arith, framed-rest t m x h .ends))))))
-  block-stops short (deep l x many) h = let f = loaded-there 0xC001 l x starts short h in f .0 ∙ rw (le-ltb d 16 many) (here 10)
+  block-stops short (too-deep l x many) h = let f = loaded-there 0xC001 l x starts short h in f .0 ∙ rw (le-ltb d 16 (omega arith)) (here 10)
   block-stops short (wrong-group l x z p less g) h =
       let f = loaded-there 0xC001 l x starts short h in
       f .0 ∙ rw (lt-ltb d 16 less) (within-stops group l (f .1) (group-stops (take (at + 6 + length l) s) (bytes-take (at + 6 + length l) s bytes) at g (payload-tail l (f .1))))
-  block-stops short (full-stop l x some) h = let f = loaded-there 0xC002 l x stops short h in f .0 ∙ rw (ne-eqb (length l) 0 (λ z. omega arith))
-  block-stops short (no-group x none) h =
+  block-stops short (end-with-payload l x some) h = let f = loaded-there 0xC002 l x stops short h in f .0 ∙ rw (ne-eqb (length l) 0 (λ z. omega arith))
+  block-stops short (end-without-group x none) h =
       let f = framed-there 0xC002 0 x (omega arith) (omega arith) (h .stands) in
       rw (f .0) (rw (f .1) (rw (le-leb 0 (length s - (at + 6)) (omega arith)) (rw (le-ltb 0 d (omega arith)) (here 9))))
   block-stops short (wrong-colour l x z p g) h =

@@ -25,3 +25,4 @@ pub mod Numbered
 pub mod Until
 pub mod Alone
 pub mod Tails
+pub mod Begins
