@@ -12,7 +12,7 @@ pub mod Rows
 pub mod Examples
 pub mod Cut
 pub mod CutTree
-pub mod Wrong
+pub mod WrongFields
 pub mod Stopped
 pub mod Refused
 pub mod TypedValues

@@ -1,11 +1,12 @@
 -- What is refused of descriptor files, over the trees. Assumes nothing.
 use Prim.Native.Nat.{ℕ, _≤_, _<_}
 use mathlib.Core.Path.{_≡_, sym, ap, _∙_, subst}
-use mathlib.Core.List.{List, [], _∷_, _++_, append-assoc}
+use mathlib.Core.List.{List, [], _∷_, _++_, append-nil, append-assoc}
 use lib.ListN.{length, take, length-append}
 use lib.Seq.{length-take-le}
 use borrow.Author.Tests.{le-leb}
 use native.Mathlib.Omega.{arith}
+use native.Mathlib.Nat.{zero-add}
 use Rattle.fields.specs.Numbers.{be, At, Bytes}
 use Rattle.fields.specs.Reader.{ok, refuse}
 use Rattle.fields.specs.Cut.{notWhole, Stub}
@@ -19,6 +20,7 @@ use Rattle.descriptor_tree.specs.Widths.{classWide, membersWide, fileWid
 use Rattle.descriptor_tree.specs.Damaged.{DamagedFile}
 use Rattle.descriptor_tree.proofs.CutTree.{root-cut, root-reads}
 use Rattle.descriptor_tree.proofs.Stopped.{root-wrong}
+use Rattle.descriptor_tree.proofs.WrongFields.{There}
 
 -- every file, cut, is refused by 2 at the first field that is not whole
 pub cut-refused : {t : Descriptor} {b : List ℕ} (f : File t b) (n : ℕ) → n < length b → descriptor (take n b) ≡ refuse 2 (notWhole (fileWide f) 0 n) 0 0
@@ -41,9 +43,10 @@ left-over-refused (file {t} c few a octets short) x bytes some fits =
     let r = root-reads s (bytes-append b x octets bytes) t c few a h in
     simp (le-leb (length s) 16777216 fits) (rw (r .1 ∙ ap (λ (z : List ℕ). ok (r .0) (length z)) (sym e)) (ended-left (r .0) s (length b) (omega (arith, length-append b x))))
 
--- a wrong field, behind what is allowed and before any bytes: its number, where it stands
-pub wrong-refused : {b : List ℕ} {x p : ℕ} → DamagedFile b x p → (more : List ℕ) → Bytes (b ++ more) → length (b ++ more) ≤ 16777216 → descriptor (b ++ more) ≡ refuse x p 0 0
+-- a damaged field, behind what is allowed and before any bytes, or where the file ends if it is cut: its number, where it stands
+pub damaged-refused : {b : List ℕ} {x p : ℕ} → DamagedFile b x p → (more : List ℕ) → (x ≡ 2 → more ≡ []) → Bytes (b ++ more) → length (b ++ more) ≤ 16777216 → descriptor (b ++ more) ≡ refuse x p 0 0
 unfolding descriptor whole
-wrong-refused {b} {x} {p} w more octets short =
+damaged-refused {b} {x} {p} w more last octets short =
     let s : List ℕ = b ++ more in
-    simp (le-leb (length s) 16777216 short) (rw (root-wrong s octets b x p w (at-left s 0 b more (at-whole s))))
+    let h : There s octets 0 b x = record { stands = at-left s 0 b more (at-whole s); ends = λ z. ap (λ (l : List ℕ). length (b ++ l)) (last z) ∙ ap length (append-nil b) ∙ sym (zero-add (length b)) } in
+    simp (le-leb (length s) 16777216 short) (rw (root-wrong s octets b x p w h))

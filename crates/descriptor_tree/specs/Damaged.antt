@@ -1,4 +1,4 @@
--- Files of which one field is wrong: it has its size, and lies outside its set. Each set here has the bytes up to that field's end,
+-- Files of which one field is damaged: it is cut, or it is whole and lies outside its set. Each set here has the bytes up to where that field ends,
 -- the refusal's number, and its place, counted from the first of those bytes. Nothing here reads.
 use Prim.Native.Nat.{ℕ, suc, _+_, _*_, _^_, _≤_, _<_}
 use mathlib.Core.Path.{_≡_}
@@ -6,36 +6,85 @@ use mathlib.Core.List.{List, [], _++_}
 use lib.ListN.{length}
 use Rattle.fields.specs.Numbers.{be}
 use Rattle.fields.specs.Sets.{Field, Size, Number, Run}
-use Rattle.descriptor_tree.specs.Grammar.{Id, Class, Boolean, Double, Measure, ArrayMeasure, Form}
+use Rattle.descriptor_tree.specs.Grammar.{Id, Text, Class, Boolean, Double, Measure, ArrayMeasure, Form}
 use Rattle.descriptor_tree.specs.Tree.{Members, count, head, bytes, Place, Item, Member, Allowed}
 
 -- ---- fields
 
--- w bytes that are not of X: refused by x where they begin
-pub data Outside (w : ℕ) (X : Field) (x : ℕ) : List ℕ → ℕ → ℕ → Type 0 where
-  outside : {b : List ℕ} → Size w b → (X b → ⊥) → Outside w X x b x 0
+-- a field of w bytes of which fewer are there: 2 where it begins; nothing can stand behind it
+pub data Cut (w : ℕ) : List ℕ → ℕ → ℕ → Type 0 where
+  cut : {b : List ℕ} → length b < w → Cut w b 2 0
 
--- a Unicode string of n units and a last one that is not zero: 8 at the count
-pub data Unclosed : List ℕ → ℕ → ℕ → Type 0 where
-  unclosed : (n u : ℕ) (b : List ℕ) → suc n < 256 ^ 4 → length b ≡ n * 2 → 0 < u → u < 256 ^ 2 → Unclosed (be 4 (suc n) ++ (b ++ be 2 u)) 8 0
+-- a field of w bytes that is cut, or is whole and not of X: x where it begins
+pub data Wrong (w : ℕ) (X : Field) (x : ℕ) : List ℕ → ℕ → ℕ → Type 0 where
+  cut : {b : List ℕ} → length b < w → Wrong w X x b 2 0
+  outside : {b : List ℕ} → Size w b → (X b → ⊥) → Wrong w X x b x 0
 
--- the value of an item that holds no items, by its type: `bool`, `type`, `GlbC`, `doub`, `TEXT`; `UntF`: the unit, or behind it the double.
--- A class is wrong by its name alone
+-- an ID: its length, or its body, of 4 bytes where the length is 0
+pub data WrongId : List ℕ → ℕ → ℕ → Type 0 where
+  size : {b : List ℕ} {x o : ℕ} → Cut 4 b x o → WrongId b x o
+  char : {b : List ℕ} {x o : ℕ} → Cut 4 b x o → WrongId (be 4 0 ++ b) x (4 + o)
+  string : (n : ℕ) {b : List ℕ} {x o : ℕ} → 0 < n → n < 256 ^ 4 → Cut n b x o → WrongId (be 4 n ++ b) x (4 + o)
+
+-- a Unicode string: its count, its units, or, behind n units, a last one that is not zero: 8 at the count
+pub data WrongText : List ℕ → ℕ → ℕ → Type 0 where
+  size : {b : List ℕ} {x o : ℕ} → Cut 4 b x o → WrongText b x o
+  units : (n : ℕ) {b : List ℕ} {x o : ℕ} → n < 256 ^ 4 → Cut (n * 2) b x o → WrongText (be 4 n ++ b) x (4 + o)
+  unclosed : (n u : ℕ) (b : List ℕ) → suc n < 256 ^ 4 → length b ≡ n * 2 → 0 < u → u < 256 ^ 2 → WrongText (be 4 (suc n) ++ (b ++ be 2 u)) 8 0
+
+-- a class: its name, or its ID
+pub data WrongClass : List ℕ → ℕ → ℕ → Type 0 where
+  name : {b : List ℕ} {x o : ℕ} → WrongText b x o → WrongClass b x o
+  id : {t b : List ℕ} {x o : ℕ} → Text t → WrongId b x o → WrongClass (t ++ b) x (length t + o)
+
+-- the ID of an enumerated value's type, or that of the value
+pub data WrongEnumerated : List ℕ → ℕ → ℕ → Type 0 where
+  type : {b : List ℕ} {x o : ℕ} → WrongId b x o → WrongEnumerated b x o
+  value : {t b : List ℕ} {x o : ℕ} → Id t → WrongId b x o → WrongEnumerated (t ++ b) x (length t + o)
+
+-- a length, or the bytes behind it
+pub data WrongRaw : List ℕ → ℕ → ℕ → Type 0 where
+  size : {b : List ℕ} {x o : ℕ} → Cut 4 b x o → WrongRaw b x o
+  body : (n : ℕ) {b : List ℕ} {x o : ℕ} → n < 256 ^ 4 → Cut n b x o → WrongRaw (be 4 n ++ b) x (4 + o)
+
+-- ---- values
+
+-- the value of an item that holds no items, by its type
 pub data WrongLeaf : ℕ → List ℕ → ℕ → ℕ → Type 0 where
-  boolean : {b : List ℕ} {x o : ℕ} → Outside 1 Boolean 5 b x o → WrongLeaf 0x626F_6F6C b x o
-  class : {b : List ℕ} {x o : ℕ} → Unclosed b x o → WrongLeaf 0x7479_7065 b x o
-  globalClass : {b : List ℕ} {x o : ℕ} → Unclosed b x o → WrongLeaf 0x476C_6243 b x o
-  double : {b : List ℕ} {x o : ℕ} → Outside 8 Double 5 b x o → WrongLeaf 0x646F_7562 b x o
-  text : {b : List ℕ} {x o : ℕ} → Unclosed b x o → WrongLeaf 0x5445_5854 b x o
-  unit : {b : List ℕ} {x o : ℕ} → Outside 4 (Number 4 Measure) 4 b x o → WrongLeaf 0x556E_7446 b x o
-  unitDouble : {u b : List ℕ} {x o : ℕ} → Number 4 Measure u → Outside 8 Double 5 b x o → WrongLeaf 0x556E_7446 (u ++ b) x (4 + o)
+  boolean : {b : List ℕ} {x o : ℕ} → Wrong 1 Boolean 5 b x o → WrongLeaf 0x626F_6F6C b x o
+  class : {b : List ℕ} {x o : ℕ} → WrongClass b x o → WrongLeaf 0x7479_7065 b x o
+  globalClass : {b : List ℕ} {x o : ℕ} → WrongClass b x o → WrongLeaf 0x476C_6243 b x o
+  double : {b : List ℕ} {x o : ℕ} → Wrong 8 Double 5 b x o → WrongLeaf 0x646F_7562 b x o
+  enumerated : {b : List ℕ} {x o : ℕ} → WrongEnumerated b x o → WrongLeaf 0x656E_756D b x o
+  alias : {b : List ℕ} {x o : ℕ} → WrongRaw b x o → WrongLeaf 0x616C_6973 b x o
+  path : {b : List ℕ} {x o : ℕ} → WrongRaw b x o → WrongLeaf 0x5074_6820 b x o
+  integer : {b : List ℕ} {x o : ℕ} → Cut 4 b x o → WrongLeaf 0x6C6F_6E67 b x o
+  large : {b : List ℕ} {x o : ℕ} → Cut 8 b x o → WrongLeaf 0x636F_6D70 b x o
+  raw : {b : List ℕ} {x o : ℕ} → WrongRaw b x o → WrongLeaf 0x7464_7461 b x o
+  text : {b : List ℕ} {x o : ℕ} → WrongText b x o → WrongLeaf 0x5445_5854 b x o
+  unit : {b : List ℕ} {x o : ℕ} → Wrong 4 (Number 4 Measure) 4 b x o → WrongLeaf 0x556E_7446 b x o
+  unitDouble : {u b : List ℕ} {x o : ℕ} → Number 4 Measure u → Wrong 8 Double 5 b x o → WrongLeaf 0x556E_7446 (u ++ b) x (4 + o)
+
+-- what stands behind the class of a reference item, by its form
+pub data WrongForm : ℕ → List ℕ → ℕ → ℕ → Type 0 where
+  enumerated : {b : List ℕ} {x o : ℕ} → WrongEnumerated b x o → WrongForm 0x456E_6D72 b x o
+  identifier : {b : List ℕ} {x o : ℕ} → Cut 4 b x o → WrongForm 0x4964_6E74 b x o
+  index : {b : List ℕ} {x o : ℕ} → Cut 4 b x o → WrongForm 0x696E_6478 b x o
+  name : {b : List ℕ} {x o : ℕ} → WrongText b x o → WrongForm 0x6E61_6D65 b x o
+  offset : {b : List ℕ} {x o : ℕ} → Cut 4 b x o → WrongForm 0x7265_6C65 b x o
+  property : {b : List ℕ} {x o : ℕ} → WrongId b x o → WrongForm 0x7072_6F70 b x o
 
 -- the unit doubles of an object array of m objects: the unit; the count; a double, behind k others
 pub data WrongDoubles (m : ℕ) : List ℕ → ℕ → ℕ → Type 0 where
-  unit : {b : List ℕ} {x o : ℕ} → Outside 4 (Number 4 ArrayMeasure) 4 b x o → WrongDoubles m b x o
-  number : {u b : List ℕ} {x o : ℕ} → Number 4 ArrayMeasure u → Outside 4 (Number 4 (λ n. n ≡ m)) 5 b x o → WrongDoubles m (u ++ b) x (4 + o)
-  double : (k : ℕ) (c : List ℕ) {u b : List ℕ} {x o : ℕ} → Number 4 ArrayMeasure u → m < 256 ^ 4 → k < m → Run Double k c → Outside 8 Double 5 b x o
+  unit : {b : List ℕ} {x o : ℕ} → Wrong 4 (Number 4 ArrayMeasure) 4 b x o → WrongDoubles m b x o
+  number : {u b : List ℕ} {x o : ℕ} → Number 4 ArrayMeasure u → Wrong 4 (Number 4 (λ n. n ≡ m)) 5 b x o → WrongDoubles m (u ++ b) x (4 + o)
+  double : (k : ℕ) (c : List ℕ) {u b : List ℕ} {x o : ℕ} → Number 4 ArrayMeasure u → m < 256 ^ 4 → k < m → Run Double k c → Wrong 8 Double 5 b x o
       → WrongDoubles m (u ++ (be 4 m ++ (c ++ b))) x (8 + length c + o)
+
+-- the class of an object, or its pair count
+pub data WrongObject : List ℕ → ℕ → ℕ → Type 0 where
+  class : {b : List ℕ} {x o : ℕ} → WrongClass b x o → WrongObject b x o
+  pairs : {c b : List ℕ} {x o : ℕ} → Class c → Cut 4 b x o → WrongObject (c ++ b) x (length c + o)
 
 -- ---- members
 
@@ -46,29 +95,30 @@ pub data ItemType : ℕ → Type 0 where
 pub data ItemForm : ℕ → Type 0 where
   form : {kind : ℕ} {b : List ℕ} → Form kind b → ItemForm kind
 
--- an item: its type; behind that its value; the class of `Objc`, `GlbO`, and of `ObAr`, which stands behind the number of objects
+-- an item: its type; behind that its value, or what stands there before its members
 pub data WrongItem : List ℕ → ℕ → ℕ → Type 0 where
-  type : {b : List ℕ} {x o : ℕ} → Outside 4 (Number 4 ItemType) 4 b x o → WrongItem b x o
+  type : {b : List ℕ} {x o : ℕ} → Wrong 4 (Number 4 ItemType) 4 b x o → WrongItem b x o
   leaf : {kind : ℕ} {b : List ℕ} {x o : ℕ} → WrongLeaf kind b x o → WrongItem (be 4 kind ++ b) x (4 + o)
-  object : {b : List ℕ} {x o : ℕ} → Unclosed b x o → WrongItem (be 4 0x4F62_6A63 ++ b) x (4 + o)
-  global : {b : List ℕ} {x o : ℕ} → Unclosed b x o → WrongItem (be 4 0x476C_624F ++ b) x (4 + o)
-  array : (m : ℕ) {b : List ℕ} {x o : ℕ} → m < 256 ^ 4 → Unclosed b x o → WrongItem (be 4 0x4F62_4172 ++ (be 4 m ++ b)) x (8 + o)
+  list : {b : List ℕ} {x o : ℕ} → Cut 4 b x o → WrongItem (be 4 0x566C_4C73 ++ b) x (4 + o)
+  object : {b : List ℕ} {x o : ℕ} → WrongObject b x o → WrongItem (be 4 0x4F62_6A63 ++ b) x (4 + o)
+  global : {b : List ℕ} {x o : ℕ} → WrongObject b x o → WrongItem (be 4 0x476C_624F ++ b) x (4 + o)
+  reference : {b : List ℕ} {x o : ℕ} → Cut 4 b x o → WrongItem (be 4 0x6F62_6A20 ++ b) x (4 + o)
+  objects : {b : List ℕ} {x o : ℕ} → Cut 4 b x o → WrongItem (be 4 0x4F62_4172 ++ b) x (4 + o)
+  array : (m : ℕ) {b : List ℕ} {x o : ℕ} → m < 256 ^ 4 → WrongObject b x o → WrongItem (be 4 0x4F62_4172 ++ (be 4 m ++ b)) x (8 + o)
 
--- a reference item: its form; its class; behind that the string of `name`
-pub data WrongForm : List ℕ → ℕ → ℕ → Type 0 where
-  form : {b : List ℕ} {x o : ℕ} → Outside 4 (Number 4 ItemForm) 4 b x o → WrongForm b x o
-  class : {kind : ℕ} {b : List ℕ} {x o : ℕ} → ItemForm kind → Unclosed b x o → WrongForm (be 4 kind ++ b) x (4 + o)
-  name : {c b : List ℕ} {x o : ℕ} → Class c → Unclosed b x o → WrongForm (be 4 0x6E61_6D65 ++ (c ++ b)) x (4 + length c + o)
-
--- a member of a place: behind its key, where it has one; in an object array the type is `UnFl`
+-- a member of a place: its key, where it has one; its type or form; what stands behind that. In an object array the type is `UnFl`
 pub data WrongMember : Place → List ℕ → ℕ → ℕ → Type 0 where
   item : {b : List ℕ} {x o : ℕ} → WrongItem b x o → WrongMember Place.items b x o
+  key : {b : List ℕ} {x o : ℕ} → WrongId b x o → WrongMember Place.pairs b x o
   pair : {key b : List ℕ} {x o : ℕ} → Id key → WrongItem b x o → WrongMember Place.pairs (key ++ b) x (length key + o)
-  form : {b : List ℕ} {x o : ℕ} → WrongForm b x o → WrongMember Place.forms b x o
-  columnType : {m : ℕ} {key b : List ℕ} {x o : ℕ} → Id key → Outside 4 (Number 4 (λ t. t ≡ 0x556E_466C)) 4 b x o → WrongMember (Place.columns m) (key ++ b) x (length key + o)
+  form : {b : List ℕ} {x o : ℕ} → Wrong 4 (Number 4 ItemForm) 4 b x o → WrongMember Place.forms b x o
+  class : {kind : ℕ} {b : List ℕ} {x o : ℕ} → ItemForm kind → WrongClass b x o → WrongMember Place.forms (be 4 kind ++ b) x (4 + o)
+  value : {kind : ℕ} {c b : List ℕ} {x o : ℕ} → Class c → WrongForm kind b x o → WrongMember Place.forms (be 4 kind ++ (c ++ b)) x (4 + length c + o)
+  columnKey : {m : ℕ} {b : List ℕ} {x o : ℕ} → WrongId b x o → WrongMember (Place.columns m) b x o
+  columnType : {m : ℕ} {key b : List ℕ} {x o : ℕ} → Id key → Wrong 4 (Number 4 (λ t. t ≡ 0x556E_466C)) 4 b x o → WrongMember (Place.columns m) (key ++ b) x (length key + o)
   column : {m : ℕ} {key b : List ℕ} {x o : ℕ} → Id key → WrongDoubles m b x o → WrongMember (Place.columns m) (key ++ (be 4 0x556E_466C ++ b)) x (length key + 4 + o)
 
--- n members of a place at a depth, of which one is wrong, or is at depth 33: 10 at its first byte, and no byte of it need be there.
+-- n members of a place at a depth, of which one is damaged, or is at depth 33: 10 at its first byte, and no byte of it need be there.
 -- It is the first; it is below the first, whose head is allowed; or it is behind the first, which is allowed with all below it
 pub data Damaged : Place → ℕ → ℕ → List ℕ → ℕ → ℕ → Type 0 where
   deep : {c : Place} {n : ℕ} → Damaged c 33 (suc n) [] 10 0
@@ -78,9 +128,9 @@ pub data Damaged : Place → ℕ → ℕ → List ℕ → ℕ → ℕ → Type 0
   behind : {c kids : Place} {d n kind : ℕ} {key fields b : List ℕ} {x o : ℕ} (children : Members) → d ≤ 32 → Member c key kind kids (count children) fields → Allowed kids (d + 1) children
       → Damaged c d n b x o → Damaged c d (suc n) (head key kind fields ++ (bytes children ++ b)) x (length (head key kind fields) + length (bytes children) + o)
 
--- ---- a file: the version; the root's class; a member
+-- ---- a file: the version; the root's class or pair count; a member
 
 pub data DamagedFile : List ℕ → ℕ → ℕ → Type 0 where
-  version : {b : List ℕ} {x o : ℕ} → Outside 4 (Number 4 (λ v. v ≡ 16)) 3 b x o → DamagedFile b x o
-  class : {b : List ℕ} {x o : ℕ} → Unclosed b x o → DamagedFile (be 4 16 ++ b) x (4 + o)
+  version : {b : List ℕ} {x o : ℕ} → Wrong 4 (Number 4 (λ v. v ≡ 16)) 3 b x o → DamagedFile b x o
+  root : {b : List ℕ} {x o : ℕ} → WrongObject b x o → DamagedFile (be 4 16 ++ b) x (4 + o)
   pairs : (n : ℕ) {c b : List ℕ} {x o : ℕ} → Class c → n < 256 ^ 4 → Damaged Place.pairs 1 n b x o → DamagedFile (be 4 16 ++ (c ++ (be 4 n ++ b))) x (8 + length c + o)
