@@ -5,8 +5,8 @@ use mathlib.Core.List.{List, [], _∷_, _++_}
 use mathlib.Core.Bool.{Bool, true, false}
 use lib.ListN.{length, getD, drop, set, length-set, drop-of-length-le}
 use lib.Seq.{drop-cons, sets}
-use lib.Dec.{ltb}
-use borrow.Author.Tests.{lt-ltb, le-ltb, ltb-true}
+use lib.Dec.{leb, ltb}
+use borrow.Author.Tests.{lt-ltb, le-ltb, le-leb, ltb-true}
 use native.Mathlib.Omega.{arith}
 use native.Mathlib.Numerals.{add-one}
 use Rattle.fields.specs.Reader.{pick}
@@ -28,6 +28,10 @@ module _ (out : List ℕ) (n b : ℕ) where
   pub put-nowhere : length out ≤ n → length out ≤ 0 → putOne (out, n) b ≡ (out, 0)
   unfolding putOne
   put-nowhere h room = rw (le-ltb _ _ h, le-ltb _ _ room)
+
+-- what is handed over of a buffer that is full to its end is all of it
+pub handed-all : (full n : ℕ) {r : ℕ} → r ≡ pick (leb full n) full 0 → full ≡ n → r ≡ n
+handed-all full n e same = e ∙ rw (le-leb full n (omega arith)) same
 
 -- ---- bytes one after the other
 

@@ -13,8 +13,8 @@ ghost use Rattle.listing.specs.Text.{decimal, word, digit, hex, name, bi
 use libc::STDIN_FILENO;
 use libc::STDOUT_FILENO;
 
-// Puts a byte into the buffer, of which n are full, and answers how many are full then. A full
-// buffer is written out first.
+// Puts a byte into the buffer, of which n are full, and answers how many are full then. Of a full
+// buffer all bytes are handed over first, to be written out.
 pub fn put(out: &mut [u8], n: usize, b: u8) -> usize
     ensures { λ r. ⌜ (now (out .exit), r) ≡ putOne (now (out .entry), n) b ⌝ }
 {
@@ -22,8 +22,7 @@ pub fn put(out: &mut [u8], n: usize, b: u8) -> usize
         out[n] = b;
         return n + 1;
     }
-    io::write_all(STDOUT_FILENO, out);
-    if 0 < out.len() {
+    if 0 < finish(out, out.len()) {
         out[0] = b;
         return 1;
     }
@@ -138,7 +137,7 @@ pub fn take_input(input: &mut [u8]) -> usize
     n
 }
 
-// Hands what is left in the buffer to be written out, and answers how many bytes that were. Whether
+// Hands the full bytes of a buffer over to be written out, and answers how many that were. Whether
 // they were written is not said: `io::write_all` promises nothing of its answer.
 pub fn finish(out: &[u8], full: usize) -> usize
     ensures { λ r. ⌜ r ≡ pick (leb full (length (now (out .entry)))) full 0 ⌝ }

@@ -98,7 +98,8 @@ impl<'a> Page<'a> {
         }
         self.expect(!cell.contains("(those of"), cell.trim(), "names no edit");
         let mut of = "";
-        for edit in rest.split([',', ';']).map(str::trim) {
+        let plain = |c: char| c == '`' || c.is_whitespace();
+        for edit in rest.split([',', ';']).map(|edit| edit.trim_matches(plain)) {
             if edit.is_empty() || edit.starts_with("--") {
                 continue;
             }

@@ -1,6 +1,8 @@
 use mathlib.Core.Path.{sym}
+use native.Mathlib.Omega.{arith}
+use lib.ListN.{length}
 use borrow.Author.Needs.{needs}
-use Rattle.listing.proofs.Putting.{put-behind, put-anew, put-nowhere}
+use Rattle.listing.proofs.Putting.{put-behind, put-anew, put-nowhere, handed-all}
 use Rattle.listing.proofs.put.Statement.{statement}
 use Rattle.listing.proofs.put.Tie as tie
 
@@ -16,23 +18,29 @@ same-length c = search needs
 returns : tie.Need-returns
 returns c = sym (put-behind _ _ _ (c .if1 .taken))
 
-write-all-requires : tie.Need-write-all-requires
-write-all-requires c κs = search needs
+finish-requires : tie.Need-finish-requires
+finish-requires c κs = search needs
 
 slice-write-out-2 : tie.Need-slice-write-out-2
-slice-write-out-2 c = search needs
+slice-write-out-2 c =
+    let out = c .before .before .before .before .before .args .out .now in
+    omega (arith, c .if2 .taken, handed-all _ (length out) (c .before .finish .ensures) (omega arith))
 
 same-length-2 : tie.Need-same-length-2
 same-length-2 c = search needs
 
 returns-2 : tie.Need-returns-2
-returns-2 c = sym (put-anew _ _ _ (c .before .before .before .if1 .left) (c .if2 .taken))
+returns-2 c =
+    let out = c .before .before .before .before .before .args .out .now in
+    sym (put-anew _ _ _ (c .before .before .before .if1 .left) (omega (arith, c .if2 .taken, handed-all _ (length out) (c .before .finish .ensures) (omega arith))))
 
 same-length-3 : tie.Need-same-length-3
 same-length-3 c = search needs
 
 returns-3 : tie.Need-returns-3
-returns-3 c = sym (put-nowhere _ _ _ (c .before .before .before .if1 .left) (c .if2 .left))
+returns-3 c =
+    let out = c .before .before .before .before .before .args .out .now in
+    sym (put-nowhere _ _ _ (c .before .before .before .if1 .left) (omega (arith, c .if2 .left, handed-all _ (length out) (c .before .finish .ensures) (omega arith))))
 
 pub put-spec : {M : Type 1} → statement M
 put-spec =
@@ -42,7 +50,7 @@ put-spec =
     add-result
     same-length
     returns
-    write-all-requires
+    finish-requires
     slice-write-out-2
     same-length-2
     returns-2
