@@ -5,6 +5,7 @@ pub mod Turns
 pub mod Laws
 pub mod Blocks
 pub mod Cut
+pub mod Lengths
 pub mod Refused
 pub mod Total
 pub mod Whole
