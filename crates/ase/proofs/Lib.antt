@@ -7,6 +7,7 @@ pub mod Blocks
 pub mod Cut
 pub mod Lengths
 pub mod Refused
+pub mod Contents
 pub mod Total
 pub mod Whole
 pub mod Faultless
