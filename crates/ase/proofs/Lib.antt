@@ -5,7 +5,9 @@ pub mod Turns
 pub mod Laws
 pub mod Blocks
 pub mod Cut
+pub mod Lengths
 pub mod Refused
+pub mod Contents
 pub mod Total
 pub mod Whole
 pub mod Faultless

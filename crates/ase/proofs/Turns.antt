@@ -196,7 +196,7 @@ module _ (s : List ℕ) (bytes : Bytes s) (d at : ℕ) where
       tail-after s at (be 2 t ++ be 4 m) x (at + 6) e (subst (λ (y : List ℕ). Tail s at y) (sym (append-assoc (be 2 t) (be 4 m) x)) h)
 
   -- its payload stands there: its content is read
-  loaded-there : (t : ℕ) (l x : List ℕ) → Known t → length s ≤ 16777216 → Tail s at (loaded t l x) → (block d s at ≡ content t d (length l) s at) × At s (at + 6) l
+  pub loaded-there : (t : ℕ) (l x : List ℕ) → Known t → length s ≤ 16777216 → Tail s at (loaded t l x) → (block d s at ≡ content t d (length l) s at) × At s (at + 6) l
   unfolding block
   loaded-there t l x known short h =
       let few : length l < 256 ^ 4 = omega (arith, h .ends, length-append (be 2 t) (be 4 (length l) ++ (l ++ x)), length-append (be 4 (length l)) (l ++ x), length-append l x) in

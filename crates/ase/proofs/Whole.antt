@@ -12,7 +12,7 @@ use Rattle.fields.proofs.Places.{at-in, at-next, at-left, at-after, at-all, at-
 use Rattle.fields.proofs.Inverse.{then-inv, rule-inv, pick-inv, unless-fine, field-inv, judged-inv, ended-inv, ok-value, ok-place}
 use Rattle.fields.proofs.Chain.{in-map, in-all, state-map}
 use Rattle.ase.specs.Grammar.{Block, blockBytes, fileBytes, Allowed, Nested, File, file}
-use Rattle.ase.specs.Reading.{Entry, blockOf, block, standing, standingAfter, heading, blocks, palette, ase}
+use Rattle.ase.specs.Reading.{Entry, blockOf, block, standing, standingAfter, marked, heading, blocks, palette, ase}
 use Rattle.ase.proofs.Laws.{Steps, Sound}
 use Rattle.ase.proofs.Blocks.{headBytes, length-head, file-parts, heading-exact, chain-blocks, nested-steps, steps-nested, length-file, few-blocks, file-short, bytes-file, sound}
 
@@ -76,11 +76,11 @@ module _ (s : List ℕ) (bytes : Bytes s) where
 pub heading-inv : (s : List ℕ) {n q : ℕ} → heading s 0 ≡ ok n q → (q ≡ 12) × (12 ≤ length s)
 unfolding heading
 heading-inv s e =
-    let x = then-inv (judged 4 (λ x. unless (eqb x 0x4153_4546) 3) s 0) _ e in
-    let v = then-inv (judged 2 (λ v. unless (eqb v 1) 3) s (x .1)) _ (x .3) in
-    let w = then-inv (judged 2 (λ w. unless (eqb w 0) 3) s (v .1)) _ (v .3) in
-    let a = judged-inv 4 s 0 (λ x. unless (eqb x 0x4153_4546) 3) (x .2) in
-    let b = judged-inv 2 s (x .1) (λ v. unless (eqb v 1) 3) (v .2) in
-    let c = judged-inv 2 s (v .1) (λ w. unless (eqb w 0) 3) (w .2) in
+    let x = then-inv (judged 4 (marked 0x4153_4546) s 0) _ e in
+    let v = then-inv (judged 2 (marked 1) s (x .1)) _ (x .3) in
+    let w = then-inv (judged 2 (marked 0) s (v .1)) _ (v .3) in
+    let a = judged-inv 4 s 0 (marked 0x4153_4546) (x .2) in
+    let b = judged-inv 2 s (x .1) (marked 1) (v .2) in
+    let c = judged-inv 2 s (v .1) (marked 0) (w .2) in
     let d = field-inv 4 s (w .1) (w .3) in
     (omega arith, omega arith)

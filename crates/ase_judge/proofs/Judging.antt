@@ -20,7 +20,7 @@ use Rattle.colour.specs.declared.model.Traits.{Traits}
 use Rattle.colour.specs.declared.model.Model.the-variants as vm
 use Rattle.colour.specs.Channels.{wide, allowsBits}
 use Rattle.colour.specs.declared.model.Known.the-variants.{Is, Unknown}
-use Rattle.ase.specs.Reading.{Entry, started, stopped, coloured, group, model, channel, type, shade, inside, deepest, isType, content, block, standingAfter, heading, blocks, palette, ase}
+use Rattle.ase.specs.Reading.{Entry, started, stopped, coloured, group, model, channel, type, shade, inside, deepest, isType, content, block, standingAfter, marked, heading, blocks, palette, ase}
 use Rattle.ase_judge.specs.Parts.{channelIn, paint, startOf, stopOf, colourOf, whole}
 use Rattle.ase_judge.specs.Answer.{colourIn, colours, passed, tally, accepted, refused, verdict}
 
@@ -304,23 +304,23 @@ module _ (n i k d : ℕ) (s : List ℕ) (p : ℕ) (all : Res (ℕ × ℕ)) (inv 
 module _ (s : List ℕ) where
   pub heading-short : refuse 2 0 0 0 ≡ field 4 s 0 → heading s 0 ≡ refuse 2 0 0 0
   unfolding heading
-  heading-short e = rw (judged-short 4 s 0 (λ x. unless (eqb x 0x4153_4546) 3) e)
+  heading-short e = rw (judged-short 4 s 0 (marked 0x4153_4546) e)
 
   module _ (x a : ℕ) (e : ok x a ≡ field 4 s 0) where
     pub heading-bad : (x ≡ 0x4153_4546 → ⊥) → heading s 0 ≡ refuse 3 0 0 0
     unfolding heading
-    heading-bad h = rw (judged-bad 4 s 0 (λ x. unless (eqb x 0x4153_4546) 3) 3 0 0 e (rw (ne-eqb x 0x4153_4546 h)))
+    heading-bad h = rw (judged-bad 4 s 0 (marked 0x4153_4546) 3 0 0 e (rw (ne-eqb x 0x4153_4546 h)))
 
-    pub heading-good : x ≡ 0x4153_4546 → heading s 0 ≡ then (done (judged 2 (λ v. unless (eqb v 1) 3) s a)) (λ u b. then (done (judged 2 (λ v. unless (eqb v 0) 3) s b)) (λ u c. field 4 s c))
+    pub heading-good : x ≡ 0x4153_4546 → heading s 0 ≡ then (done (judged 2 (marked 1) s a)) (λ u b. then (done (judged 2 (marked 0) s b)) (λ u c. field 4 s c))
     unfolding heading
-    heading-good h = rw (judged-ok 4 s 0 (λ x. unless (eqb x 0x4153_4546) 3) e (rw (eq-eqb x 0x4153_4546 h))) (first (judged 2 (λ v. unless (eqb v 1) 3) s a))
+    heading-good h = rw (judged-ok 4 s 0 (marked 0x4153_4546) e (rw (eq-eqb x 0x4153_4546 h))) (first (judged 2 (marked 1) s a))
       where
         second : (m : Res ℕ) → then m (λ v c. field 4 s c) ≡ then (done m) (λ u c. field 4 s c)
         second (ok v c) = refl
         second (refuse x p r f) = refl
 
-        first : (m : Res ℕ) → then m (λ v b. then (judged 2 (λ v. unless (eqb v 0) 3) s b) (λ w c. field 4 s c)) ≡ then (done m) (λ u b. then (done (judged 2 (λ v. unless (eqb v 0) 3) s b)) (λ u c. field 4 s c))
-        first (ok v b) = second (judged 2 (λ v. unless (eqb v 0) 3) s b)
+        first : (m : Res ℕ) → then m (λ v b. then (judged 2 (marked 0) s b) (λ w c. field 4 s c)) ≡ then (done m) (λ u b. then (done (judged 2 (marked 0) s b)) (λ u c. field 4 s c))
+        first (ok v b) = second (judged 2 (marked 0) s b)
         first (refuse x p r f) = refl
 
 -- ---- the file
