@@ -22,7 +22,7 @@ use Rattle.descriptor_tree.specs.Tree.{Item}
 use Rattle.descriptor_tree.specs.Damaged.{Cut, cut, Wrong, WrongId, WrongText, WrongClass, WrongEnumerated, WrongRaw, WrongLeaf, WrongForm, WrongDoubles, ItemType, ItemForm}
 use Rattle.descriptor_tree.proofs.Fields.{Each, beside-each, known-measure, known-array, array-known, measure-known, id-reads, text-reads, double-reads}
 
--- ---- a tag that is in never row of a table
+-- ---- a tag that is in no row of a table
 
 beside-none : {A : Type 0} (P : ℕ → Type 0) (cs : List (ℕ × A)) → Each (λ t a. P t) cs → (t : ℕ) → (P t → ⊥) → beside cs t ≡ unknown
 beside-none P cs h t never = go (beside cs t) refl
@@ -102,9 +102,9 @@ no-type = beside-none ItemType types (
   ),
 )
 
-pub no-form : (t : ℕ) → (ItemForm t → ⊥) → formOf t ≡ unknown
-unfolding formOf
-no-form = beside-none ItemForm forms (
+-- a value of each form
+pub some-forms : Each (λ t (p : Reader Unit). ItemForm t) forms
+some-forms = (
   ItemForm.form Form.class,
   (
     ItemForm.form (Form.enumerated (seq some-id some-id)),
@@ -118,7 +118,11 @@ no-form = beside-none ItemForm forms (
   ),
 )
 
--- a number that passes never test
+pub no-form : (t : ℕ) → (ItemForm t → ⊥) → formOf t ≡ unknown
+unfolding formOf
+no-form = beside-none ItemForm forms some-forms
+
+-- a number that passes no test
 not-true : (b : Bool) → (b ≡ true → ⊥) → b ≡ false
 not-true true never = absurd (never refl)
 not-true false never = refl
@@ -211,7 +215,7 @@ module _ (s : List ℕ) (bytes : Bytes s) where
   unicode-wrong : Refuses WrongText unicode
   unfolding unicode
   unicode-wrong at b x o (WrongText.size w) h = rw (field-cut at b x o w h)
-  unicode-wrong at l x o (WrongText.units n {b = b} small (cut few)) h = tagged _ at n b 0 small h (λ g. rw (body-short 2 s (at + 4) n (room (n * 2) (at + 4) few g)) (here refl))
+  unicode-wrong at l x o (WrongText.units n {b = b} small (cut few)) h = tagged _ at n b 0 (omega arith) h (λ g. rw (body-short 2 s (at + 4) n (room (n * 2) (at + 4) few g)) (here refl))
   unicode-wrong at l x o (WrongText.unclosed n u b few size some small) h =
       let c : List ℕ = be 4 (suc n) in
       let e : at + length c ≡ at + 4 = ap (λ (k : ℕ). at + k) (length-be 4 (suc n)) in
@@ -257,13 +261,13 @@ module _ (s : List ℕ) (bytes : Bytes s) where
       passed (judged 8 bits s at)
       ∙ wrong 8 bits (λ v q. ok tt q) 5 at b x o (λ v small never g. sym (passed (judged 8 bits s at)) ∙ double-refused s at small (not-less (v % 0x8000_0000_0000_0000) 0x7FF0_0000_0000_0000 never) g) w h
 
-  unit-number : Numbers s 4 Measure (judged 4 unit)
+  pub unit-number : Numbers s 4 Measure (judged 4 unit)
   unit-number = tested-numbers s bytes 4 isUnit _ Measure (λ u h. measure-known h) known-measure
 
-  array-number : Numbers s 4 ArrayMeasure (judged 4 arrayUnit)
+  pub array-number : Numbers s 4 ArrayMeasure (judged 4 arrayUnit)
   array-number = tested-numbers s bytes 4 isArrayUnit _ ArrayMeasure (λ u h. array-known h) known-array
 
-  count-number : (m : ℕ) → Numbers s 4 (λ n. n ≡ m) (judged 4 (doubles m))
+  pub count-number : (m : ℕ) → Numbers s 4 (λ n. n ≡ m) (judged 4 (doubles m))
   count-number m = tag-numbers s bytes 4 m _
 
   unit-wrong : Refuses (Wrong 4 (Number 4 Measure) 4) unitDouble
