@@ -21,8 +21,7 @@ use Rattle.descriptor_tree.specs.Tree.{count, head, Place, Item, Member}
 use Rattle.descriptor_tree.specs.Tree as tree
 use Rattle.descriptor_tree.specs.Damaged.{Cut, cut, Wrong, WrongObject, ItemType, ItemForm, WrongItem, WrongMember, Damaged, DamagedFile}
 use Rattle.descriptor_tree.proofs.Fields.{beside-each, id-reads, class-reads}
-use Rattle.descriptor_tree.proofs.WrongFields.{some-forms}
-use Rattle.descriptor_tree.proofs.Heads.{reader}
+use Rattle.descriptor_tree.proofs.Heads.{reader, some-forms}
 use Rattle.descriptor_tree.proofs.Stopped.{column-number, version-number}
 use Rattle.descriptor_tree.proofs.Member.{one-sound}
 use Rattle.descriptor_tree.proofs.Trees.{forest-sound, too-deep}

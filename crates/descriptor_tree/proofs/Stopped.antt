@@ -17,11 +17,11 @@ use Rattle.descriptor_tree.specs.Tree.{head, rows, Place}
 use Rattle.descriptor_tree.specs.Tree as tree
 use Rattle.descriptor_tree.specs.Damaged.{cut, Wrong, WrongId, WrongObject, ItemForm, WrongItem, WrongMember, Damaged, DamagedFile}
 use Rattle.descriptor_tree.proofs.Fields.{id-reads, class-reads}
-use Rattle.descriptor_tree.proofs.Heads.{reader, rowOf, form-small, class-at}
+use Rattle.descriptor_tree.proofs.Heads.{reader, rowOf, form-small, class-at, no-type, no-form}
 use Rattle.descriptor_tree.proofs.Member.{one-whole}
 use Rattle.descriptor_tree.proofs.Trees.{forest-whole, too-deep}
 use Rattle.descriptor_tree.proofs.Cut.{form-cut}
-use Rattle.descriptor_tree.proofs.WrongFields.{no-type, no-form, There, Refuses, at-place, here, beyond, behind, tagged, field-cut, other-number, wrong, id-wrong, class-wrong, counted-wrong, leaf-wrong, form-wrong, column-wrong}
+use Rattle.descriptor_tree.proofs.WrongFields.{There, Refuses, at-place, here, beyond, behind, tagged, field-cut, other-number, wrong, id-wrong, class-wrong, counted-wrong, leaf-wrong, form-wrong, column-wrong}
 
 module _ (s : List ℕ) (bytes : Bytes s) where
   -- the class of an object, or its pair count
