@@ -9,13 +9,14 @@ use Rattle.fields.specs.Numbers.{be, At, Bytes}
 use Rattle.fields.specs.Reader.{Res, Reader, ok, refuse, then, field, _>>=_}
 use Rattle.fields.proofs.Places.{length-be, at-in, at-left, at-right, at-next}
 use Rattle.fields.proofs.Inverse.{clash, then-inv, ok-value, ok-place}
-use Rattle.descriptor.specs.Reading.{Known, is, unknown, known, id, class, flag, double, enumerated, run, unicode, unitDouble, skip, Sort, leaf, list, object, reference, array, types, sortOf, forms, formOf, Row, headed, plain, siblings, children, refValue, refItem, arrayPair, item, pair}
-use Rattle.fields.specs.Sets.{Size, Seq}
-use Rattle.descriptor_tree.specs.Grammar.{Class, Leaf, Form}
+use Rattle.descriptor.specs.Reading.{Known, is, unknown, known, id, class, flag, double, enumerated, run, unicode, unitDouble, skip, Sort, leaf, list, object, reference, array, types, sortOf, forms, formOf, Row, headed, plain, siblings, children, refValue, refItem, arrayPair, item, pair, beside}
+use Rattle.fields.specs.Sets.{Size, Seq, number, counted}
+use Rattle.descriptor_tree.specs.Grammar.{Class, Leaf, Form, IdBody, Id, Units, Text, Raw, Double, Measure}
 use Rattle.fields.specs.Sets.Seq.{seq}
 use Rattle.descriptor_tree.specs.Tree.{Place, Item}
 use Rattle.fields.proofs.Sets.{Sound, sound-in, Stands, field-numbers, number-whole, number-sound}
-use Rattle.descriptor_tree.proofs.Fields.{beside-each, skip-reads, id-reads, text-reads, class-reads, enumerated-reads, raw-reads, boolean-reads, double-reads, unit-reads}
+use Rattle.descriptor_tree.proofs.Fields.{beside-each, skip-reads, id-reads, text-reads, class-reads, enumerated-reads, raw-reads, boolean-reads, double-reads, unit-reads, Each}
+use Rattle.descriptor_tree.specs.Damaged.{ItemType, ItemForm}
 
 -- the reader of one member of a place
 abbrev pub reader : Place → ℕ → ℕ → ℕ → Reader (List Row)
@@ -228,3 +229,103 @@ module _ (s : List ℕ) (bytes : Bytes s) (f : ℕ → Reader (List Row)) (k : �
       let n : ℕ = i .0 in
       let z : w .1 + 4 ≡ at + length (u .0 ++ be 4 n) = omega (arith, length-append (u .0) (be 4 n), length-be 4 n, u .3) in
       (u .0, n, u .1, i .1 .small, at-next s at (u .0) (be 4 n) (w .1) (u .3) (u .2) (i .1 .stands), ap (λ (z : ℕ). siblings f n (k + 1) s z) (sym z) ∙ i .2)
+
+-- ---- a tag that is in no row of a table
+
+beside-none : {A : Type 0} (P : ℕ → Type 0) (cs : List (ℕ × A)) → Each (λ t a. P t) cs → (t : ℕ) → (P t → ⊥) → beside cs t ≡ unknown
+beside-none P cs h t never = go (beside cs t) refl
+  where
+    go : (k : Known _) → beside cs t ≡ k → k ≡ unknown
+    go unknown e = refl
+    go (is a) e = absurd (never (beside-each (λ t a. P t) cs h t a e))
+
+-- a value of each type and form
+some-id : Id (be 4 0 ++ (0 ∷ 0 ∷ 0 ∷ 0 ∷ []))
+some-id = counted 0 (omega arith) (IdBody.char refl)
+
+some-text : Text (be 4 0 ++ [])
+some-text = counted 0 (omega arith) Units.none
+
+some-class : Class ((be 4 0 ++ []) ++ (be 4 0 ++ (0 ∷ 0 ∷ 0 ∷ 0 ∷ [])))
+some-class = seq some-text some-id
+
+some-double : Double (be 8 0)
+some-double = number 0 (omega arith) (omega arith)
+
+some-raw : Raw (be 4 0 ++ [])
+some-raw = counted 0 (omega arith) refl
+
+abbrev four : List ℕ
+four = 0 ∷ 0 ∷ 0 ∷ 0 ∷ []
+
+leafy : {kind : ℕ} {b : List ℕ} → Leaf kind b → ItemType kind
+leafy x = ItemType.type (Item.leaf x)
+
+pub no-type : (t : ℕ) → (ItemType t → ⊥) → sortOf t ≡ unknown
+unfolding sortOf
+no-type = beside-none ItemType types (
+  leafy (Leaf.boolean (number 0 (omega arith) (omega arith))),
+  (
+    leafy (Leaf.class some-class),
+    (
+      leafy (Leaf.globalClass some-class),
+      (
+        leafy (Leaf.double some-double),
+        (
+          leafy (Leaf.enumerated (seq some-id some-id)),
+          (
+            leafy (Leaf.alias some-raw),
+            (
+              leafy (Leaf.path some-raw),
+              (
+                leafy (Leaf.raw some-raw),
+                (
+                  leafy (Leaf.integer {b = four} refl),
+                  (
+                    leafy (Leaf.large {b = 0 ∷ 0 ∷ 0 ∷ 0 ∷ 0 ∷ 0 ∷ 0 ∷ 0 ∷ []} refl),
+                    (
+                      leafy (Leaf.text some-text),
+                      (
+                        leafy (Leaf.unitDouble (counted 0x2341_6E67 (omega arith) (Measure.angle, some-double))),
+                        (
+                          ItemType.type (Item.list 0 (omega arith)),
+                          (
+                            ItemType.type (Item.object 0 (omega arith) some-class),
+                            (
+                              ItemType.type (Item.global 0 (omega arith) some-class),
+                              (ItemType.type (Item.reference 0 (omega arith)), (ItemType.type (Item.array 0 0 (omega arith) (omega arith) some-class), tt)),
+                            ),
+                          ),
+                        ),
+                      ),
+                    ),
+                  ),
+                ),
+              ),
+            ),
+          ),
+        ),
+      ),
+    ),
+  ),
+)
+
+-- a value of each form
+pub some-forms : Each (λ t (p : Reader Unit). ItemForm t) forms
+some-forms = (
+  ItemForm.form Form.class,
+  (
+    ItemForm.form (Form.enumerated (seq some-id some-id)),
+    (
+      ItemForm.form (Form.property some-id),
+      (
+        ItemForm.form (Form.name some-text),
+        (ItemForm.form (Form.identifier {b = four} refl), (ItemForm.form (Form.index {b = four} refl), (ItemForm.form (Form.offset {b = four} refl), tt))),
+      ),
+    ),
+  ),
+)
+
+pub no-form : (t : ℕ) → (ItemForm t → ⊥) → formOf t ≡ unknown
+unfolding formOf
+no-form = beside-none ItemForm forms some-forms

@@ -16,3 +16,5 @@ pub mod WrongFields
 pub mod Stopped
 pub mod Refused
 pub mod TypedValues
+pub mod Causes
+pub mod CausesTree

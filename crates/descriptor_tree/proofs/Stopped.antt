@@ -17,11 +17,11 @@ use Rattle.descriptor_tree.specs.Tree.{head, rows, Place}
 use Rattle.descriptor_tree.specs.Tree as tree
 use Rattle.descriptor_tree.specs.Damaged.{cut, Wrong, WrongId, WrongObject, ItemForm, WrongItem, WrongMember, Damaged, DamagedFile}
 use Rattle.descriptor_tree.proofs.Fields.{id-reads, class-reads}
-use Rattle.descriptor_tree.proofs.Heads.{reader, rowOf, form-small, class-at}
+use Rattle.descriptor_tree.proofs.Heads.{reader, rowOf, form-small, class-at, no-type, no-form}
 use Rattle.descriptor_tree.proofs.Member.{one-whole}
 use Rattle.descriptor_tree.proofs.Trees.{forest-whole, too-deep}
 use Rattle.descriptor_tree.proofs.Cut.{form-cut}
-use Rattle.descriptor_tree.proofs.WrongFields.{no-type, no-form, There, Refuses, at-place, here, beyond, behind, tagged, field-cut, other-number, wrong, id-wrong, class-wrong, counted-wrong, leaf-wrong, form-wrong, column-wrong}
+use Rattle.descriptor_tree.proofs.WrongFields.{There, Refuses, at-place, here, beyond, behind, tagged, field-cut, other-number, wrong, id-wrong, class-wrong, counted-wrong, leaf-wrong, form-wrong, column-wrong}
 
 module _ (s : List ℕ) (bytes : Bytes s) where
   -- the class of an object, or its pair count
@@ -31,7 +31,7 @@ module _ (s : List ℕ) (bytes : Bytes s) where
   object-wrong f k at l x o (WrongObject.pairs {c = c} {b = b} {o = i} y w) h =
       behind s bytes (class s at) _ at c b i (class-reads s bytes .complete at c y (at-left s at c b (h .stands)) .1) h (λ g. rw (field-cut s bytes (at + length c) b x i w g))
 
-  column-number : Numbers s 4 (λ t. t ≡ 0x556E_466C) (judged 4 columnType)
+  pub column-number : Numbers s 4 (λ t. t ≡ 0x556E_466C) (judged 4 columnType)
   column-number = tag-numbers s bytes 4 0x556E_466C _
 
   module _ (d p k : ℕ) where
@@ -107,8 +107,8 @@ module _ (s : List ℕ) (bytes : Bytes s) where
   stops c d n b x o Damaged.deep (suc left) p k lo e h = absurd (omega arith)
   stops c d n b x o (Damaged.here l w) zero p k lo e h = absurd (omega arith)
   stops c d n b x o (Damaged.here l w) (suc left) p k lo e h = stops-first (reader c (suc left) p) _ k lo (member-wrong left p k c lo b x o w h)
-  stops c d n b x o (Damaged.below l m w) zero p k lo e h = absurd (omega arith)
-  stops c d n l x o (Damaged.below {kids = kids} {m = m} {kind = kind} {key = key} {fields = fields} {b = b} {o = i} less may w) (suc left) p k lo e h =
+  stops c d n b x o (Damaged.under l m w) zero p k lo e h = absurd (omega arith)
+  stops c d n l x o (Damaged.under {kids = kids} {m = m} {kind = kind} {key = key} {fields = fields} {b = b} {o = i} less may w) (suc left) p k lo e h =
       let hd : List ℕ = head key kind fields in
       let y = stops kids (d + 1) m b x i w left k (k + 1) (lo + length hd) (omega arith) (beyond s bytes lo hd b (lo + length hd) refl h) in
       let z = one-whole s bytes left k p lo may (refuse x (lo + length hd + i) 0 0) (at-left s lo hd b (h .stands)) y in
@@ -130,7 +130,7 @@ module _ (s : List ℕ) (bytes : Bytes s) where
 
   -- ---- the file
 
-  version-number : Numbers s 4 (λ v. v ≡ 16) (judged 4 version)
+  pub version-number : Numbers s 4 (λ v. v ≡ 16) (judged 4 version)
   version-number = tag-numbers s bytes 4 16 _
 
   pub root-wrong : (b : List ℕ) (x o : ℕ) → DamagedFile b x o → There s bytes 0 b x → root s 0 ≡ refuse x o 0 0

@@ -80,35 +80,59 @@ file-reads t s f =
     let z : length s ≡ length (fileBytes t) = ap length (f .is) in
     rw (le-leb (length s) limit (f .short)) (rw r (rw (eq-eqb (length s) (length s) refl) (ap (λ (b : Row). ok (b ∷ kids) (length s)) (root-same 4 (length s) (length (fileBytes t)) refl z))))
 
--- what is accepted is the bytes of a tree that is allowed, and its rows are the tree's
-pub file-sound : (s : List ℕ) → Bytes s → (rs : List Row) (q : ℕ) → descriptor s ≡ ok rs q → (t : Descriptor) × Is-file t s × (fileRows t ≡ rs) × (q ≡ length s)
-unfolding descriptor whole root objectOf fileRows fileBytes rootHead
-file-sound s octets rs q h =
-    let l = pick-inv (leb (length s) limit) (whole s 0) 1 0 0 0 h in
-    let w = then-inv (root s 0) _ (l .1) in
-    let i = ended-inv (w .0) s (w .1) (w .3) in
-    let v = then-inv (judged 4 version s 0) _ (w .2) in
+-- what the root's reader accepted is the bytes of a tree that is allowed, and its rows are the tree's
+pub record Read-root (s : List ℕ) (rs : List Row) (q : ℕ) : Type 0 where
+  pub tree : Descriptor
+  pub class : Class (tree .class)
+  pub fits : count (tree .pairs) < 256 ^ 4
+  pub allowed : Allowed Place.pairs 1 (tree .pairs)
+  pub stands : At s 0 (fileBytes tree)
+  pub ends : length (fileBytes tree) ≡ q
+  pub reads : fileRows tree ≡ rs
+
+pub root-sound : (s : List ℕ) → Bytes s → (rs : List Row) (q : ℕ) → root s 0 ≡ ok rs q → Read-root s rs q
+unfolding root objectOf fileRows fileBytes rootHead
+root-sound s octets rs q h =
+    let v = then-inv (judged 4 version s 0) _ h in
     let a = number-sound 4 (tag-numbers s octets 4 16 _) 0 (v .0) (v .1) (omega arith) (v .2) in
     let y = headed-inv 0x4f62_6a63 32 0 0 (v .1) (objectOf (item 32) 32 0 s (v .1)) (v .3) in
     let u = class-inv s octets (reader Place.pairs 32 0) 0 (v .1) (a .inside) (y .1) in
     let b : List ℕ = u .0 in
     let n : ℕ = u .1 in
     let c : List ℕ = b ++ be 4 n in
-    let x = forest-sound s octets 32 Place.pairs 1 0 n 1 (v .1 + length c) (w .1) (y .0) (omega arith) (at-in s (v .1) c (u .4)) (u .5) in
+    let x = forest-sound s octets 32 Place.pairs 1 0 n 1 (v .1 + length c) q (y .0) (omega arith) (at-in s (v .1) c (u .4)) (u .5) in
     let t : Descriptor = record { class = b; pairs = x .tree } in
     let m : List ℕ = bytes (x .tree) in
     let hd : List ℕ = be 4 16 ++ c in
     let ev : be 4 16 ++ (b ++ be 4 (count (x .tree))) ≡ hd = ap (λ (k : ℕ). be 4 16 ++ (b ++ be 4 k)) (x .number) in
     let lh : length hd ≡ v .1 + length c = omega (arith, length-append (be 4 16) c, length-be 4 16, a .next) in
     let st : At s 0 (hd ++ m) = at-next s 0 hd m (v .1 + length c) (omega arith) (at-next s 0 (be 4 16) c (v .1) (omega (arith, length-be 4 16, a .next)) (subst (λ (k : ℕ). At s 0 (be 4 k)) (a .holds) (a .stands)) (u .4)) (x .stands) in
-    let e : s ≡ hd ++ m = at-all s (hd ++ m) st (omega (arith, length-append hd m, x .ends, i .0)) in
-    let e′ : s ≡ fileBytes t = e ∙ ap (λ (r : List ℕ). r ++ m) (sym ev) in
+    let e : hd ++ m ≡ fileBytes t = ap (λ (r : List ℕ). r ++ m) (sym ev) in
     let lr : length (rootHead t) ≡ v .1 + length c = ap length ev ∙ lh in
-    let le : w .1 ≡ length (fileBytes t) = i .0 ∙ ap length e′ in
+    let le : q ≡ length (fileBytes t) = omega (arith, length-append hd m, x .ends, ap length e) in
     let top : Row = record { kind = 0x4F62_6A63; parent = 0; first = 0; size = length (fileBytes t); depth = 0; value = 4 } in
-    let r : top ≡ rowOf 0x4f62_6a63 32 0 0 (v .1) (w .1) = sym (root-same (v .1) (w .1) (length (fileBytes t)) (sym (a .next)) le) in (
-      t,
-      record { is = e′; class = u .2; fits = subst (λ (k : ℕ). k < 256 ^ 4) (sym (x .number)) (u .3); allowed = x .allowed; octets = octets; short = leb-true (length s) limit (l .0) },
-      ap₂ (λ (z : ℕ) (k : Row). k ∷ rows 1 0 1 z (x .tree)) lr r ∙ ap (λ (k : List Row). rowOf 0x4f62_6a63 32 0 0 (v .1) (w .1) ∷ k) (x .reads) ∙ y .2 ∙ i .1,
+    let r : top ≡ rowOf 0x4f62_6a63 32 0 0 (v .1) q = sym (root-same (v .1) q (length (fileBytes t)) (sym (a .next)) le) in
+    record {
+      tree = t;
+      class = u .2;
+      fits = subst (λ (k : ℕ). k < 256 ^ 4) (sym (x .number)) (u .3);
+      allowed = x .allowed;
+      stands = subst (λ (l : List ℕ). At s 0 l) e st;
+      ends = sym le;
+      reads = ap₂ (λ (z : ℕ) (k : Row). k ∷ rows 1 0 1 z (x .tree)) lr r ∙ ap (λ (k : List Row). rowOf 0x4f62_6a63 32 0 0 (v .1) q ∷ k) (x .reads) ∙ y .2;
+    }
+
+-- what is accepted is the bytes of a tree that is allowed, and its rows are the tree's
+pub file-sound : (s : List ℕ) → Bytes s → (rs : List Row) (q : ℕ) → descriptor s ≡ ok rs q → (t : Descriptor) × Is-file t s × (fileRows t ≡ rs) × (q ≡ length s)
+unfolding descriptor whole
+file-sound s octets rs q h =
+    let l = pick-inv (leb (length s) limit) (whole s 0) 1 0 0 0 h in
+    let w = then-inv (root s 0) _ (l .1) in
+    let i = ended-inv (w .0) s (w .1) (w .3) in
+    let r = root-sound s octets (w .0) (w .1) (w .2) in
+    let e : s ≡ fileBytes (r .tree) = at-all s (fileBytes (r .tree)) (r .stands) (omega (arith, r .ends, i .0)) in (
+      r .tree,
+      record { is = e; class = r .class; fits = r .fits; allowed = r .allowed; octets = octets; short = leb-true (length s) limit (l .0) },
+      r .reads ∙ i .1,
       sym (i .2) ∙ i .0,
     )

@@ -1,7 +1,7 @@
 -- Each reader of a field or of a member, where one field is wrong. Assumes nothing.
 use Prim.Native.Nat.{ℕ, zero, suc, _+_, _-_, _*_, _^_, _%_, _≤_, _<_}
 use mathlib.Core.Path.{_≡_, refl, sym, ap, _∙_, subst}
-use mathlib.Core.List.{List, [], _∷_, _++_}
+use mathlib.Core.List.{List, _++_}
 use mathlib.Core.Bool.{Bool, true, false}
 use lib.Dec.{eqb}
 use lib.ListN.{length, length-append}
@@ -10,115 +10,18 @@ use native.Mathlib.Omega.{arith}
 use native.Mathlib.Nat.{add-zero, mul-one, lt-of-not-le}
 use Rattle.fields.specs.Numbers.{num, be, At, Bytes}
 use Rattle.fields.specs.Reader.{Res, Reader, ok, refuse, then, pick, field, Judged, judged, each, done}
-use Rattle.fields.specs.Sets.{Field, Size, Number, number, seq, counted, Run}
+use Rattle.fields.specs.Sets.{Field, Size, Number, number, seq, Run}
 use Rattle.fields.proofs.Laws.{field-short, body-short, judged-short}
 use Rattle.fields.proofs.Places.{length-be, at-in, at-left, at-right, at-after, at-same, num-lt, be-num}
 use Rattle.fields.proofs.Sets.{Reads, Numbers, field-numbers, tested-numbers, tag-numbers, number-whole}
-use Rattle.descriptor.specs.Reading.{Known, is, unknown, beside, passing, skip, id, unicode, class, boolean, flag, bits, double, enumerated, run, isUnit, isArrayUnit, unit, arrayUnit, unitDouble, leaf, types, sortOf, forms, formOf, doubles, column}
+use Rattle.descriptor.specs.Reading.{is, passing, skip, id, unicode, class, boolean, flag, bits, double, enumerated, run, isUnit, isArrayUnit, unit, arrayUnit, unitDouble, leaf, sortOf, formOf, doubles, column}
 use Rattle.descriptor.proofs.Fields.{then-to}
 use Rattle.descriptor.proofs.Refused.{bool-refused, double-refused, unit-refused, text-refused, array-unit-refused, count-refused}
-use Rattle.descriptor_tree.specs.Grammar.{IdBody, Id, Units, Text, Class, Raw, Boolean, Double, Measure, ArrayMeasure, Leaf, Form}
-use Rattle.descriptor_tree.specs.Tree.{Item}
-use Rattle.descriptor_tree.specs.Damaged.{Cut, cut, Wrong, WrongId, WrongText, WrongClass, WrongEnumerated, WrongRaw, WrongLeaf, WrongForm, WrongDoubles, ItemType, ItemForm}
-use Rattle.descriptor_tree.proofs.Fields.{Each, beside-each, known-measure, known-array, array-known, measure-known, id-reads, text-reads, double-reads}
+use Rattle.descriptor_tree.specs.Grammar.{Boolean, Double, Measure, ArrayMeasure}
+use Rattle.descriptor_tree.specs.Damaged.{Cut, cut, Wrong, WrongId, WrongText, WrongClass, WrongEnumerated, WrongRaw, WrongLeaf, WrongForm, WrongDoubles}
+use Rattle.descriptor_tree.proofs.Fields.{known-measure, known-array, array-known, measure-known, id-reads, text-reads, double-reads}
 
--- ---- a tag that is in never row of a table
-
-beside-none : {A : Type 0} (P : ℕ → Type 0) (cs : List (ℕ × A)) → Each (λ t a. P t) cs → (t : ℕ) → (P t → ⊥) → beside cs t ≡ unknown
-beside-none P cs h t never = go (beside cs t) refl
-  where
-    go : (k : Known _) → beside cs t ≡ k → k ≡ unknown
-    go unknown e = refl
-    go (is a) e = absurd (never (beside-each (λ t a. P t) cs h t a e))
-
--- a value of each type and form
-some-id : Id (be 4 0 ++ (0 ∷ 0 ∷ 0 ∷ 0 ∷ []))
-some-id = counted 0 (omega arith) (IdBody.char refl)
-
-some-text : Text (be 4 0 ++ [])
-some-text = counted 0 (omega arith) Units.none
-
-some-class : Class ((be 4 0 ++ []) ++ (be 4 0 ++ (0 ∷ 0 ∷ 0 ∷ 0 ∷ [])))
-some-class = seq some-text some-id
-
-some-double : Double (be 8 0)
-some-double = number 0 (omega arith) (omega arith)
-
-some-raw : Raw (be 4 0 ++ [])
-some-raw = counted 0 (omega arith) refl
-
-abbrev four : List ℕ
-four = 0 ∷ 0 ∷ 0 ∷ 0 ∷ []
-
-leafy : {kind : ℕ} {b : List ℕ} → Leaf kind b → ItemType kind
-leafy x = ItemType.type (Item.leaf x)
-
-pub no-type : (t : ℕ) → (ItemType t → ⊥) → sortOf t ≡ unknown
-unfolding sortOf
-no-type = beside-none ItemType types (
-  leafy (Leaf.boolean (number 0 (omega arith) (omega arith))),
-  (
-    leafy (Leaf.class some-class),
-    (
-      leafy (Leaf.globalClass some-class),
-      (
-        leafy (Leaf.double some-double),
-        (
-          leafy (Leaf.enumerated (seq some-id some-id)),
-          (
-            leafy (Leaf.alias some-raw),
-            (
-              leafy (Leaf.path some-raw),
-              (
-                leafy (Leaf.raw some-raw),
-                (
-                  leafy (Leaf.integer {b = four} refl),
-                  (
-                    leafy (Leaf.large {b = 0 ∷ 0 ∷ 0 ∷ 0 ∷ 0 ∷ 0 ∷ 0 ∷ 0 ∷ []} refl),
-                    (
-                      leafy (Leaf.text some-text),
-                      (
-                        leafy (Leaf.unitDouble (counted 0x2341_6E67 (omega arith) (Measure.angle, some-double))),
-                        (
-                          ItemType.type (Item.list 0 (omega arith)),
-                          (
-                            ItemType.type (Item.object 0 (omega arith) some-class),
-                            (
-                              ItemType.type (Item.global 0 (omega arith) some-class),
-                              (ItemType.type (Item.reference 0 (omega arith)), (ItemType.type (Item.array 0 0 (omega arith) (omega arith) some-class), tt)),
-                            ),
-                          ),
-                        ),
-                      ),
-                    ),
-                  ),
-                ),
-              ),
-            ),
-          ),
-        ),
-      ),
-    ),
-  ),
-)
-
-pub no-form : (t : ℕ) → (ItemForm t → ⊥) → formOf t ≡ unknown
-unfolding formOf
-no-form = beside-none ItemForm forms (
-  ItemForm.form Form.class,
-  (
-    ItemForm.form (Form.enumerated (seq some-id some-id)),
-    (
-      ItemForm.form (Form.property some-id),
-      (
-        ItemForm.form (Form.name some-text),
-        (ItemForm.form (Form.identifier {b = four} refl), (ItemForm.form (Form.index {b = four} refl), (ItemForm.form (Form.offset {b = four} refl), tt))),
-      ),
-    ),
-  ),
-)
-
--- a number that passes never test
+-- a number that passes no test
 not-true : (b : Bool) → (b ≡ true → ⊥) → b ≡ false
 not-true true never = absurd (never refl)
 not-true false never = refl
@@ -211,7 +114,7 @@ module _ (s : List ℕ) (bytes : Bytes s) where
   unicode-wrong : Refuses WrongText unicode
   unfolding unicode
   unicode-wrong at b x o (WrongText.size w) h = rw (field-cut at b x o w h)
-  unicode-wrong at l x o (WrongText.units n {b = b} small (cut few)) h = tagged _ at n b 0 small h (λ g. rw (body-short 2 s (at + 4) n (room (n * 2) (at + 4) few g)) (here refl))
+  unicode-wrong at l x o (WrongText.units n {b = b} small (cut few)) h = tagged _ at n b 0 (omega arith) h (λ g. rw (body-short 2 s (at + 4) n (room (n * 2) (at + 4) few g)) (here refl))
   unicode-wrong at l x o (WrongText.unclosed n u b few size some small) h =
       let c : List ℕ = be 4 (suc n) in
       let e : at + length c ≡ at + 4 = ap (λ (k : ℕ). at + k) (length-be 4 (suc n)) in
@@ -257,13 +160,13 @@ module _ (s : List ℕ) (bytes : Bytes s) where
       passed (judged 8 bits s at)
       ∙ wrong 8 bits (λ v q. ok tt q) 5 at b x o (λ v small never g. sym (passed (judged 8 bits s at)) ∙ double-refused s at small (not-less (v % 0x8000_0000_0000_0000) 0x7FF0_0000_0000_0000 never) g) w h
 
-  unit-number : Numbers s 4 Measure (judged 4 unit)
+  pub unit-number : Numbers s 4 Measure (judged 4 unit)
   unit-number = tested-numbers s bytes 4 isUnit _ Measure (λ u h. measure-known h) known-measure
 
-  array-number : Numbers s 4 ArrayMeasure (judged 4 arrayUnit)
+  pub array-number : Numbers s 4 ArrayMeasure (judged 4 arrayUnit)
   array-number = tested-numbers s bytes 4 isArrayUnit _ ArrayMeasure (λ u h. array-known h) known-array
 
-  count-number : (m : ℕ) → Numbers s 4 (λ n. n ≡ m) (judged 4 (doubles m))
+  pub count-number : (m : ℕ) → Numbers s 4 (λ n. n ≡ m) (judged 4 (doubles m))
   count-number m = tag-numbers s bytes 4 m _
 
   unit-wrong : Refuses (Wrong 4 (Number 4 Measure) 4) unitDouble

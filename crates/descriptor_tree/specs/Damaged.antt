@@ -7,7 +7,7 @@ use lib.ListN.{length}
 use Rattle.fields.specs.Numbers.{be}
 use Rattle.fields.specs.Sets.{Field, Size, Number, Run}
 use Rattle.descriptor_tree.specs.Grammar.{Id, Text, Class, Boolean, Double, Measure, ArrayMeasure, Form}
-use Rattle.descriptor_tree.specs.Tree.{Members, count, head, bytes, Place, Item, Member, Allowed}
+use Rattle.descriptor_tree.specs.Tree.{Members, Descriptor, count, head, bytes, Place, Item, Member, Allowed, File}
 
 -- ---- fields
 
@@ -123,7 +123,7 @@ pub data WrongMember : Place → List ℕ → ℕ → ℕ → Type 0 where
 pub data Damaged : Place → ℕ → ℕ → List ℕ → ℕ → ℕ → Type 0 where
   deep : {c : Place} {n : ℕ} → Damaged c 33 (suc n) [] 10 0
   here : {c : Place} {d n : ℕ} {b : List ℕ} {x o : ℕ} → d ≤ 32 → WrongMember c b x o → Damaged c d (suc n) b x o
-  below : {c kids : Place} {d n m kind : ℕ} {key fields b : List ℕ} {x o : ℕ} → d ≤ 32 → Member c key kind kids m fields → Damaged kids (d + 1) m b x o
+  under : {c kids : Place} {d n m kind : ℕ} {key fields b : List ℕ} {x o : ℕ} → d ≤ 32 → Member c key kind kids m fields → Damaged kids (d + 1) m b x o
       → Damaged c d (suc n) (head key kind fields ++ b) x (length (head key kind fields) + o)
   behind : {c kids : Place} {d n kind : ℕ} {key fields b : List ℕ} {x o : ℕ} (children : Members) → d ≤ 32 → Member c key kind kids (count children) fields → Allowed kids (d + 1) children
       → Damaged c d n b x o → Damaged c d (suc n) (head key kind fields ++ (bytes children ++ b)) x (length (head key kind fields) + length (bytes children) + o)
@@ -134,3 +134,11 @@ pub data DamagedFile : List ℕ → ℕ → ℕ → Type 0 where
   version : {b : List ℕ} {x o : ℕ} → Wrong 4 (Number 4 (λ v. v ≡ 16)) 3 b x o → DamagedFile b x o
   root : {b : List ℕ} {x o : ℕ} → WrongObject b x o → DamagedFile (be 4 16 ++ b) x (4 + o)
   pairs : (n : ℕ) {c b : List ℕ} {x o : ℕ} → Class c → n < 256 ^ 4 → Damaged Place.pairs 1 n b x o → DamagedFile (be 4 16 ++ (c ++ (be 4 n ++ b))) x (8 + length c + o)
+
+-- ---- a file that is refused: it is too long; or it begins with a damaged file, behind which anything may stand, or nothing where a field is cut;
+-- or bytes are left over behind a file
+
+pub data Refusal : List ℕ → ℕ → ℕ → Type 0 where
+  long : {s : List ℕ} → 16777216 < length s → Refusal s 1 0
+  damaged : {b : List ℕ} {x p : ℕ} (more : List ℕ) → DamagedFile b x p → (x ≡ 2 → more ≡ []) → length (b ++ more) ≤ 16777216 → Refusal (b ++ more) x p
+  left : {t : Descriptor} {b : List ℕ} (more : List ℕ) → File t b → 0 < length more → length (b ++ more) ≤ 16777216 → Refusal (b ++ more) 6 (length b)
