@@ -166,6 +166,13 @@ static int acb(void) {
     read.header.tag = 3;
     CHECK(khuyurek_acb_length(read.header, table, KHUYUREK_ACB_WIDTH, BOOK, sizeof BOOK).number
           == 3);
+    CHECK(khuyurek_acb_write(
+              read.header, table, KHUYUREK_ACB_WIDTH, BOOK, sizeof BOOK, out, sizeof out).number
+          == 3);
+    CHECK(memcmp(out, BOOK, sizeof BOOK) == 0);
+    read.header.space = 1;
+    CHECK(khuyurek_acb_length(read.header, table, KHUYUREK_ACB_WIDTH, BOOK, sizeof BOOK).number
+          == 4);
     khuyurek_acb_answer cut = khuyurek_acb_judge(BOOK, sizeof BOOK - 1);
     CHECK(cut.number == 2 && cut.place == 59 && cut.count == 0 && cut.header.space == 0);
     return 0;
