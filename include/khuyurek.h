@@ -199,7 +199,8 @@ typedef struct {
     uint32_t units;
 } khuyurek_text;
 
-/* tag: 0 none, 1 spot (`spflspot`), 2 process (`spflproc`). */
+/* tag: 0 none, 1 spot (`spflspot`), 2 process (`spflproc`); to write, any other is another
+ * tag, the book's last field. */
 typedef struct {
     uint16_t identifier;
     uint16_t page_size;
@@ -294,8 +295,9 @@ khuyurek_acb_page khuyurek_acb_page_in(const uint32_t *table, size_t table_len, 
                                        uint16_t page_size, uint16_t page_offset,
                                        size_t page);
 
-/* The exact length that writing needs: 3 for an unknown tag, before all else. A remainder
- * of fewer than KHUYUREK_ACB_WIDTH numbers is left alone. */
+/* The exact length that writing needs: 3 for a tag above 2, after the faults of all records;
+ * in the length that 1 is judged on it counts eight bytes. A remainder of fewer than
+ * KHUYUREK_ACB_WIDTH numbers is left alone. */
 khuyurek_length khuyurek_acb_length(khuyurek_acb_header header,
                                     const uint32_t *records, size_t records_len,
                                     const uint8_t *text, size_t text_len);

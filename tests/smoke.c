@@ -174,6 +174,13 @@ static int acb(void) {
     read.header.tag = 3;
     CHECK(khuyurek_acb_length(read.header, table, KHUYUREK_ACB_WIDTH, BOOK, sizeof BOOK).number
           == KHUYUREK_WRONG_MARK);
+    CHECK(khuyurek_acb_write(
+              read.header, table, KHUYUREK_ACB_WIDTH, BOOK, sizeof BOOK, out, sizeof out).number
+          == KHUYUREK_WRONG_MARK);
+    CHECK(memcmp(out, BOOK, sizeof BOOK) == 0);
+    read.header.space = 1;
+    CHECK(khuyurek_acb_length(read.header, table, KHUYUREK_ACB_WIDTH, BOOK, sizeof BOOK).number
+          == KHUYUREK_UNKNOWN);
     khuyurek_acb_answer cut = khuyurek_acb_judge(BOOK, sizeof BOOK - 1);
     CHECK(cut.number == KHUYUREK_CUT && cut.place == 59 && cut.count == 0 && cut.header.space == 0);
     return 0;

@@ -1,22 +1,22 @@
 -- What is promised of ACB files: reading and the grammar agree, and what a writer may write. Assumes nothing.
-use Prim.Native.Nat.{ℕ, _≤_, _<_}
+use Prim.Native.Nat.{ℕ, _+_, _*_, _≤_, _<_}
 use mathlib.Core.Path.{_≡_, refl, sym, ap, _∙_, subst}
-use mathlib.Core.List.{List, [], _++_, append-assoc, append-nil}
+use mathlib.Core.List.{List, [], _∷_, _++_, append-assoc, append-nil}
 use mathlib.Core.Bool.{Bool, true, false}
 use lib.Dec.{leb, ltb}
-use lib.ListN.{length}
+use lib.ListN.{length, length-append}
 use borrow.Author.Tests.{leb-true, le-leb, ltb-true, ltb-false}
 use native.Mathlib.Omega.{arith}
-use Rattle.fields.specs.Numbers.{be, joined, Bytes}
+use Rattle.fields.specs.Numbers.{be, joined, Bytes, All}
 use Rattle.fields.specs.Reader.{refuse, pick, ok, numberOf, limit}
 use Rattle.fields.specs.Faults.{firstOf}
-use Rattle.fields.proofs.Places.{bytes-nil, bytes-append, bytes-be}
+use Rattle.fields.proofs.Places.{length-be, length-bes, bytes-nil, bytes-append, bytes-be}
 use Rattle.fields.proofs.Inverse.{ok-value}
-use Rattle.acb.specs.Grammar.{none, Ending, tagged, other, Unknown, Book, Space, colourBytes, endingBytes, headBytes, fileBytes, File, file}
+use Rattle.acb.specs.Grammar.{Colour, none, Ending, tagged, other, Unknown, Book, Space, Swatch, stringBytes, colourBytes, endingBytes, headBytes, fileBytes, File, file}
 use Rattle.acb.specs.Reading.{isSpace, Contents, book, acb, bookOf}
 use Rattle.acb.specs.Faults.{endingFault, EndingFits, bookFault, BookFits}
 use Rattle.acb.specs.Damaged.{sized, spaced, Begins, ending, untagged}
-use Rattle.acb.proofs.Laws.{space-is}
+use Rattle.acb.proofs.Laws.{space-is, space-components, components-some}
 use Rattle.acb.proofs.Whole.{bytes-colours, bytes-ending, file-reads, file-writes}
 use Rattle.acb.proofs.Refused.{size-refused, space-refused, tag-refused}
 use Rattle.acb.proofs.Faultless.{tested-allowed, faultless-allowed, allowed-faultless}
@@ -37,6 +37,29 @@ allowed-unique f g =
     let x = allowed-reads f in
     let y = allowed-reads g in
     sym (x .2) ∙ ap bookOf (ok-value (sym (x .1) ∙ y .1)) ∙ y .2
+
+-- ---- how many records a file can hold
+
+colour-least : (n : ℕ) → 3 ≤ n → (c : Colour) → Swatch n c → 13 ≤ length (colourBytes c)
+unfolding colourBytes stringBytes
+colour-least n some c fit =
+    let a : List ℕ = be 4 (length (c .name)) in
+    let us : List ℕ = joined (be 2) (c .name) in
+    let cs : List ℕ = joined (be 1) (c .code) in
+    let ks : List ℕ = joined (be 1) (c .components) in
+    omega (arith, length-append (a ++ us) (cs ++ ks), length-append a us, length-append cs ks, length-be 4 (length (c .name)), length-bes 1 (c .code), length-bes 1 (c .components), fit .code .count, fit .components .count)
+
+colours-least : (n : ℕ) → 3 ≤ n → (i : ℕ) (cs : List Colour) → All (λ k c. Swatch n c) i cs → 13 * length cs ≤ length (joined colourBytes cs)
+unfolding joined
+colours-least n some i [] h = omega arith
+colours-least n some i (c ∷ cs) h = omega (arith, length-append (colourBytes c) (joined colourBytes cs), colour-least n some c (h .0), colours-least n some (i + 1) cs (h .1))
+
+-- a record has at least 13 bytes
+pub thirteen-each : {b : Book} {s : List ℕ} → File b s → 13 * length (b .colours) ≤ length s
+unfolding fileBytes
+thirteen-each (file {b} a short) =
+    let l : List ℕ = joined colourBytes (b .colours) in
+    omega (arith, length-append (headBytes b) (l ++ endingBytes (b .tag)), length-append l (endingBytes (b .tag)), colours-least (a .components) (omega (arith, components-some (b .space) .0, space-components (a .space))) 0 (b .colours) (a .colours))
 
 -- ---- what a writer may write
 

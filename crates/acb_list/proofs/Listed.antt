@@ -1,19 +1,21 @@
 -- Records of a table, pages, and their lines. Assumes nothing.
 use Prim.Native.Nat.{ℕ, zero, suc, _+_, _-_, _*_, _/_, _≤_, _<_, min}
-use mathlib.Core.Path.{_≡_, refl, sym, ap, ap₂, _∙_, subst}
+use mathlib.Core.Path.{_≡_, refl, sym, ap, ap₂, _∙_}
 use mathlib.Core.List.{List, [], _∷_, _++_, append-assoc}
-use mathlib.Core.Bool.{Bool, true, false}
+use mathlib.Core.Bool.{Bool, true}
 use lib.ListN.{length, getD, take, drop, length-append, length-drop, drop-of-length-le, List·getD-append}
 use lib.Seq.{take-append-le, take-all, drop-cons}
 use lib.Dec.{leb, eqb}
-use borrow.Author.Tests.{eq-eqb, ne-eqb}
+use borrow.Author.Tests.{le-leb, eq-eqb, ne-eqb}
 use native.Mathlib.Omega.{arith}
 use native.Mathlib.Numerals.{add-one}
-use Rattle.fields.specs.Numbers.{joined}
+use Rattle.fields.specs.Numbers.{joined, Bytes}
 use Rattle.fields.specs.Reader.{Res, ok, refuse, pick}
 use Rattle.fields.proofs.Places.{length-joined}
+use Rattle.fields.proofs.Exact.{length-map}
 use Rattle.acb.specs.Grammar.{Tag}
-use Rattle.acb.specs.Reading.{Entry, Contents, componentsOf, acb}
+use Rattle.acb.specs.Reading.{Entry, Contents, componentsOf, acb, colourOf}
+use Rattle.acb.proofs.RoundTrip.{accepted-allowed, thirteen-each}
 use Rattle.acb_judge.specs.Answer.{Shown, shown, Verdict, accepted, refused as refusedFile, verdict}
 use Rattle.acb_read.specs.Table.{row, blank, fourOf, filled}
 use Rattle.acb_show.specs.Pages.{dummies, unitsIn, dummiesIn}
@@ -21,7 +23,7 @@ use Rattle.walk.specs.Names.{namePart}
 use Rattle.listing.specs.Buffer.{Buffer, putAll}
 use Rattle.listing.specs.Text.{ascii, decimal, word, name, lines, refusal}
 use Rattle.listing.proofs.Putting.{put-append, lines-turn, lines-none}
-use Rattle.acb_list.specs.Listing.{heading, texts, record-text, line, pagesFrom, pages, book, listing}
+use Rattle.acb_list.specs.Listing.{heading, texts, record-text, line, pagesFrom, pages, listing}
 
 -- ---- the records of a table
 
@@ -105,26 +107,25 @@ same-dummies es rest =
     ∙ same-units (unitsIn (joined row es ++ rest)) (unitsIn (joined row es)) 0 (length es) (λ k h. List·getD-append (joined row es) rest 0 (12 * k + 1) (omega arith))
     ∙ ap (dummies (unitsIn (joined row es)) 0) (sym b)
 
--- ---- the whole listing
+-- ---- the whole listing, where the table has room for the records of the longest input
 
-module _ (s t u : List ℕ) (room : length t ≡ 60492) where
+module _ (s t u : List ℕ) (room : 60492 ≤ length t) (bytes : Bytes s) (short : length s ≤ 65536) where
+  fits : (c : Contents) (q : ℕ) → acb s ≡ ok c q → leb (12 * length (c .entries)) (length t) ≡ true
+  fits c q e = le-leb (12 * length (c .entries)) (length t) (omega (arith, length-map colourOf (c .entries), thirteen-each (accepted-allowed bytes e .0)))
+
   -- what reading into the table says of a book that was read
-  Fills : Verdict → Contents → ℕ → Bool → Type 0
-  Fills v c q b = _≡_ {A = Verdict × List ℕ} (v, u) (pick b (verdict (ok c q), joined row (c .entries) ++ drop (12 * length (c .entries)) t) (refusedFile 11 0, t))
+  filled-all : (v : Verdict) (c : Contents) (q : ℕ) → acb s ≡ ok c q → (v, u) ≡ filled (ok c q) t → _≡_ {A = Verdict × List ℕ} (v, u) (verdict (ok c q), joined row (c .entries) ++ drop (12 * length (c .entries)) t)
+  filled-all v c q e h = h ∙ ap (λ (b : Bool). pick b (verdict (ok c q), joined row (c .entries) ++ drop (12 * length (c .entries)) t) (refusedFile 11 0, t)) (fits c q e)
 
   pub listed-refused : {x p : ℕ} → (refusedFile x p, u) ≡ filled (acb s) t → refusal x p ≡ listing s (acb s)
-  unfolding Fills
-  listed-refused {x} {p} e = go (acb s) e
+  listed-refused {x} {p} e = go (acb s) refl e
     where
-      held : (c : Contents) (q : ℕ) (b : Bool) → Fills (refusedFile x p) c q b → refusal x p ≡ pick b (book s (shown (c .header)) (c .tag) (c .entries)) (refusal 11 0)
-      held c q true h = let y = ap (λ (w : Verdict × List ℕ). w .0) h in let z : _≡_ {A = ℕ} 0 1 = cc in absurd (omega arith)
-      held c q false h = let y = ap (λ (w : Verdict × List ℕ). w .0) h in let a : x ≡ 11 = cc in let d : p ≡ 0 = cc in ap₂ refusal a d
-
-      go : (m : Res Contents) → (refusedFile x p, u) ≡ filled m t → refusal x p ≡ listing s m
-      go (ok c q) h =
-          let n : ℕ = 12 * length (c .entries) in
-          held c q (leb n (length t)) h ∙ ap (λ (k : ℕ). pick (leb n k) (book s (shown (c .header)) (c .tag) (c .entries)) (refusal 11 0)) room
-      go (refuse y k r f) h =
+      go : (m : Res Contents) → acb s ≡ m → (refusedFile x p, u) ≡ filled m t → refusal x p ≡ listing s m
+      go (ok c q) g h =
+          let y = ap (λ (w : Verdict × List ℕ). w .0) (filled-all (refusedFile x p) c q g h) in
+          let z : _≡_ {A = ℕ} 0 1 = cc in
+          absurd (omega arith)
+      go (refuse y k r f) g h =
           let z : refusedFile x p ≡ refusedFile y k = ap (λ (w : Verdict × List ℕ). w .0) h in
           let a : x ≡ y = cc in
           let b : p ≡ k = cc in
@@ -136,27 +137,21 @@ module _ (s t u : List ℕ) (room : length t ≡ 60492) where
 
   pub listed-accepted : {h : Shown} {g : Tag} {n p : ℕ} → (accepted h g n p, u) ≡ filled (acb s) t
       → (es : List Entry) × (rest : List ℕ) × (u ≡ joined row es ++ rest) × (n ≡ length es) × (told-book h g n es ≡ listing s (acb s))
-  unfolding Fills
-  listed-accepted {h} {g} {n} {p} e = go (acb s) e
+  listed-accepted {h} {g} {n} {p} e = go (acb s) refl e
     where
       Says : List ℕ → Type 0
       Says text = (es : List Entry) × (rest : List ℕ) × (u ≡ joined row es ++ rest) × (n ≡ length es) × (told-book h g n es ≡ text)
 
-      held : (c : Contents) (q : ℕ) (b : Bool) → Fills (accepted h g n p) c q b → Says (pick b (book s (shown (c .header)) (c .tag) (c .entries)) (refusal 11 0))
-      held c q true f =
-          let y : accepted h g n p ≡ verdict (ok c q) = ap (λ (w : Verdict × List ℕ). w .0) f in
+      go : (m : Res Contents) → acb s ≡ m → (accepted h g n p, u) ≡ filled m t → Says (listing s m)
+      go (ok c q) k f =
+          let w = filled-all (accepted h g n p) c q k f in
+          let y : accepted h g n p ≡ verdict (ok c q) = ap (λ (w : Verdict × List ℕ). w .0) w in
           let a : h ≡ shown (c .header) = cc in
           let b : g ≡ c .tag = cc in
           let d : n ≡ length (c .entries) = cc in
           let rest : List ℕ = drop (12 * length (c .entries)) t in
-          let table : u ≡ joined row (c .entries) ++ rest = ap (λ (w : Verdict × List ℕ). w .1) f in
+          let table : u ≡ joined row (c .entries) ++ rest = ap (λ (w : Verdict × List ℕ). w .1) w in
           let ds = ap₂ dummiesIn table d ∙ same-dummies (c .entries) rest in
           let text : Shown → Tag → ℕ → List Bool → List ℕ = λ h g n ds. heading h g n ++ texts s (h .texts) ++ lines (line s (componentsOf (h .space))) 0 (c .entries) ++ pages n (h .size) (h .offset) ds ++ ascii "end\n" in
           (c .entries, rest, table, d, ap₂ (λ (h : Shown) (g : Tag). text h g n (dummiesIn u n)) a b ∙ ap₂ (text (shown (c .header)) (c .tag)) d ds)
-      held c q false f = let y = ap (λ (w : Verdict × List ℕ). w .0) f in let z : _≡_ {A = ℕ} 0 1 = cc in absurd (omega arith)
-
-      go : (m : Res Contents) → (accepted h g n p, u) ≡ filled m t → Says (listing s m)
-      go (ok c q) f =
-          let k : ℕ = 12 * length (c .entries) in
-          subst (λ (j : ℕ). Says (pick (leb k j) (book s (shown (c .header)) (c .tag) (c .entries)) (refusal 11 0))) room (held c q (leb k (length t)) f)
-      go (refuse x y r z) f = let w = ap (λ (w : Verdict × List ℕ). w .0) f in let v : _≡_ {A = ℕ} 0 1 = cc in absurd (omega arith)
+      go (refuse x y r z) k f = let w = ap (λ (w : Verdict × List ℕ). w .0) f in let v : _≡_ {A = ℕ} 0 1 = cc in absurd (omega arith)

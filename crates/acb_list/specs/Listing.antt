@@ -3,7 +3,7 @@ use Prim.Native.Nat.{ℕ, zero, suc, _+_, _-_, _*_}
 use mathlib.Core.List.{List, [], _++_}
 use mathlib.Core.Bool.{Bool}
 use lib.ListN.{length, getD, take, drop}
-use lib.Dec.{leb, eqb}
+use lib.Dec.{eqb}
 use Rattle.fields.specs.Reader.{Res, ok, refuse, pick}
 use Rattle.fields.specs.Numbers.{joined}
 use Rattle.acb.specs.Reading.{Entry, Contents, componentsOf}
@@ -61,7 +61,7 @@ abbrev pub book : List ℕ → Shown → Tag → List Entry → List ℕ
 book s h t es =
     heading h t (length es) ++ texts s (h .texts) ++ lines (line s (componentsOf (h .space))) 0 es ++ pages (length es) (h .size) (h .offset) (dummiesIn (joined row es) (length es)) ++ ascii "end\n"
 
--- the listing of a file s, by what reading it gives. The program's table has room for 5,041 records, more than the longest input holds
+-- the listing of a file s, by what reading it gives
 abbrev pub listing : List ℕ → Res Contents → List ℕ
-listing s (ok c q) = pick (leb (12 * length (c .entries)) 60492) (book s (shown (c .header)) (c .tag) (c .entries)) (refusal 11 0)
+listing s (ok c q) = book s (shown (c .header)) (c .tag) (c .entries)
 listing s (refuse x p r f) = refusal x p

@@ -198,7 +198,7 @@ fn put_pages(out: &mut [u8], n: usize, table: &[u32], count: usize, size: u16, o
     at
 }
 
-// The table has room for 5,041 records, more than the longest input holds.
+// The table has room for 5,041 records, more than the longest input holds, since a record has 13 bytes or more.
 fn put_listing(out: &mut [u8], file: &[u8]) -> usize
     ensures { λ r. ⌜ (now (out .exit), r) ≡ putAll (now (out .entry), 0) (taken 65536 (now (file .entry)) (listing (now (file .entry)) (acb (now (file .entry))))) ⌝ }
 {

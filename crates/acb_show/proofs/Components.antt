@@ -1,6 +1,6 @@
--- Laws of shown components, and the small cases that all agree on. Assumes nothing.
+-- What is promised of shown components, their laws, and the small cases that all agree on. Assumes nothing.
 use Prim.Native.Nat.{ℕ, suc, _+_, _-_, _*_, _/_, _^_, _<_}
-use mathlib.Core.Path.{_≡_, refl}
+use mathlib.Core.Path.{_≡_, refl, ap}
 use mathlib.Core.List.{[], _∷_}
 use mathlib.Core.Bool.{Bool, true, false, cond}
 use lib.Dec.{ltb}
@@ -9,9 +9,48 @@ use lib.Signed.{mag}
 use mir.Syntax.{w16}
 use mir.Val.{SFits, toZ, ofZ}
 use mir.Facts.{toZ-pos, toZ-ofZ}
-use borrow.Author.Tests.{ne-eqb}
+use borrow.Author.Tests.{ne-eqb, lt-ltb, le-ltb}
 use native.Mathlib.Omega.{arith}
+use Rattle.acb_show.specs.Nearest.{Nearest}
 use Rattle.acb_show.specs.Components.{percent, centred, shownComponent}
+
+-- ---- the nearest whole percent, and a byte minus 128
+
+-- two whole numbers are not both the nearest
+pub nearest-only : (b p q : ℕ) → Nearest b p → Nearest b q → p ≡ q
+nearest-only b p q h k = omega (arith, h .most, h .least, k .most, k .least)
+
+percent-nearest : (b : ℕ) → Nearest b (percent b)
+unfolding percent
+percent-nearest b = record { most = omega arith; least = omega arith }
+
+-- CMYK counts 0 as full ink
+pub ink-nearest : (k b : ℕ) → (p : ℕ) × (shownComponent 2 k b ≡ pos p) × Nearest (255 - b) p
+unfolding shownComponent
+ink-nearest k b = (percent (255 - b), refl, percent-nearest (255 - b))
+
+-- the first component of Lab
+pub lightness-nearest : (b : ℕ) → (p : ℕ) × (shownComponent 7 0 b ≡ pos p) × Nearest b p
+unfolding shownComponent
+lightness-nearest b = (percent b, refl, percent-nearest b)
+
+-- the others: n where the byte is 128 and n, and minus n where the byte and n are 128
+pub above-centre : (k n : ℕ) → shownComponent 7 (suc k) (128 + n) ≡ pos n
+unfolding shownComponent
+above-centre k n =
+    let e : 128 + n - 128 ≡ n = omega arith in
+    rw (ne-eqb (suc k) 0 (λ z. omega arith)) (rw (le-ltb (128 + n) 128 (omega arith)) (ap pos e))
+
+pub below-centre : (k b n : ℕ) → b + suc n ≡ 128 → shownComponent 7 (suc k) b ≡ negsuc n
+unfolding shownComponent
+below-centre k b n e =
+    let f : 128 - suc b ≡ n = omega arith in
+    rw (ne-eqb (suc k) 0 (λ z. omega arith)) (rw (lt-ltb b 128 (omega arith)) (ap negsuc f))
+
+-- RGB shows as it is
+pub rgb-shown : (k b : ℕ) → shownComponent 0 k b ≡ pos b
+unfolding shownComponent
+rgb-shown k b = refl
 
 -- ---- by space and position
 

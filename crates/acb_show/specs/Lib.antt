@@ -2,3 +2,4 @@ pub mod Texts
 pub mod Components
 pub mod Pages
 pub mod Answer
+pub mod Nearest

@@ -31,7 +31,10 @@ fn bare(space: u16) -> Header {
     }
 }
 
-/// No lot of these has a wrong tag.
+fn tag(number: u32) -> Tag {
+    Tag::ALL.get(number as usize).copied().unwrap_or(Tag::Other)
+}
+
 fn header(made: &acb::Header) -> Header {
     let text = |index: usize| {
         let (place, units) = made.strings[index];
@@ -42,7 +45,7 @@ fn header(made: &acb::Header) -> Header {
         page_size: made.page_size,
         page_offset: made.page_offset,
         space: made.space,
-        tag: Tag::ALL[made.tag as usize],
+        tag: tag(made.tag),
         title: text(0),
         prefix: text(1),
         suffix: text(2),
@@ -228,14 +231,39 @@ fn the_whole_length_is_judged_first() {
         assert_eq!(counted(space, most + 1), Err(refused(1)));
     }
     let mut tagged = bare(0);
-    tagged.tag = Tag::Spot;
     tagged.title = Text {
         place: 0,
         units: (LIMIT as u32 - 40) / 2,
     };
-    assert_eq!(length(&tagged, &[], &TEXT), Err(refused(2)));
-    tagged.title.units += 1;
-    assert_eq!(length(&tagged, &[], &TEXT), Err(refused(1)));
+    for tag in [Tag::Spot, Tag::Other] {
+        tagged.tag = tag;
+        assert_eq!(length(&tagged, &[], &TEXT), Err(refused(2)));
+        tagged.title.units += 1;
+        assert_eq!(length(&tagged, &[], &TEXT), Err(refused(1)));
+        tagged.title.units -= 1;
+    }
+}
+
+#[test]
+fn another_tag_is_judged_last() {
+    let mut other = bare(0);
+    other.tag = Tag::Other;
+    assert_eq!(length(&other, &NAMED, &TEXT), Err(refused(3)));
+    let mut record = NAMED;
+    record[10] = 256;
+    assert_eq!(length(&other, &record, &TEXT), Err(refused(5)));
+    record[1] = 2;
+    assert_eq!(length(&other, &record, &TEXT), Err(refused(2)));
+    other.space = 1;
+    assert_eq!(length(&other, &record, &TEXT), Err(refused(4)));
+    other.page_size = 0;
+    assert_eq!(length(&other, &record, &TEXT), Err(refused(5)));
+    other.page_size = 1;
+    other.space = 0;
+    let mut out = [CANARY; 100];
+    assert_eq!(write(&other, &NAMED, &TEXT, &mut out), Err(refused(3)));
+    assert_eq!(write(&other, &NAMED, &TEXT, &mut []), Err(refused(3)));
+    assert_eq!(out, [CANARY; 100]);
 }
 
 #[test]
@@ -276,24 +304,24 @@ fn bytes_made(lot: &Lot) -> Option<Vec<u8>> {
             file.push(u8::try_from(number).ok()?);
         }
     }
-    file.extend(Tag::ALL[made.tag as usize].bytes());
+    file.extend(tag(made.tag).bytes());
     Some(file)
 }
 
-fn damaged(seed: u64) -> Option<Lot> {
+fn damaged(seed: u64) -> Lot {
     let mut random = Random::new(seed);
     let mut lot = Lot::any(&mut random);
     for _ in 0..random.below(4) {
         lot.damage(LotDamage::any(&mut random), &mut random);
     }
-    (lot.header.tag < 3).then_some(lot)
+    lot
 }
 
 #[test]
 fn the_writer_judges_as_the_reader_judges_the_bytes() {
     let mut made = 0;
     let mut reached = BTreeSet::new();
-    for lot in (0..20_000).filter_map(damaged) {
+    for lot in (0..20_000).map(damaged) {
         let Some(file) = bytes_made(&lot) else {
             continue;
         };
@@ -305,13 +333,13 @@ fn the_writer_judges_as_the_reader_judges_the_bytes() {
         reached.extend(number.err());
     }
     assert!(made > 8_000, "{made} lots");
-    assert_eq!(reached, BTreeSet::from([4, 5]));
+    assert_eq!(reached, BTreeSet::from([3, 4, 5]));
 }
 
 #[test]
 fn damaged_lots_never_panic() {
     let mut reached = BTreeSet::new();
-    for lot in (0..20_000).filter_map(damaged) {
+    for lot in (0..20_000).map(damaged) {
         let mut out = [CANARY; 400];
         match write(&header(&lot.header), &lot.records, &lot.text, &mut out) {
             Ok(len) => assert_eq!(Some(&out[..len]), bytes_made(&lot).as_deref()),
@@ -322,5 +350,5 @@ fn damaged_lots_never_panic() {
             }
         }
     }
-    assert_eq!(reached, BTreeSet::from([1, 2, 4, 5, 11]));
+    assert_eq!(reached, BTreeSet::from([1, 2, 3, 4, 5, 11]));
 }

@@ -77,7 +77,7 @@ returns-2 c =
     let j = c .before .before .before .before .before .before .before .before in
     let a = j .before .before .before .before .before .args in
     c .before .before .put-refusal2 .ensures
-    ∙ ap (putAll (a .out .now, 0)) (listed-refused (a .file .now) _ _ (search needs) (ap (λ (x : Answer). (told x, j .read .last .1 .0)) (sym (c .before .before .before .before .before .number .given .1)) ∙ j .read .ensures) ∙ taken-within 65536 (a .file .now) _ (j .before .before .if1 .left))
+    ∙ ap (putAll (a .out .now, 0)) (listed-refused (a .file .now) _ _ (search needs) (λ k. omega (arith, j .before .before .before .shared-slice-known .given k)) (j .before .before .if1 .left) (ap (λ (x : Answer). (told x, j .read .last .1 .0)) (sym (c .before .before .before .before .before .number .given .1)) ∙ j .read .ensures) ∙ taken-within 65536 (a .file .now) _ (j .before .before .if1 .left))
 
 same-length-3 : tie.Need-same-length-3
 same-length-3 c = search needs
@@ -92,7 +92,7 @@ returns-3 c =
     let v = comps .before .before in
     let j = v .before .before .before in
     let a = j .before .before .before .before .before .args in
-    let x = listed-accepted (a .file .now) _ _ (search needs) (ap (λ (x : Answer). (told x, j .read .last .1 .0)) (sym (v .header .given .1)) ∙ j .read .ensures) in
+    let x = listed-accepted (a .file .now) _ _ (search needs) (λ k. omega (arith, j .before .before .before .shared-slice-known .given k)) (j .before .before .if1 .left) (ap (λ (x : Answer). (told x, j .read .last .1 .0)) (sym (v .header .given .1)) ∙ j .read .ensures) in
     let lined = records .put-records .ensures (x .0) (x .1) (x .2) (x .3) ∙ ap (λ (m : ℕ). putAll (texts .put-texts .last .0, texts .put-texts .result) (lines (line (a .file .now) m) 0 (x .0))) (comps .components-of .ensures) in
     put-both _ _ _ (put-both _ _ _ (put-both _ _ _ (put-both _ _ _ (headed .put-heading .ensures) (texts .put-texts .ensures)) lined) (pages .put-pages .ensures)) (c .before .before .put-text .ensures)
     ∙ ap (putAll (a .out .now, 0)) (x .4 ∙ taken-within 65536 (a .file .now) _ (j .before .before .if1 .left))

@@ -39,7 +39,7 @@ put-ending-requires c κs = let s = c .before .before .before .before .before .b
     let gs = givens (a .run .now) (a .n) 0 in
     let p = c .before .before .before .before .before .before .before .before .put-head in
     let q = c .before .before .before .put-colours in
-    (omega (arith, s .pre .1, p .ensures .0, p .kept .0, q .ensures .0, q .kept .0, ap (λ (j : ℕ). sizes (sizeIn j) gs) (c .before .before .before .before .components-of .ensures)), no-fault (a .text .now) h t gs (s .pre .2) .2)
+    (omega (arith, s .pre .1, p .ensures .0, p .kept .0, q .ensures .0, q .kept .0, ap (λ (j : ℕ). sizes (sizeIn j) gs) (c .before .before .before .before .components-of .ensures)), omega (arith, no-fault (a .text .now) h t gs (s .pre .2) .2))
 
 same-length : tie.Need-same-length
 same-length c = search needs

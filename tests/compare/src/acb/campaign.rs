@@ -375,8 +375,10 @@ impl Campaign {
                     let units = units_for(colours, len + spare);
                     let mut lot = Lot::sharing_text(&mut random, space, &units);
                     check_lot(&lot, &mut random, &mut self.tally)?;
-                    lot.header.tag = 2;
-                    check_lot(&lot, &mut random, &mut self.tally)?;
+                    for tag in [2, 3] {
+                        lot.header.tag = tag;
+                        check_lot(&lot, &mut random, &mut self.tally)?;
+                    }
                 }
             }
         }
@@ -396,10 +398,10 @@ impl Campaign {
     }
 
     /// Strings that no text holds, with which the output is of the limit or just
-    /// longer, under each tag, and the longest there are.
+    /// longer, under each tag and under another, and the longest there are.
     fn long_strings(&mut self) -> Checked {
         let mut random = self.random(Part::LongLots, 1);
-        for tag in 0..3 {
+        for tag in 0..4 {
             let bare = BARE_HEAD_LEN + if tag > 0 { TAG_LEN } else { 0 };
             let most = ((LIMIT - bare) / UNIT_LEN) as u32;
             for string in 0..4 {

@@ -6,7 +6,7 @@ use generate::acb as made;
 use proved::acb::{Answer, Full, Header, Page, Record, Shown, Text};
 use proved::Written;
 use reference::acb::{self, Accepted, Tag};
-use reference::{number, Refusal};
+use reference::Refusal;
 
 pub fn answer(result: Result<Accepted, Refusal>) -> Answer {
     match result {
@@ -87,19 +87,12 @@ pub fn page(result: Result<usize, Refusal>) -> Page {
     }
 }
 
-/// What writing under a header answers. The reference's tag is always a right
-/// one; another number is refused before all else.
+/// What writing under a header answers.
 pub fn written(
     header: &Header,
     write: impl FnOnce(&acb::Header) -> Result<usize, Refusal>,
 ) -> Written {
-    match reference_header(header) {
-        Some(header) => expected::written(write(&header)),
-        None => Written {
-            number: number::WRONG_TAG,
-            length: 0,
-        },
-    }
+    expected::written(write(&reference_header(header)))
 }
 
 fn library_header(header: &acb::Header) -> Header {
@@ -116,6 +109,7 @@ fn library_header(header: &acb::Header) -> Header {
             Tag::None => 0,
             Tag::Spot => 1,
             Tag::Process => 2,
+            Tag::Other => unreachable!("no file is read with another tag"),
         },
         title: text(header.title),
         prefix: text(header.prefix),
@@ -124,12 +118,13 @@ fn library_header(header: &acb::Header) -> Header {
     }
 }
 
-fn reference_header(header: &Header) -> Option<acb::Header> {
+/// A number that is no tag is another one.
+fn reference_header(header: &Header) -> acb::Header {
     let text = |text: Text| acb::Text {
         place: text.place,
         units: text.units,
     };
-    Some(acb::Header {
+    acb::Header {
         identifier: header.identifier,
         page_size: header.page_size,
         page_offset: header.page_offset,
@@ -138,13 +133,13 @@ fn reference_header(header: &Header) -> Option<acb::Header> {
             0 => Tag::None,
             1 => Tag::Spot,
             2 => Tag::Process,
-            _ => return None,
+            _ => Tag::Other,
         },
         title: text(header.title),
         prefix: text(header.prefix),
         suffix: text(header.suffix),
         description: text(header.description),
-    })
+    }
 }
 
 /// A made-up header as the library is handed it.

@@ -22,7 +22,7 @@ const WRONG_SPACES: [u16; 6] = [1, 3, 8, 10, 0x0200, 0xFFFF];
 const WRONG_TAGS: [u32; 4] = [3, 4, 0x100, u32::MAX];
 
 /// The header of a book to be written. A string is its place in the text and
-/// its units; a tag is 0 for none, 1 for spot, 2 for process.
+/// its units; a tag is 0 for none, 1 for spot, 2 for process, and another above.
 #[derive(Clone, Copy, Debug, PartialEq, Eq)]
 pub struct Header {
     pub identifier: u16,

@@ -16,17 +16,21 @@ pub enum Tag {
     None,
     Spot,
     Process,
+    /// Another tag: a writer is handed it and refuses it; no file is read with it.
+    Other,
 }
 
 impl Tag {
+    /// The tags that a file may end with.
     pub const ALL: [Tag; 3] = [Tag::None, Tag::Spot, Tag::Process];
 
-    /// The bytes of the tag; none where there is none.
+    /// The bytes of the tag; none where there is none, and any eight of another.
     pub fn bytes(self) -> &'static [u8] {
         match self {
             Tag::None => b"",
             Tag::Spot => b"spflspot",
             Tag::Process => b"spflproc",
+            Tag::Other => &[0; TAG_LEN],
         }
     }
 

@@ -65,5 +65,6 @@ fn tag_word(tag: Tag) -> &'static str {
         Tag::None => "none",
         Tag::Spot => "spot",
         Tag::Process => "process",
+        Tag::Other => unreachable!("no file is read with another tag"),
     }
 }

@@ -1,6 +1,6 @@
 //! Writing records as a book.
 
-use super::header::{Header, Text};
+use super::header::{Header, Tag, Text};
 use super::layout::{
     component_count, BARE_HEAD_LEN, CODE_LEN, COMPONENTS, COUNT_LEN, MAX_COLOURS, ROW_LEN,
     SIGNATURE, VERSION,
@@ -79,7 +79,11 @@ fn judge(header: &Header, rows: &[Row], text: &[u8]) -> Result<(), u32> {
     }
     let components = component_count(header.space).ok_or(number::UNKNOWN_SPACE)?;
     rows.iter()
-        .try_for_each(|row| judge_row(row, components, text))
+        .try_for_each(|row| judge_row(row, components, text))?;
+    if header.tag == Tag::Other {
+        return Err(number::WRONG_TAG);
+    }
+    Ok(())
 }
 
 /// Judges the name, then the code and the components that the space has, each
