@@ -4,11 +4,13 @@ use mathlib.Core.Path.{_≡_, refl, sym, ap, _∙_, subst}
 use mathlib.Core.List.{List, [], _∷_}
 use mathlib.Core.Bool.{Bool, true, false}
 use mathlib.Core.Logic.{inl, inr, ⊎-elim}
-use lib.Dec.{T, eqb}
-use borrow.Author.Tests.{eqb-true, ne-eqb}
+use lib.Dec.{T, leb, eqb}
+use borrow.Author.Tests.{eq-eqb, eqb-true, ne-eqb}
 use types.Run.{OneOf}
 use Rattle.fields.specs.Reader.{pick}
-use Rattle.descriptor.specs.Reading.{unknown, beside, among}
+use Rattle.fields.specs.Refusal.{oneOf}
+use Rattle.fields.proofs.Placed.{allOf, all-one}
+use Rattle.descriptor.specs.Reading.{unknown, beside}
 
 -- `g` has the value v at each of the keys
 abbrev pub Each : {A : Type 0} → (ℕ → A) → A → List ℕ → Type 0
@@ -21,7 +23,7 @@ at-keys g v [] x e h = absurd h
 at-keys g v (k ∷ []) x e h = ap g h ∙ e .0
 at-keys g v (k ∷ (j ∷ ks)) x e h = ⊎-elim (λ q. ap g q ∙ e .0) (λ q. at-keys g v (j ∷ ks) x (e .1) q) h
 
-one-of : (ks : List ℕ) (x : ℕ) → among ks x ≡ true → OneOf ks x
+one-of : (ks : List ℕ) (x : ℕ) → oneOf ks x ≡ true → OneOf ks x
 one-of [] x h = absurd (subst T (sym h) tt)
 one-of (k ∷ []) x h = go (eqb x k) refl
   where
@@ -30,9 +32,39 @@ one-of (k ∷ []) x h = go (eqb x k) refl
     go false e = absurd (subst T (sym (rw e at h)) tt)
 one-of (k ∷ (j ∷ ks)) x h = go (eqb x k) refl (one-of (j ∷ ks) x)
   where
-    go : (b : Bool) → eqb x k ≡ b → (among (j ∷ ks) x ≡ true → OneOf (j ∷ ks) x) → OneOf (k ∷ (j ∷ ks)) x
+    go : (b : Bool) → eqb x k ≡ b → (oneOf (j ∷ ks) x ≡ true → OneOf (j ∷ ks) x) → OneOf (k ∷ (j ∷ ks)) x
     go true e ih = inl (eqb-true x k e)
     go false e ih = inr (ih (rw e at h))
+
+-- a test that is one arm of all keys of a list, and one arm for all else
+is-key : (ks : List ℕ) (x : ℕ) → OneOf ks x → oneOf ks x ≡ true
+is-key [] x h = absurd h
+is-key (k ∷ []) x h = rw (eq-eqb x k h)
+is-key (k ∷ (j ∷ ks)) x h = ⊎-elim (λ q. ap (λ (b : Bool). pick b true (oneOf (j ∷ ks) x)) (eq-eqb x k q)) (λ q. either (eqb x k) (is-key (j ∷ ks) x q)) h
+  where
+    either : (b : Bool) → oneOf (j ∷ ks) x ≡ true → pick b true (oneOf (j ∷ ks) x) ≡ true
+    either true e = refl
+    either false e = e
+
+-- the keys of an arm are in ascending order
+abbrev put : ℕ → List ℕ → List ℕ
+put k [] = k ∷ []
+put k (j ∷ ks) = pick (leb k j) (k ∷ j ∷ ks) (j ∷ put k ks)
+
+abbrev pub ascending : List ℕ → List ℕ
+ascending [] = []
+ascending (k ∷ ks) = put k (ascending ks)
+
+-- so it is the test of a table that has the same keys, in whatever order
+pub key-in : (ks ms : List ℕ) → allOf ks ms ≡ true → (x : ℕ) → OneOf ks x → oneOf ms x ≡ true
+key-in ks ms h x o = all-one ks ms h x (is-key ks x o)
+
+pub key-out : (ks ms : List ℕ) → allOf ms ks ≡ true → (x : ℕ) → (OneOf ks x → ⊥) → oneOf ms x ≡ false
+key-out ks ms h x n = go (oneOf ms x) refl
+  where
+    go : (b : Bool) → oneOf ms x ≡ b → b ≡ false
+    go true e = absurd (n (one-of ks x (all-one ms ks h x e)))
+    go false e = refl
 
 -- x is in none of the lists
 abbrev pub None : List (List ℕ) → ℕ → Type 0
@@ -41,13 +73,13 @@ None (ks ∷ kss) x = (OneOf ks x → ⊥) × None kss x
 
 abbrev pub inSome : List (List ℕ) → ℕ → Bool
 inSome [] k = false
-inSome (ks ∷ kss) k = pick (among ks k) true (inSome kss k)
+inSome (ks ∷ kss) k = pick (oneOf ks k) true (inSome kss k)
 
 not-key : (kss : List (List ℕ)) (x : ℕ) → None kss x → T (inSome kss x) → ⊥
 not-key [] x n h = h
-not-key (ks ∷ kss) x n h = go (among ks x) refl (not-key kss x (n .1))
+not-key (ks ∷ kss) x n h = go (oneOf ks x) refl (not-key kss x (n .1))
   where
-    go : (b : Bool) → among ks x ≡ b → (T (inSome kss x) → ⊥) → ⊥
+    go : (b : Bool) → oneOf ks x ≡ b → (T (inSome kss x) → ⊥) → ⊥
     go true e ih = n .0 (one-of ks x e)
     go false e ih = ih (rw e at h)
 

@@ -7,6 +7,7 @@ use lib.ListN.{length}
 use lib.Ieee.{binary64, ofBits}
 use lib.Ieee.Scale.{finite}
 use Rattle.fields.specs.Reader.{Res, ok, refuse, Reader, then, pick, field, body, rule, Judged, unless, judged, give, _>>=_, each, ended, done, limit}
+use Rattle.fields.specs.Refusal.{oneOf}
 
 -- ---- tables by a tag
 
@@ -18,11 +19,6 @@ pub data Known (A : Type 0) : Type 0 where
 abbrev pub beside : {A : Type 0} → List (ℕ × A) → ℕ → Known A
 beside [] t = unknown
 beside (c ∷ cs) t = pick (eqb t (c .0)) (is (c .1)) (beside cs t)
-
--- a tag is one of a list
-abbrev pub among : List ℕ → ℕ → Bool
-among [] t = false
-among (c ∷ cs) t = pick (eqb t c) true (among cs t)
 
 -- what follows a tag at the place p that is known; one that is not is 4
 abbrev pub known : {A B : Type 0} → Known A → ℕ → (A → Res B) → Res B
@@ -100,10 +96,10 @@ abbrev pub arrayUnits : List ℕ
 arrayUnits = 0x2352_6c74 ∷ 0x2350_7263 ∷ 0x2350_786c ∷ []
 
 unfoldable pub isUnit : ℕ → Bool
-isUnit u = among units u
+isUnit u = oneOf units u
 
 unfoldable pub isArrayUnit : ℕ → Bool
-isArrayUnit u = among arrayUnits u
+isArrayUnit u = oneOf arrayUnits u
 
 -- a unit, else 4
 abbrev pub unit : ℕ → Judged

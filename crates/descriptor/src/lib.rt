@@ -180,12 +180,7 @@ pub fn is_unit(tag: u32) -> bool
     ensures { λ r. ⌜ r ≡ isUnit tag ⌝ }
 {
     match tag {
-        ANGLE => true,
-        DENSITY => true,
-        DISTANCE => true,
-        NONE => true,
-        PERCENT => true,
-        PIXELS => true,
+        ANGLE | DENSITY | DISTANCE | NONE | PERCENT | PIXELS => true,
         _ => false,
     }
 }
@@ -195,9 +190,7 @@ pub fn is_array_unit(tag: u32) -> bool
     ensures { λ r. ⌜ r ≡ isArrayUnit tag ⌝ }
 {
     match tag {
-        DISTANCE => true,
-        PERCENT => true,
-        PIXELS => true,
+        DISTANCE | PERCENT | PIXELS => true,
         _ => false,
     }
 }

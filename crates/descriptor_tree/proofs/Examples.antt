@@ -4,6 +4,7 @@ use mathlib.Core.Path.{_≡_, refl}
 use mathlib.Core.List.{List, [], _∷_, _++_}
 use native.Mathlib.Omega.{arith}
 use Rattle.fields.specs.Numbers.{be, Bytes}
+use Rattle.fields.specs.Refusal.{among}
 use Rattle.fields.specs.Sets.{Number, Seq, Counted}
 use Rattle.fields.proofs.Places.{length-be, bytes-append}
 use Rattle.descriptor.specs.Reading.{Row}
@@ -139,7 +140,7 @@ four-id t = Counted.counted 0 {y = be 4 t} (omega arith) (IdBody.char (length-be
 column-is : UnitDoubles 2 column
 column-is =
     Counted.counted 0x2350_786C (omega arith) (
-      ArrayMeasure.pixels,
+      among refl,
       Counted.counted 2 (omega arith) (
         omega arith,
         Seq.seq {x = be 8 0x3FF0_0000_0000_0000} (Number.number 0x3FF0_0000_0000_0000 (omega arith) (omega arith)) (Seq.seq {x = be 8 0xC000_0000_0000_0000} {y = []} (Number.number 0xC000_0000_0000_0000 (omega arith) (omega arith)) refl),
@@ -147,7 +148,7 @@ column-is =
     )
 
 percents-is : Leaf 0x556E_7446 percents
-percents-is = Leaf.unitDouble (Counted.counted 0x2350_7263 (omega arith) (Measure.percent, Number.number 0x4059_0000_0000_0000 (omega arith) (omega arith)))
+percents-is = Leaf.unitDouble (Counted.counted 0x2350_7263 (omega arith) (among refl, Number.number 0x4059_0000_0000_0000 (omega arith) (omega arith)))
 
 references-allowed : Allowed Place.forms 4 references
 references-allowed = (Place.nowhere, omega arith, Member.form (Seq.seq class-class (Form.enumerated (Seq.seq (letter-id 0x74) (four-id 0x7661_6C75)))), tt, tt)

@@ -16,9 +16,11 @@ use Rattle.fields.proofs.Laws.{body-in, num-2}
 use Rattle.fields.proofs.Places.{at-in, at-right, at-next, at-part, length-part}
 use Rattle.fields.proofs.Inverse.{then-inv, rule-inv, unless-fine, body-inv, ok-place}
 use Rattle.fields.proofs.Floats.{finite-bits}
-use Rattle.descriptor.specs.Reading.{is, beside, among, skip, id, shut, closing, unicode, class, flag, double, enumerated, run, units, arrayUnits, isUnit, isArrayUnit, unitDouble, column}
+use Rattle.fields.specs.Refusal.{among}
+use Rattle.fields.proofs.Placed.{all-one, of-all}
+use Rattle.descriptor.specs.Reading.{is, beside, skip, id, shut, closing, unicode, class, flag, double, enumerated, run, units, arrayUnits, isUnit, isArrayUnit, unitDouble, column}
 use Rattle.fields.specs.Sets.{Size}
-use Rattle.descriptor_tree.specs.Grammar.{IdBody, Id, Units, Text, Class, Enumerated, Raw, Boolean, Double, Measure, UnitDouble, ArrayMeasure, UnitDoubles}
+use Rattle.descriptor_tree.specs.Grammar.{IdBody, Id, Units, Text, Class, Enumerated, Raw, Boolean, Double, measures, Measure, UnitDouble, arrayMeasures, ArrayMeasure, UnitDoubles}
 use Rattle.descriptor_tree.specs.Grammar.IdBody.{char, string}
 use Rattle.descriptor_tree.specs.Grammar.Units.{none, closed}
 use Rattle.fields.proofs.Sets.{Reads, same-reads, done-reads, size-reads, tested-numbers, tag-numbers, number-reads, when-reads, counted-reads, seq-reads, run-reads}
@@ -39,40 +41,21 @@ beside-each P (c ∷ cs) h t a e = go (eqb t (c .0)) refl e (beside-each P cs (h
     go true q x rec = let y : c .1 ≡ a = cc in subst (λ (v : _). P t v) y (subst (λ (k : ℕ). P k (c .1)) (sym (eqb-true t (c .0) q)) (h .0))
     go false q x rec = rec x
 
-abbrev Listed : (ℕ → Type 0) → List ℕ → Type 0
-Listed P [] = Unit
-Listed P (c ∷ cs) = P c × Listed P cs
-
-among-each : (P : ℕ → Type 0) (cs : List ℕ) → Listed P cs → (t : ℕ) → among cs t ≡ true → P t
-among-each P [] h t e = let z : _≡_ {A = ℕ} 0 1 = cc in absurd (omega arith)
-among-each P (c ∷ cs) h t e = go (eqb t c) refl e (among-each P cs (h .1) t)
-  where
-    go : (b : Bool) → eqb t c ≡ b → pick b true (among cs t) ≡ true → (among cs t ≡ true → P t) → P t
-    go true q x rec = subst P (sym (eqb-true t c q)) (h .0)
-    go false q x rec = rec x
-
 pub measure-known : {u : ℕ} → Measure u → isUnit u ≡ true
 unfolding isUnit
-measure-known Measure.angle = refl
-measure-known Measure.density = refl
-measure-known Measure.distance = refl
-measure-known Measure.plain = refl
-measure-known Measure.percent = refl
-measure-known Measure.pixels = refl
+measure-known h = of-all measures units refl h
 
 pub known-measure : (u : ℕ) → isUnit u ≡ true → Measure u
 unfolding isUnit
-known-measure u e = among-each Measure units (Measure.angle, (Measure.density, (Measure.distance, (Measure.plain, (Measure.percent, (Measure.pixels, tt)))))) u e
+known-measure u e = among (all-one units measures refl u e)
 
 pub array-known : {u : ℕ} → ArrayMeasure u → isArrayUnit u ≡ true
 unfolding isArrayUnit
-array-known ArrayMeasure.distance = refl
-array-known ArrayMeasure.percent = refl
-array-known ArrayMeasure.pixels = refl
+array-known h = of-all arrayMeasures arrayUnits refl h
 
 pub known-array : (u : ℕ) → isArrayUnit u ≡ true → ArrayMeasure u
 unfolding isArrayUnit
-known-array u e = among-each ArrayMeasure arrayUnits (ArrayMeasure.distance, (ArrayMeasure.percent, (ArrayMeasure.pixels, tt))) u e
+known-array u e = among (all-one arrayUnits arrayMeasures refl u e)
 
 -- ---- primitives
 

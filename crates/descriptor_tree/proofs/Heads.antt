@@ -10,6 +10,7 @@ use Rattle.fields.specs.Reader.{Res, Reader, ok, refuse, then, field, _>>=_}
 use Rattle.fields.proofs.Places.{length-be, at-in, at-left, at-right, at-next}
 use Rattle.fields.proofs.Inverse.{clash, then-inv, ok-value, ok-place}
 use Rattle.descriptor.specs.Reading.{Known, is, unknown, known, id, class, flag, double, enumerated, run, unicode, unitDouble, skip, Sort, leaf, list, object, reference, array, types, sortOf, forms, formOf, Row, headed, plain, siblings, children, refValue, refItem, arrayPair, item, pair, beside}
+use Rattle.fields.specs.Refusal.{among}
 use Rattle.fields.specs.Sets.{Size, Seq, number, counted}
 use Rattle.descriptor_tree.specs.Grammar.{Class, Leaf, Form, IdBody, Id, Units, Text, Raw, Double, Measure}
 use Rattle.fields.specs.Sets.Seq.{seq}
@@ -286,7 +287,7 @@ no-type = beside-none ItemType types (
                     (
                       leafy (Leaf.text some-text),
                       (
-                        leafy (Leaf.unitDouble (counted 0x2341_6E67 (omega arith) (Measure.angle, some-double))),
+                        leafy (Leaf.unitDouble (counted 0x2341_6E67 (omega arith) (among refl, some-double))),
                         (
                           ItemType.type (Item.list 0 (omega arith)),
                           (

@@ -4,6 +4,7 @@ use Prim.Native.Nat.{ℕ, suc, _*_, _%_, _≤_, _<_}
 use mathlib.Core.Path.{_≡_}
 use mathlib.Core.List.{List, [], _∷_, _++_}
 use lib.ListN.{length}
+use Rattle.fields.specs.Refusal.{Of}
 use Rattle.fields.specs.Sets.{Field, Size, Number, Seq, Counted, When, Run}
 
 -- ---- primitives
@@ -45,13 +46,11 @@ abbrev pub Double : Field
 Double = Number 8 (λ n. n % 0x8000_0000_0000_0000 < 0x7FF0_0000_0000_0000)
 
 -- `#Ang`, `#Rsl`, `#Rlt`, `#Nne`, `#Prc`, `#Pxl`
-pub data Measure : ℕ → Type 0 where
-  angle : Measure 0x2341_6E67
-  density : Measure 0x2352_736C
-  distance : Measure 0x2352_6C74
-  plain : Measure 0x234E_6E65
-  percent : Measure 0x2350_7263
-  pixels : Measure 0x2350_786C
+abbrev pub measures : List ℕ
+measures = 0x2341_6E67 ∷ 0x2352_736C ∷ 0x2352_6C74 ∷ 0x234E_6E65 ∷ 0x2350_7263 ∷ 0x2350_786C ∷ []
+
+abbrev pub Measure : ℕ → Type 0
+Measure u = Of measures u
 
 abbrev pub UnitDouble : Field
 UnitDouble = Counted (λ u. When (Measure u) Double)
@@ -88,10 +87,11 @@ pub data Form : ℕ → List ℕ → Type 0 where
 -- ---- object arrays
 
 -- `#Rlt`, `#Prc`, `#Pxl`
-pub data ArrayMeasure : ℕ → Type 0 where
-  distance : ArrayMeasure 0x2352_6C74
-  percent : ArrayMeasure 0x2350_7263
-  pixels : ArrayMeasure 0x2350_786C
+abbrev pub arrayMeasures : List ℕ
+arrayMeasures = 0x2352_6C74 ∷ 0x2350_7263 ∷ 0x2350_786C ∷ []
+
+abbrev pub ArrayMeasure : ℕ → Type 0
+ArrayMeasure u = Of arrayMeasures u
 
 -- the unit doubles of a pair: a unit, a count that is the number m of objects, and as many doubles
 abbrev pub UnitDoubles : ℕ → Field

@@ -1,6 +1,6 @@
 -- Refusals have one of some numbers and a place of the file: each combinator. Assumes nothing.
 use Prim.Native.Nat.{ℕ, zero, suc, _+_, _-_, _*_, _≤_}
-use mathlib.Core.Path.{_≡_, refl, sym, subst}
+use mathlib.Core.Path.{_≡_, refl, sym, ap, _∙_, subst}
 use mathlib.Core.List.{List, [], _∷_}
 use mathlib.Core.Bool.{Bool, true, false}
 use lib.ListN.{length}
@@ -34,6 +34,23 @@ one-each P (n ∷ ns) i h x o = go (eqb x n) refl (one-each P ns (i + 1) (h .1) 
 
 pub of-each : (P : ℕ → Type 0) (ns : List ℕ) → All (λ k n. P n) 0 ns → {x : ℕ} → Of ns x → P x
 of-each P ns h {x} (among o) = one-each P ns 0 h x o
+
+-- numbers that are all among others
+abbrev pub allOf : List ℕ → List ℕ → Bool
+allOf [] ms = true
+allOf (n ∷ ns) ms = pick (oneOf ms n) (allOf ns ms) false
+
+pub all-one : (ns ms : List ℕ) → allOf ns ms ≡ true → (x : ℕ) → oneOf ns x ≡ true → oneOf ms x ≡ true
+all-one [] ms h x o = let z : _≡_ {A = ℕ} 0 1 = cc in absurd (omega arith)
+all-one (n ∷ ns) ms h x o = go (oneOf ms n) refl (eqb x n) refl (all-one ns ms)
+  where
+    go : (a : Bool) → oneOf ms n ≡ a → (b : Bool) → eqb x n ≡ b → (allOf ns ms ≡ true → (x : ℕ) → oneOf ns x ≡ true → oneOf ms x ≡ true) → oneOf ms x ≡ true
+    go true e true f more = ap (oneOf ms) (eqb-true x n f) ∙ e
+    go true e false f more = more (subst (λ (a : Bool). pick a (allOf ns ms) false ≡ true) e h) x (subst (λ (b : Bool). pick b true (oneOf ns x) ≡ true) f o)
+    go false e b f more = let z : pick false (allOf ns ms) false ≡ true = subst (λ (a : Bool). pick a (allOf ns ms) false ≡ true) e h in let y : _≡_ {A = ℕ} 0 1 = cc in absurd (omega arith)
+
+pub of-all : (ns ms : List ℕ) → allOf ns ms ≡ true → {x : ℕ} → Of ns x → oneOf ms x ≡ true
+of-all ns ms h {x} (among o) = all-one ns ms h x o
 
 -- ---- answers
 
