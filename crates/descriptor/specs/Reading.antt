@@ -87,9 +87,9 @@ run = do
   n ← field 4
   skip n
 
--- `#Ang`, `#Rsl`, `#Rlt`, `#Nne`, `#Prc`, `#Pxl`
+-- `#Ang`, `#Rsl`, `#Rlt`, `#Nne`, `#Prc`, `#Pxl`, `#Mlm`, `#Pnt`
 abbrev pub units : List ℕ
-units = 0x2341_6e67 ∷ 0x2352_736c ∷ 0x2352_6c74 ∷ 0x234e_6e65 ∷ 0x2350_7263 ∷ 0x2350_786c ∷ []
+units = 0x2341_6e67 ∷ 0x2352_736c ∷ 0x2352_6c74 ∷ 0x234e_6e65 ∷ 0x2350_7263 ∷ 0x2350_786c ∷ 0x234d_6c6d ∷ 0x2350_6e74 ∷ []
 
 -- those of object arrays: `#Rlt`, `#Prc`, `#Pxl`
 abbrev pub arrayUnits : List ℕ

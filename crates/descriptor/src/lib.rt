@@ -69,7 +69,7 @@ const FORM_INDEX: u32 = 0x696e_6478;
 
 const FORM_OFFSET: u32 = 0x7265_6c65;
 
-// The six units: `#Ang`, `#Rsl`, `#Rlt`, `#Nne`, `#Prc`, `#Pxl`.
+// The eight units: `#Ang`, `#Rsl`, `#Rlt`, `#Nne`, `#Prc`, `#Pxl`, `#Mlm`, `#Pnt`.
 pub const ANGLE: u32 = 0x2341_6e67;
 
 pub const DENSITY: u32 = 0x2352_736c;
@@ -81,6 +81,10 @@ pub const NONE: u32 = 0x234e_6e65;
 pub const PERCENT: u32 = 0x2350_7263;
 
 pub const PIXELS: u32 = 0x2350_786c;
+
+pub const MILLIMETRES: u32 = 0x234d_6c6d;
+
+pub const POINTS: u32 = 0x2350_6e74;
 
 // What stands after an item's type: fields alone, with their end, or members; or a refusal.
 pub enum Value {
@@ -175,12 +179,12 @@ pub fn bytes_at(file: &[u8], at: usize) -> Step
     fields::run_at(file, body, n as usize)
 }
 
-// Whether a tag is one of the six units.
+// Whether a tag is one of the eight units.
 pub fn is_unit(tag: u32) -> bool
     ensures { λ r. ⌜ r ≡ isUnit tag ⌝ }
 {
     match tag {
-        ANGLE | DENSITY | DISTANCE | NONE | PERCENT | PIXELS => true,
+        ANGLE | DENSITY | DISTANCE | NONE | PERCENT | PIXELS | MILLIMETRES | POINTS => true,
         _ => false,
     }
 }

@@ -45,9 +45,9 @@ Boolean = Number 1 (λ n. n ≤ 1)
 abbrev pub Double : Field
 Double = Number 8 (λ n. n % 0x8000_0000_0000_0000 < 0x7FF0_0000_0000_0000)
 
--- `#Ang`, `#Rsl`, `#Rlt`, `#Nne`, `#Prc`, `#Pxl`
+-- `#Ang`, `#Rsl`, `#Rlt`, `#Nne`, `#Prc`, `#Pxl`, `#Mlm`, `#Pnt`
 abbrev pub measures : List ℕ
-measures = 0x2341_6E67 ∷ 0x2352_736C ∷ 0x2352_6C74 ∷ 0x234E_6E65 ∷ 0x2350_7263 ∷ 0x2350_786C ∷ []
+measures = 0x2341_6E67 ∷ 0x2352_736C ∷ 0x2352_6C74 ∷ 0x234E_6E65 ∷ 0x2350_7263 ∷ 0x2350_786C ∷ 0x234D_6C6D ∷ 0x2350_6E74 ∷ []
 
 abbrev pub Measure : ℕ → Type 0
 Measure u = Of measures u

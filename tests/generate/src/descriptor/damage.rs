@@ -22,7 +22,7 @@ const HUGE: [u32; 9] = [
 /// Tags of other fields, or nearly one of the field's own.
 const WRONG_TAGS: [[u8; 4]; 14] = [
     *b"Bool", *b"boo\0", *b"Pth\0", *b"obj\0", *b"Obj ", *b"UnFl", *b"UntD", *b"clss", *b"Name",
-    *b"#Mlm", *b"#Pnt", *b"#ang", *b"8BIM", [0; 4],
+    *b"#mlm", *b"#Pts", *b"#ang", *b"8BIM", [0; 4],
 ];
 const WRONG_ARRAY_UNITS: [[u8; 4]; 5] = [*b"#Ang", *b"#Rsl", *b"#Nne", *b"#Mlm", *b"#Pnt"];
 /// Infinities and what is no number.

@@ -418,7 +418,7 @@ fn doubles() -> Vec<Written> {
     ]
 }
 
-/// Every unit, and those for text code only, in a unit double and in an array.
+/// Every unit in a unit double and in an array, and one that is none.
 fn units() -> Vec<Fixed> {
     let known: [(&[u8; 4], bool, bool); 9] = [
         (b"#Ang", true, false),
@@ -427,8 +427,8 @@ fn units() -> Vec<Fixed> {
         (b"#Nne", true, false),
         (b"#Prc", true, true),
         (b"#Pxl", true, true),
-        (b"#Mlm", false, false),
-        (b"#Pnt", false, false),
+        (b"#Mlm", true, false),
+        (b"#Pnt", true, false),
         (b"#pxl", false, false),
     ];
     let shown = |unit: &[u8; 4]| match unit {

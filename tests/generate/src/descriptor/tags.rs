@@ -12,7 +12,9 @@ pub const FORMS: [Tag; 7] = [
 ];
 
 /// Those that are not for text code only.
-pub const UNITS: [Tag; 6] = [*b"#Ang", *b"#Rsl", *b"#Rlt", *b"#Nne", *b"#Prc", *b"#Pxl"];
+pub const UNITS: [Tag; 8] = [
+    *b"#Ang", *b"#Rsl", *b"#Rlt", *b"#Nne", *b"#Prc", *b"#Pxl", *b"#Mlm", *b"#Pnt",
+];
 
 pub const ARRAY_UNITS: [Tag; 3] = [*b"#Rlt", *b"#Prc", *b"#Pxl"];
 

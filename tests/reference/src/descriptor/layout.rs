@@ -57,11 +57,16 @@ const DISTANCE: u32 = u32::from_be_bytes(*b"#Rlt");
 const NONE: u32 = u32::from_be_bytes(*b"#Nne");
 const PERCENT: u32 = u32::from_be_bytes(*b"#Prc");
 const PIXELS: u32 = u32::from_be_bytes(*b"#Pxl");
+const MILLIMETRES: u32 = u32::from_be_bytes(*b"#Mlm");
+const POINTS: u32 = u32::from_be_bytes(*b"#Pnt");
 
 /// Whether a unit double may have this unit.
 #[inline(always)]
 pub fn is_unit(tag: u32) -> bool {
-    matches!(tag, ANGLE | DENSITY | DISTANCE | NONE | PERCENT | PIXELS)
+    matches!(
+        tag,
+        ANGLE | DENSITY | DISTANCE | NONE | PERCENT | PIXELS | MILLIMETRES | POINTS
+    )
 }
 
 /// Whether the doubles of an object array may have this unit.
