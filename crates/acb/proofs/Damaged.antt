@@ -4,7 +4,7 @@ use mathlib.Core.Path.{_≡_, refl, sym, ap, _∙_}
 use mathlib.Core.List.{List, _++_}
 use mathlib.Core.Bool.{Bool, true, false}
 use lib.ListN.{length}
-use borrow.Author.Tests.{le-leb, ne-eqb}
+use borrow.Author.Tests.{le-leb, lt-leb, ne-eqb}
 use native.Mathlib.Omega.{arith}
 use Rattle.fields.specs.Numbers.{be, joined, At, Bytes}
 use Rattle.fields.specs.Reader.{ok, refuse, field, fault, judged}
@@ -17,6 +17,11 @@ use Rattle.acb.specs.Reading.{isSpace, componentsOf, pageSize, space, si
 use Rattle.acb.specs.Damaged.{Begins, sizeAt, spaceAt}
 use Rattle.acb.proofs.Laws.{is-space, size-fine, opening-exact, strings-exact}
 use Rattle.acb.proofs.Whole.{tag-is}
+
+-- a file past the limit is 1 at 0
+pub long-stops : (s : List ℕ) → 16777216 < length s → acb s ≡ refuse 1 0 0 0
+unfolding acb
+long-stops s long = simp (lt-leb (length s) 16777216 long)
 
 -- a header that is refused is the file's refusal
 pub header-stops : (s : List ℕ) → length s ≤ 16777216 → {x p : ℕ} → header s 0 ≡ refuse x p 0 0 → acb s ≡ refuse x p 0 0

@@ -17,8 +17,14 @@ use Rattle.acb.specs.Widths.{headWidths, colourWidths, endingWidths, fil
 use Rattle.acb.specs.Damaged.{signed, versioned, sized, spaced, sizeAt, spaceAt, Begins, ending, tagAt, untagged}
 use Rattle.acb.proofs.Laws.{topBytes, short-stops}
 use Rattle.acb.proofs.Whole.{topIn, head-parts, bytes-string, bytes-head, bytes-colours, bytes-file, book-to, allowed-parts, file-reads}
-use Rattle.acb.proofs.Damaged.{header-stops, no-space, signature-stops, version-stops, size-stops, space-stops, other-stops}
+use Rattle.acb.proofs.Damaged.{long-stops, header-stops, no-space, signature-stops, version-stops, size-stops, space-stops, other-stops}
 use Rattle.acb.proofs.Cut.{book-cut, closing-left}
+
+-- ---- the length
+
+-- a file of more than 16,777,216 bytes: 1 at 0, whatever it holds
+pub long-refused : (s : List ℕ) → 16777216 < length s → acb s ≡ refuse 1 0 0 0
+long-refused s long = long-stops s long
 
 -- ---- the header
 

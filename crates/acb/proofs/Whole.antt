@@ -249,4 +249,4 @@ module _ (s : List ℕ) (bytes : Bytes s) where
 
   pub file-writes : (c : Contents) (q : ℕ) → acb s ≡ ok c q → File (bookOf c) s × (q ≡ length s)
   unfolding acb
-  file-writes c q e = let i = pick-inv (leb (length s) 16777216) (book s 0) 1 0 0 0 e in book-writes (leb-true (length s) 16777216 (i .0)) c q (i .1)
+  file-writes c q e = let i = pick-inv (leb (length s) 16777216) (book s 0) _ _ _ _ e in book-writes (leb-true (length s) 16777216 (i .0)) c q (i .1)

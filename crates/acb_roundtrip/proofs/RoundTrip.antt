@@ -3,18 +3,18 @@ use Prim.Native.Nat.{ℕ, _≤_}
 use mathlib.Core.Path.{_≡_, sym, ap, _∙_, subst}
 use mathlib.Core.List.{List, _++_}
 use lib.Dec.{leb}
-use lib.ListN.{length, take, drop, length-append, length-drop}
+use lib.ListN.{length, getD, take, drop, length-append, length-drop}
 use lib.Seq.{take-at, drop-at}
 use borrow.Author.Tests.{leb-true}
 use native.Mathlib.Omega.{arith}
-use Rattle.fields.specs.Numbers.{joined, Bytes}
+use Rattle.fields.specs.Numbers.{be, joined, Bytes}
 use Rattle.fields.specs.Reader.{ok, numberOf, limit}
 use Rattle.fields.specs.Writing.{bytes}
 use Rattle.fields.proofs.Firsts.{test-holds}
-use Rattle.acb.specs.Grammar.{Ending, tagged, Book, fileBytes}
+use Rattle.acb.specs.Grammar.{Tag, none, spot, process, Ending, tagged, other, Book, tagBytes, fileBytes}
 use Rattle.acb.specs.Reading.{Entry, Contents, componentsOf, acb}
 use Rattle.acb_judge.specs.Answer.{Shown, shown}
-use Rattle.acb.specs.Faults.{bookFault}
+use Rattle.acb.specs.Faults.{EndingFits, bookFault}
 use Rattle.acb.proofs.RoundTrip.{allowed-reads, written-number, written-allowed}
 use Rattle.acb_read.specs.Table.{row}
 use Rattle.acb_records.specs.Writing.{Given, given, colourIn, bookIn, sizeIn, size, colourFault, fault, needed, written}
@@ -69,6 +69,19 @@ read-needs s b e = needs-all s b e
 -- of a header and records that fit their fields the writer's refusal, 11 aside, has the number that the reader gives for the bytes made of them; 0 is none
 pub refusals-agree : (text : List ℕ) → Bytes text → (h : Shown) (t : Ending) (gs : List Given) → BookFitting text h t gs → fault text h t gs ≡ numberOf (acb (made text h t gs))
 refusals-agree text b h t gs fit = fault-same text h t gs fit ∙ sym (written-number (bookIn text h t gs) (book-fits text h t gs fit b))
+
+-- the tag that stands for all others is none of the file's
+pub other-fits : EndingFits (other 0)
+unfolding be
+other-fits = record {
+  small = omega arith;
+  no-tag = λ t. go t;
+}
+  where
+    go : (t : Tag) → be 8 0 ≡ tagBytes t → ⊥
+    go none e = let z : _≡_ {A = ℕ} 8 0 = ap length e in omega arith
+    go spot e = let z : _≡_ {A = ℕ} 0 0x73 = ap (λ (l : List ℕ). getD l 0 0) e in omega arith
+    go process e = let z : _≡_ {A = ℕ} 0 0x73 = ap (λ (l : List ℕ). getD l 0 0) e in omega arith
 
 -- ---- spare places
 
