@@ -16,7 +16,7 @@ use Rattle.fields.proofs.Begins.{First, fewer, number, first}
 use Rattle.fields.proofs.Names.{NameFirst, count-short, count-zero, units-short, units-open, name-whole, name-first}
 use Rattle.colour.specs.Spaces.{known, uses}
 use Rattle.aco.specs.Grammar.{Swatch, Space, Sample, Allowed, Palette, colourBytes, entryBytes, listOne, listTwo, twoLists, File, plain, named}
-use Rattle.aco.specs.Damaged.{version-cut, wrong-version, colours-cut, DamagedColour, space-cut, wrong-space, sample-cut, wrong-sample, count-cut, no-units, units-cut, unclosed, fieldsOf, DamagedRecord, field-cut, difference, wrong-name, colouring, counting, recording, recordAt, swatchAt, Repeating, Damaged, wrong-heading, too-many, wrong-colour, second-heading, other-count, wrong-record, left-over}
+use Rattle.aco.specs.Damaged.{version-cut, wrong-version, colours-cut, DamagedColour, space-cut, wrong-space, sample-cut, wrong-sample, count-cut, no-units, units-cut, unclosed, fieldsOf, DamagedRecord, field-cut, difference, wrong-name, colouring, counting, recording, behind, swatchAt, Repeating, Damaged, first-heading, too-many, wrong-colour, second-heading, other-count, wrong-record, left-over}
 use Rattle.aco.proofs.Laws.{space-known, known-space}
 
 -- ---- a colour of list 1
@@ -202,7 +202,7 @@ ended-by ws pal (x ∷ l) fits = is-damaged 6 (length (twoLists ws)) 0 0 (left-o
 module _ (ws : List Swatch) (pal : Palette ws) where
   records-by : {l : List ℕ} → RecordsOr 0 ws l → Short (counting ws (length ws) l) → FileOr (counting ws (length ws) l)
   unfolding recording counting twoLists listOne listTwo
-  records-by (bad-records before l z p r f rep d) fits = is-damaged z (recordAt ws before + p) r f (wrong-record ws before l z p r f pal rep (subst (λ (k : ℕ). DamagedRecord k (swatchAt ws (length before)) l z p r f) (zero-add (length before)) d))
+  records-by (bad-records before l z p r f rep d) fits = is-damaged z (behind ws before + p) r f (wrong-record ws before l z p r f pal rep (subst (λ (k : ℕ). DamagedRecord k (swatchAt ws (length before)) l z p r f) (zero-add (length before)) d))
   records-by (good-records rs l all ok same b) fits =
       let e : twoLists rs ++ l ≡ counting ws (length ws) (joined entryBytes rs ++ l) =
       simp append-assoc (ap₂ (λ (n : ℕ) (y : List ℕ). be 2 1 ++ (be 2 n ++ (y ++ (be 2 2 ++ (be 2 n ++ (joined entryBytes rs ++ l)))))) all same) in
@@ -239,17 +239,17 @@ colours-by n few (good-colours ws l all ok bare b) fits =
     subst FileOr e (one-by ws (record { count = omega arith; swatches = ok }) bare l b (subst Short (sym e) fits))
 
 count-by : {l : List ℕ} → First 2 l → Short (be 2 1 ++ l) → FileOr (be 2 1 ++ l)
-count-by (fewer l h) fits = is-damaged 2 2 0 0 (wrong-heading (be 2 1 ++ l) 2 2 (colours-cut l h))
+count-by (fewer l h) fits = is-damaged 2 2 0 0 (first-heading (be 2 1 ++ l) 2 2 (colours-cut l h))
 count-by (number n l small b) fits = elim (decLe n 4096) [
   | yes h ↦ colours-by n h (colours-or n l b) fits
   | no h ↦ is-damaged 5 2 0 0 (too-many n l (lt-of-not-le h) small)
 ]
 
 version-by : {l : List ℕ} → First 2 l → Short l → FileOr l
-version-by (fewer l h) fits = is-damaged 2 0 0 0 (wrong-heading l 2 0 (version-cut l h))
+version-by (fewer l h) fits = is-damaged 2 0 0 0 (first-heading l 2 0 (version-cut l h))
 version-by (number v l small b) fits = elim (ℕ-discrete v 1) [
   | yes e ↦ subst (λ (k : ℕ). Short (be 2 k ++ l) → FileOr (be 2 k ++ l)) (sym e) (count-by (first 2 l b)) fits
-  | no e ↦ is-damaged 3 0 0 0 (wrong-heading (be 2 v ++ l) 3 0 (wrong-version v l small e))
+  | no e ↦ is-damaged 3 0 0 0 (first-heading (be 2 v ++ l) 3 0 (wrong-version v l small e))
 ]
 
 pub file-or : (s : List ℕ) → Bytes s → length s ≤ 16777216 → FileOr s

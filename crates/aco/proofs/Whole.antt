@@ -119,17 +119,23 @@ record-exact s bytes ws pal i = entry-exact s bytes i (getD (map hue ws) i black
 
 -- ---- the grammar's bytes are read
 
+pub length-heading : (v n : ℕ) → length (be 2 v ++ be 2 n) ≡ 4
+length-heading v n = omega (arith, length-append (be 2 v) (be 2 n), length-be 2 v, length-be 2 n)
+
+pub heading-reads : (s : List ℕ) → Bytes s → (v : ℕ) → v < 256 ^ 2 → (count : ℕ → Judged) (at n : ℕ) → n < 256 ^ 2 → count n ≡ fine → At s at (be 2 v ++ be 2 n) → heading v count s at ≡ ok n (at + length (be 2 v ++ be 2 n))
+heading-reads s bytes v small count at n few good h =
+    let r = heading-exact s bytes v small count .reads at n (few, good) h in
+    r .1 ∙ ap (λ (k : ℕ). ok k (at + length (be 2 v ++ be 2 n))) (r .2)
+
 module _ (s : List ℕ) (bytes : Bytes s) (ws : List Swatch) (pal : Palette ws) where
   -- a heading, before anything
-  pub heading-reads : (v : ℕ) → v < 256 ^ 2 → (count : ℕ → Judged) → count (length ws) ≡ fine → (at : ℕ) (more : List ℕ) → At s at (be 2 v ++ (be 2 (length ws) ++ more)) → (heading v count s at ≡ ok (length ws) (at + 4)) × At s (at + 4) more
-  heading-reads v small count f at more h =
+  heads : (v : ℕ) → v < 256 ^ 2 → (count : ℕ → Judged) → count (length ws) ≡ fine → (at : ℕ) (more : List ℕ) → At s at (be 2 v ++ (be 2 (length ws) ++ more)) → (heading v count s at ≡ ok (length ws) (at + 4)) × At s (at + 4) more
+  heads v small count f at more h =
       let n : ℕ = length ws in
       let hd : List ℕ = be 2 v ++ be 2 n in
-      let l : length hd ≡ 4 = omega (arith, length-append (be 2 v) (be 2 n), length-be 2 v, length-be 2 n) in
       let g : At s at (hd ++ more) = subst (λ (x : List ℕ). At s at x) (sym (append-assoc (be 2 v) (be 2 n) more)) h in
-      let x = heading-exact s bytes v small count .reads at n (omega (arith, pal .count), f) (at-left s at hd more g) in
-      let e : at + length hd ≡ at + 4 = ap (λ (k : ℕ). at + k) l in
-      (x .1 ∙ ap₂ (λ (a b : ℕ). ok a b) (x .2) e, at-after s at hd more (at + 4) e g)
+      let e : at + length hd ≡ at + 4 = ap (λ (k : ℕ). at + k) (length-heading v n) in
+      (heading-reads s bytes v small count at n (omega (arith, pal .count)) f (at-left s at hd more g) ∙ ap (λ (k : ℕ). ok n k) e, at-after s at hd more (at + 4) e g)
 
   pub first-reads : At s 0 (listOne ws) → lists s 0 ≡ after (map hue ws) s (length (listOne ws))
   unfolding lists listOne
@@ -137,7 +143,7 @@ module _ (s : List ℕ) (bytes : Bytes s) (ws : List Swatch) (pal : Palette ws) 
       let n : ℕ = length ws in
       let cs : List Colour = map hue ws in
       let l : List ℕ = joined colourBytes ws in
-      let x = heading-reads 1 (omega arith) firstCount (first-fine n (pal .count)) 0 l h in
+      let x = heads 1 (omega arith) firstCount (first-fine n (pal .count)) 0 l h in
       let y = each-exact {p = λ i. colour} {Ok = λ i c. Painted c} (λ i. colour-exact s bytes) n 0 .reads 4 cs (length-map hue ws, all-painted 0 ws (pal .swatches)) (subst (λ (z : List ℕ). At s 4 z) (sym (hues-bytes ws)) (x .1)) in
       let q : 4 + length (joined paint cs) ≡ length (be 2 1 ++ (be 2 n ++ l)) =
       omega (arith, length-append (be 2 1) (be 2 n ++ l), length-append (be 2 n) l, length-be 2 1, length-be 2 n, ap length (hues-bytes ws)) in
@@ -146,7 +152,7 @@ module _ (s : List ℕ) (bytes : Bytes s) (ws : List Swatch) (pal : Palette ws) 
 
   -- list 2's heading, before anything
   pub second-heads : (q : ℕ) (more : List ℕ) → At s q (be 2 2 ++ (be 2 (length ws) ++ more)) → (heading 2 (secondCount (length (map hue ws))) s q ≡ ok (length ws) (q + 4)) × At s (q + 4) more
-  second-heads q more h = heading-reads 2 (omega arith) (secondCount (length (map hue ws))) (second-fine (length (map hue ws)) (length ws) (sym (length-map hue ws))) q more h
+  second-heads q more h = heads 2 (omega arith) (secondCount (length (map hue ws))) (second-fine (length (map hue ws)) (length ws) (sym (length-map hue ws))) q more h
 
   -- list 2, before the file's end or more
   pub second-passes : (q : ℕ) → At s q (listTwo ws) → (es : List Entry) × (second (map hue ws) s q ≡ ended (record { lists = 2; records = es }) s (q + length (listTwo ws))) × (map swatch es ≡ ws)
