@@ -9,6 +9,6 @@ pub mod Faultless
 pub mod RoundTrip
 pub mod Placed
 pub mod Cut
-pub mod Behind
+pub mod Turns
 pub mod Refused
-pub mod Wrong
+pub mod Total

@@ -1,16 +1,17 @@
 -- What is promised of ACO files: reading and the grammar agree, and what an accepted file holds and where. Assumes nothing.
 use Prim.Native.Nat.{ℕ, _+_, _*_, _-_, _^_, _≤_, _<_}
-use mathlib.Core.Path.{_≡_, refl, sym, ap, _∙_, subst}
+use mathlib.Core.Path.{_≡_, refl, sym, ap, _∙_, subst, subst₂}
 use mathlib.Core.List.{List, map}
+use mathlib.Core.Logic.{_⊎_, inl, inr}
 use mathlib.Core.Bool.{Bool, true, false}
 use lib.Dec.{leb, eqb}
 use lib.ListN.{length, getD, List·getD-map}
 use native.Mathlib.Omega.{arith}
 use native.Mathlib.Nat.{zero-add}
 use Rattle.fields.specs.Numbers.{num, nums, Bytes, All}
-use Rattle.fields.specs.Reader.{ok, refuse, pick, fine, fault, each, numberOf, limit}
+use Rattle.fields.specs.Reader.{Res, ok, refuse, pick, fine, fault, each, numberOf, limit}
 use Rattle.fields.proofs.Places.{length-nums, at-whole}
-use Rattle.fields.proofs.Inverse.{each-length, ok-value}
+use Rattle.fields.proofs.Inverse.{clash, each-length, ok-value}
 use Rattle.fields.proofs.Exact.{length-map}
 use Rattle.fields.proofs.Tells.{outcome-number}
 use Rattle.colour.specs.declared.space.Colour.{Colour}
@@ -18,11 +19,14 @@ use Rattle.aco.specs.Grammar.{Swatch, File, plain, named, twoLists}
 use Rattle.aco.specs.Reading.{fieldOf, Entry, entry, Contents, black, unnamed, lists, aco, swatch, secondCount}
 use Rattle.aco.specs.Raw.{rawColour, rawColours}
 use Rattle.aco.specs.Places.{entryPlace}
+use Rattle.aco.specs.Damaged.{Damaged}
 use Rattle.aco.specs.Faults.{paletteFault, Fits}
 use Rattle.aco.proofs.Raw.{getD-raw, field-raw}
 use Rattle.aco.proofs.Laws.{hue}
 use Rattle.aco.proofs.Inverse.{First, Then, one, two, Entered, heading-inv, entries-inv, entries-end, aco-inv}
-use Rattle.aco.proofs.Whole.{plain-reads, named-reads, bare-swatches, then-writes, bytes-two}
+use Rattle.aco.proofs.Whole.{plain-reads, named-reads, bare-swatches, then-writes, bytes-one, bytes-two}
+use Rattle.aco.proofs.Refused.{damaged-refused}
+use Rattle.aco.proofs.Total.{FileOr, is-file, is-damaged, file-or}
 use Rattle.aco.proofs.Written.{lists-outcome}
 use Rattle.aco.proofs.Faultless.{faultless-allowed, allowed-faultless}
 
@@ -44,6 +48,43 @@ allowed-unique f g =
     let y = allowed-reads g in
     let same : x .0 ≡ y .0 = ok-value (sym (x .1) ∙ y .1) in
     (sym (x .2) ∙ ap (λ (c : Contents). c .lists) same ∙ y .2, sym (x .3) ∙ ap (λ (c : Contents). map swatch (c .records)) same ∙ y .3)
+
+-- ---- refusals
+
+-- every file within the limit is one of the grammar or a damaged one
+pub allowed-or-damaged : (s : List ℕ) → Bytes s → length s ≤ 16777216 → ((l : ℕ) × (ws : List Swatch) × File l ws s) ⊎ ((z p r f : ℕ) × Damaged s z p r f)
+allowed-or-damaged s bytes short = elim (file-or s bytes short) [
+  | is-file l ws g ↦ inl (l, ws, g)
+  | is-damaged z p r f d ↦ inr (z, p, r, f, d)
+]
+
+-- what is refused within the limit is damaged, and the refusal's number, place, record and field are those of the damage
+pub refused-damaged : {s : List ℕ} → Bytes s → length s ≤ 16777216 → {z p r f : ℕ} → aco s ≡ refuse z p r f → Damaged s z p r f
+refused-damaged {s} bytes short {z} {p} {r} {f} e = go (file-or s bytes short)
+  where
+    go : FileOr s → Damaged s z p r f
+    go (is-file l ws g) = clash (sym e ∙ allowed-reads g .1)
+    go (is-damaged y q i g d) =
+        let same : refuse y q i g ≡ refuse z p r f = sym (damaged-refused d bytes short) ∙ e in
+        let a : y ≡ z = cc in
+        let b : q ≡ p = cc in
+        let c : i ≡ r = cc in
+        let h : g ≡ f = cc in
+        subst₂ (λ (n m : ℕ). Damaged s n m r f) a b (subst₂ (λ (n m : ℕ). Damaged s y q n m) c h d)
+
+-- no file is damaged in two ways: it has one number, one place, one record and one field
+pub damaged-unique : {s : List ℕ} → Bytes s → length s ≤ 16777216 → {z p r f y q i g : ℕ} → Damaged s z p r f → Damaged s y q i g → (z ≡ y) × (p ≡ q) × (r ≡ i) × (f ≡ g)
+damaged-unique bytes short {z} {p} {r} {f} {y} {q} {i} {g} d e =
+    let same : _≡_ {A = Res Contents} (refuse z p r f) (refuse y q i g) = sym (damaged-refused d bytes short) ∙ damaged-refused e bytes short in
+    (cc, cc, cc, cc)
+
+-- no file of the grammar is damaged
+pub allowed-undamaged : {l : ℕ} {ws : List Swatch} {s : List ℕ} → File l ws s → {z p r f : ℕ} → Damaged s z p r f → ⊥
+allowed-undamaged g d = let x = file-bytes g in clash (sym (damaged-refused d (x .0) (x .1)) ∙ allowed-reads g .1)
+  where
+    file-bytes : {l : ℕ} {ws : List Swatch} {s : List ℕ} → File l ws s → Bytes s × (length s ≤ 16777216)
+    file-bytes (plain {ws} pal none short) = (bytes-one ws, short)
+    file-bytes (named {ws} pal short) = (bytes-two ws, short)
 
 -- ---- what an accepted file holds
 

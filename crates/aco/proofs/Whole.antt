@@ -2,23 +2,22 @@
 use Prim.Native.Nat.{ℕ, zero, suc, _+_, _*_, _-_, _^_, _≤_, _<_}
 use mathlib.Core.Path.{_≡_, refl, sym, ap, ap₂, _∙_, subst}
 use mathlib.Core.List.{List, [], _∷_, _++_, map, append-assoc}
-use mathlib.Core.Bool.{Bool}
-use lib.Dec.{leb, eqb}
 use lib.ListN.{length, getD, length-append, List·getD-map}
 use lib.Seq.{ext-getD}
 use borrow.Author.Tests.{le-leb, eq-eqb, ne-eqb}
 use native.Mathlib.Omega.{arith}
 use native.Mathlib.Nat.{zero-add}
 use Rattle.fields.specs.Numbers.{be, joined, At, Bytes, All}
-use Rattle.fields.specs.Reader.{ok, pick, Judged, fine, fault, unless, each, ended}
+use Rattle.fields.specs.Reader.{ok, Judged, fine, each, ended}
 use Rattle.fields.specs.Text.{Named, nameBytes}
+use Rattle.fields.specs.Algebra.{Exact}
 use Rattle.fields.proofs.Places.{length-be, length-bes, joined-map, at-in, at-left, at-after, at-next, at-all, at-whole, bytes-append, bytes-be, bytes-joined}
 use Rattle.fields.proofs.Exact.{all-map, all-at, all-by, length-map, map-id, length-nameBytes, each-exact}
 use Rattle.colour.specs.declared.space.Colour.{Colour}
 use Rattle.aco.specs.Grammar.{Swatch, rgb, Allowed, Palette, File, plain, named, colourBytes, entryBytes, listOne, listTwo, twoLists}
-use Rattle.aco.specs.Reading.{most, colour, heading, Entry, entry, Contents, black, second, unnamed, after, lists, aco, swatch, firstCount, secondCount}
+use Rattle.aco.specs.Reading.{colour, heading, Entry, entry, Contents, black, second, unnamed, after, lists, aco, swatch, firstCount, secondCount}
 use Rattle.aco.proofs.Fine.{first-fine, second-fine}
-use Rattle.aco.proofs.Laws.{hue, paint, label, Painted, painted-sized, allowed-painted, painted-allowed, colour-exact, heading-exact, entry-exact}
+use Rattle.aco.proofs.Laws.{hue, paint, label, Painted, Sized, painted-sized, allowed-painted, painted-allowed, colour-exact, heading-exact, entry-exact}
 use Rattle.aco.proofs.Inverse.{First, Then, one, two}
 
 -- ---- the colours of swatches
@@ -56,7 +55,7 @@ pub length-entry : (w : Swatch) → length (w .samples) ≡ 4 → length (entryB
 unfolding entryBytes
 length-entry w four = omega (arith, length-append (colourBytes w) (nameBytes 4 (w .name)), length-colour w four, length-nameBytes 4 (w .name))
 
-length-colours : (i : ℕ) (ws : List Swatch) → All (λ k w. length (w .samples) ≡ 4) i ws → length (joined colourBytes ws) ≡ 10 * length ws
+pub length-colours : (i : ℕ) (ws : List Swatch) → All (λ k w. length (w .samples) ≡ 4) i ws → length (joined colourBytes ws) ≡ 10 * length ws
 unfolding joined
 length-colours i [] h = refl
 length-colours i (w ∷ ws) h = omega (arith, length-append (colourBytes w) (joined colourBytes ws), length-colour w (h .0), length-colours (i + 1) ws (h .1))
@@ -101,19 +100,42 @@ bytes-two ws =
     bytes-append (listOne ws) (be 2 2 ++ (be 2 (length ws) ++ l)) (bytes-one ws)
     (bytes-append (be 2 2) (be 2 (length ws) ++ l) (bytes-be 2 2) (bytes-append (be 2 (length ws)) l (bytes-be 2 (length ws)) (bytes-joined entryBytes bytes-entry ws)))
 
+-- ---- the records of list 2, where list 1 has the colours of ws
+
+-- what the reader asks of record i
+abbrev pub Repeats : List Swatch → ℕ → Swatch → Type 0
+Repeats ws i w = (hue w ≡ getD (map hue ws) i black) × Named 4 (w .name)
+
+pub own-records : (ws : List Swatch) → Palette ws → All (Repeats ws) 0 ws
+own-records ws pal =
+    all-by (Repeats ws) (label black []) 0 ws (λ k g.
+    (sym (hue-at ws k) ∙ ap (λ (i : ℕ). getD (map hue ws) i black) (sym (zero-add k)), all-at (λ k w. Allowed w) (label black []) 0 ws (pal .swatches) k g .name))
+
+pub sized-at : (ws : List Swatch) → Palette ws → (i : ℕ) → Sized (getD (map hue ws) i black)
+sized-at ws pal i = painted-sized (getD (map hue ws) i black) (painted-at 0 (map hue ws) (all-painted 0 ws (pal .swatches)) i)
+
+pub record-exact : (s : List ℕ) → Bytes s → (ws : List Swatch) → Palette ws → (i : ℕ) → Exact s (entry i (getD (map hue ws) i black)) swatch (Repeats ws i) entryBytes
+record-exact s bytes ws pal i = entry-exact s bytes i (getD (map hue ws) i black) (sized-at ws pal i)
+
 -- ---- the grammar's bytes are read
+
+pub length-heading : (v n : ℕ) → length (be 2 v ++ be 2 n) ≡ 4
+length-heading v n = omega (arith, length-append (be 2 v) (be 2 n), length-be 2 v, length-be 2 n)
+
+pub heading-reads : (s : List ℕ) → Bytes s → (v : ℕ) → v < 256 ^ 2 → (count : ℕ → Judged) (at n : ℕ) → n < 256 ^ 2 → count n ≡ fine → At s at (be 2 v ++ be 2 n) → heading v count s at ≡ ok n (at + length (be 2 v ++ be 2 n))
+heading-reads s bytes v small count at n few good h =
+    let r = heading-exact s bytes v small count .reads at n (few, good) h in
+    r .1 ∙ ap (λ (k : ℕ). ok k (at + length (be 2 v ++ be 2 n))) (r .2)
 
 module _ (s : List ℕ) (bytes : Bytes s) (ws : List Swatch) (pal : Palette ws) where
   -- a heading, before anything
-  pub heading-reads : (v : ℕ) → v < 256 ^ 2 → (count : ℕ → Judged) → count (length ws) ≡ fine → (at : ℕ) (more : List ℕ) → At s at (be 2 v ++ (be 2 (length ws) ++ more)) → (heading v count s at ≡ ok (length ws) (at + 4)) × At s (at + 4) more
-  heading-reads v small count f at more h =
+  heads : (v : ℕ) → v < 256 ^ 2 → (count : ℕ → Judged) → count (length ws) ≡ fine → (at : ℕ) (more : List ℕ) → At s at (be 2 v ++ (be 2 (length ws) ++ more)) → (heading v count s at ≡ ok (length ws) (at + 4)) × At s (at + 4) more
+  heads v small count f at more h =
       let n : ℕ = length ws in
       let hd : List ℕ = be 2 v ++ be 2 n in
-      let l : length hd ≡ 4 = omega (arith, length-append (be 2 v) (be 2 n), length-be 2 v, length-be 2 n) in
       let g : At s at (hd ++ more) = subst (λ (x : List ℕ). At s at x) (sym (append-assoc (be 2 v) (be 2 n) more)) h in
-      let x = heading-exact s bytes v small count .reads at n (omega (arith, pal .count), f) (at-left s at hd more g) in
-      let e : at + length hd ≡ at + 4 = ap (λ (k : ℕ). at + k) l in
-      (x .1 ∙ ap₂ (λ (a b : ℕ). ok a b) (x .2) e, at-after s at hd more (at + 4) e g)
+      let e : at + length hd ≡ at + 4 = ap (λ (k : ℕ). at + k) (length-heading v n) in
+      (heading-reads s bytes v small count at n (omega (arith, pal .count)) f (at-left s at hd more g) ∙ ap (λ (k : ℕ). ok n k) e, at-after s at hd more (at + 4) e g)
 
   pub first-reads : At s 0 (listOne ws) → lists s 0 ≡ after (map hue ws) s (length (listOne ws))
   unfolding lists listOne
@@ -121,29 +143,33 @@ module _ (s : List ℕ) (bytes : Bytes s) (ws : List Swatch) (pal : Palette ws) 
       let n : ℕ = length ws in
       let cs : List Colour = map hue ws in
       let l : List ℕ = joined colourBytes ws in
-      let x = heading-reads 1 (omega arith) firstCount (first-fine n (pal .count)) 0 l h in
+      let x = heads 1 (omega arith) firstCount (first-fine n (pal .count)) 0 l h in
       let y = each-exact {p = λ i. colour} {Ok = λ i c. Painted c} (λ i. colour-exact s bytes) n 0 .reads 4 cs (length-map hue ws, all-painted 0 ws (pal .swatches)) (subst (λ (z : List ℕ). At s 4 z) (sym (hues-bytes ws)) (x .1)) in
       let q : 4 + length (joined paint cs) ≡ length (be 2 1 ++ (be 2 n ++ l)) =
       omega (arith, length-append (be 2 1) (be 2 n ++ l), length-append (be 2 n) l, length-be 2 1, length-be 2 n, ap length (hues-bytes ws)) in
       let e : each n 0 (λ i. colour) s 4 ≡ ok cs (length (be 2 1 ++ (be 2 n ++ l))) = y .1 ∙ ap₂ (λ (a : List Colour) (b : ℕ). ok a b) (sym (map-id (y .0)) ∙ y .2) q in
       rw (x .0) (rw e)
 
-  pub second-reads : (q : ℕ) → At s q (listTwo ws) → q + length (listTwo ws) ≡ length s → (es : List Entry) × (second (map hue ws) s q ≡ ok (record { lists = 2; records = es }) (length s)) × (map swatch es ≡ ws)
-  unfolding second listTwo ended
-  second-reads q h end =
+  -- list 2's heading, before anything
+  pub second-heads : (q : ℕ) (more : List ℕ) → At s q (be 2 2 ++ (be 2 (length ws) ++ more)) → (heading 2 (secondCount (length (map hue ws))) s q ≡ ok (length ws) (q + 4)) × At s (q + 4) more
+  second-heads q more h = heads 2 (omega arith) (secondCount (length (map hue ws))) (second-fine (length (map hue ws)) (length ws) (sym (length-map hue ws))) q more h
+
+  -- list 2, before the file's end or more
+  pub second-passes : (q : ℕ) → At s q (listTwo ws) → (es : List Entry) × (second (map hue ws) s q ≡ ended (record { lists = 2; records = es }) s (q + length (listTwo ws))) × (map swatch es ≡ ws)
+  unfolding second listTwo
+  second-passes q h =
       let n : ℕ = length ws in
       let cs : List Colour = map hue ws in
       let l : List ℕ = joined entryBytes ws in
-      let len : length cs ≡ n = length-map hue ws in
-      let x = heading-reads 2 (omega arith) (secondCount (length cs)) (second-fine (length cs) n (sym len)) q l h in
-      let Ok : ℕ → Swatch → Type 0 = λ i w. (hue w ≡ getD cs i black) × Named 4 (w .name) in
-      let fit : All Ok 0 ws =
-      all-by Ok (label black []) 0 ws (λ k g.
-      (sym (hue-at ws k) ∙ ap (λ (i : ℕ). getD cs i black) (sym (zero-add k)), all-at (λ k w. Allowed w) (label black []) 0 ws (pal .swatches) k g .name)) in
-      let y = each-exact {p = λ i. entry i (getD cs i black)} {Ok = Ok} (λ i. entry-exact s bytes i (getD cs i black) (painted-sized (getD cs i black) (painted-at 0 cs (all-painted 0 ws (pal .swatches)) i))) (length cs) 0 .reads (q + 4) ws (sym len, fit) (x .1) in
-      let z : q + 4 + length l ≡ length s =
+      let x = second-heads q l h in
+      let y = each-exact {p = λ i. entry i (getD cs i black)} {Ok = Repeats ws} (record-exact s bytes ws pal) (length cs) 0 .reads (q + 4) ws (sym (length-map hue ws), own-records ws pal) (x .1) in
+      let z : q + 4 + length l ≡ q + length (be 2 2 ++ (be 2 n ++ l)) =
       omega (arith, length-append (be 2 2) (be 2 n ++ l), length-append (be 2 n) l, length-be 2 2, length-be 2 n) in
-      (y .0, rw (x .0) (rw (y .1) (rw z (simp (eq-eqb (length s) (length s) refl)))), y .2)
+      (y .0, rw (x .0) (rw (y .1) (ap (λ (k : ℕ). ended (record { lists = 2; records = y .0 }) s k) z)), y .2)
+
+  pub second-reads : (q : ℕ) → At s q (listTwo ws) → q + length (listTwo ws) ≡ length s → (es : List Entry) × (second (map hue ws) s q ≡ ok (record { lists = 2; records = es }) (length s)) × (map swatch es ≡ ws)
+  unfolding ended
+  second-reads q h end = let x = second-passes q h in (x .0, x .1 ∙ rw end (simp (eq-eqb (length s) (length s) refl)), x .2)
 
 pub plain-reads : (ws : List Swatch) → Palette ws → length (listOne ws) ≤ 16777216 → aco (listOne ws) ≡ ok (record { lists = 1; records = map unnamed (map hue ws) }) (length (listOne ws))
 unfolding aco after

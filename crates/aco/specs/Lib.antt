@@ -4,6 +4,5 @@ pub mod Faults
 pub mod Raw
 pub mod Places
 pub mod Widths
-pub mod Differing
 pub mod Refusals
 pub mod Damaged

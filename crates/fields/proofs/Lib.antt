@@ -26,3 +26,4 @@ pub mod Until
 pub mod Alone
 pub mod Tails
 pub mod Begins
+pub mod Names

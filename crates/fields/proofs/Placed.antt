@@ -19,7 +19,7 @@ module _ {ns : List ℕ} where
   unless-numbered true h = tt
   unless-numbered false h = h
 
-  pub differ-numbered : (b : Bool) (i f : ℕ) → Of ns 7 → Numbered ns (pick b fine (fault 7 i f))
+  pub differ-numbered : (b : Bool) {n : ℕ} (i f : ℕ) → Of ns n → Numbered ns (pick b fine (fault n i f))
   differ-numbered true i f h = tt
   differ-numbered false i f h = h
 

@@ -1,0 +1,130 @@
+-- What is refused in each turn of a heading, a colour and a record: a damaged one, by its number and at its place. Assumes nothing.
+use Prim.Native.Nat.{ℕ, _+_, _*_, _^_, _≤_, _<_}
+use mathlib.Core.Path.{_≡_, refl, sym, ap, _∙_, subst, subst₂}
+use mathlib.Core.List.{List, _∷_, _++_, append-assoc}
+use mathlib.Core.Bool.{Bool, true, false}
+use lib.ListN.{length, getD, take}
+use lib.Seq.{length-take-le, getD-take}
+use borrow.Author.Tests.{ne-eqb}
+use native.Mathlib.Omega.{arith}
+use native.Mathlib.Nat.{add-zero, zero-add}
+use Rattle.fields.specs.Numbers.{be, joined, Bytes, All}
+use Rattle.fields.specs.Reader.{ok, refuse, then, Judged, fine, fault, judged, each}
+use Rattle.fields.specs.Text.{name}
+use Rattle.fields.proofs.Places.{length-be, length-bes}
+use Rattle.fields.proofs.Exact.{all-map, all-from, all-at, all-by, judged-exact}
+use Rattle.fields.proofs.Stops.{judged-refuses, each-stops}
+use Rattle.fields.proofs.Tails.{Tail, tail-left, tail-after, judged-there, judged-wrong, judged-cut, name-cut, name-none, name-units-cut, name-open}
+use Rattle.colour.specs.declared.space.Colour.{Colour}
+use Rattle.colour.specs.Spaces.{known, uses, allowed}
+use Rattle.aco.specs.Grammar.{Swatch, Space, Sample, colourBytes}
+use Rattle.aco.specs.Reading.{space, sample, samples, colour, version, heading, fieldOf, twin, entry, compared}
+use Rattle.aco.specs.Damaged.{DamagedHeading, version-cut, wrong-version, colours-cut, Begun, DamagedColour, space-cut, wrong-space, sample-cut, wrong-sample, DamagedName, count-cut, no-units, units-cut, unclosed, fieldsOf, DamagedRecord, field-cut, difference, wrong-name}
+use Rattle.aco.proofs.Fine.{space-fine, sample-fine, version-fine, compared-fine}
+use Rattle.aco.proofs.Laws.{hue, paint, Sized, space-known, space-uses, space-small, known-space, allowed-unused, unused-allowed, twins-exact}
+use Rattle.aco.proofs.Whole.{length-colour}
+
+-- ---- a heading
+
+module _ (s : List ℕ) (v : ℕ) (small : v < 256 ^ 2) (count : ℕ → Judged) (at : ℕ) where
+  version-there : (l : List ℕ) → Tail s at (be 2 v ++ l) → (judged 2 (version v) s at ≡ ok v (at + 2)) × Tail s (at + 2) l
+  version-there l t = (judged-there s 2 at (version v) v small (version-fine v) (tail-left s at (be 2 v) l t), tail-after s at (be 2 v) l (at + 2) (ap (λ (k : ℕ). at + k) (length-be 2 v)) t)
+
+  pub heading-stops : {l : List ℕ} {z p : ℕ} → DamagedHeading v l z p → Tail s at l → heading v count s at ≡ refuse z (at + p) 0 0
+  unfolding heading
+  heading-stops (version-cut l few) t = rw (judged-cut s 2 at (version v) few t) (ap (λ (k : ℕ). refuse 2 k 0 0) (sym (add-zero at)))
+  heading-stops (wrong-version x l fits ne) t = rw (judged-wrong s 2 at (version v) 3 x fits (rw (ne-eqb x v ne)) (tail-left s at (be 2 x) l t)) (ap (λ (k : ℕ). refuse 3 k 0 0) (sym (add-zero at)))
+  heading-stops (colours-cut l few) t = let a = version-there l t in rw (a .0) (judged-cut s 2 (at + 2) count few (a .1))
+
+  -- a count that is judged wrong
+  pub count-stops : (n : ℕ) (l : List ℕ) → n < 256 ^ 2 → (z r f : ℕ) → count n ≡ fault z r f → Bytes s → Tail s at (be 2 v ++ (be 2 n ++ l)) → heading v count s at ≡ refuse z (at + 2) r f
+  unfolding heading
+  count-stops n l fits z r f e bytes t = let a = version-there (be 2 n ++ l) t in rw (a .0) (judged-refuses s bytes 2 count (at + 2) n z r f fits (tail-left s (at + 2) (be 2 n) l (a .1)) e)
+
+-- ---- a colour of list 1
+
+no-space : (v : ℕ) → ((used : ℕ) → Space v used → ⊥) → known v ≡ false
+no-space v h = go (known v) refl
+  where
+    go : (b : Bool) → known v ≡ b → b ≡ false
+    go true e = absurd (h (uses v) (known-space v e))
+    go false e = refl
+
+no-sample : (x used k v : ℕ) → Space x used → v < 256 ^ 2 → (Sample used k v → ⊥) → allowed x k v ≡ false
+no-sample x used k v of small h = go (allowed x k v) refl
+  where
+    go : (b : Bool) → allowed x k v ≡ b → b ≡ false
+    go true e = absurd (h (omega arith, λ l. allowed-unused x k v e (subst (λ (u : ℕ). u ≤ k) (sym (space-uses of)) l)))
+    go false e = refl
+
+module _ (s : List ℕ) (bytes : Bytes s) (at : ℕ) where
+  -- a right space and right samples, and then one that is refused
+  samples-stop : (x used : ℕ) (vs l : List ℕ) → Begun x used vs → Tail s at (be 2 x ++ (joined (be 2) vs ++ l)) → (z : ℕ)
+      → (Tail s (at + (2 + 2 * length vs)) l → judged 2 (sample x (length vs)) s (at + (2 + 2 * length vs)) ≡ refuse z (at + (2 + 2 * length vs)) 0 0) → colour s at ≡ refuse z (at + (2 + 2 * length vs)) 0 0
+  unfolding colour samples
+  samples-stop x used vs l b t z stop =
+      let y : List ℕ = joined (be 2) vs in
+      let q : ℕ = at + (2 + 2 * length vs) in
+      let one : judged 2 space s at ≡ ok x (at + 2) = judged-there s 2 at space x (space-small (b .space)) (space-fine x (space-known (b .space))) (tail-left s at (be 2 x) (y ++ l) t) in
+      let t2 : Tail s (at + 2) (y ++ l) = tail-after s at (be 2 x) (y ++ l) (at + 2) (ap (λ (k : ℕ). at + k) (length-be 2 x)) t in
+      let e : at + 2 + length y ≡ q = omega (arith, length-bes 2 vs) in
+      let Ok : ℕ → ℕ → Type 0 = λ k v. (v < 256 ^ 2) × (sample x k v ≡ fine) in
+      let good : All Ok 0 vs = all-map (Sample used) Ok (λ k v h. let f = h .1 in (omega (arith, h .0), sample-fine x k v (unused-allowed x k v (h .0) (λ l. f (subst (λ (u : ℕ). u ≤ k) (space-uses (b .space)) l))))) 0 vs (b .samples) in
+      let two : each 4 0 (λ k. judged 2 (sample x k)) s (at + 2) ≡ refuse z q 0 0 =
+      each-stops {p = λ k. judged 2 (sample x k)} {Ok = Ok} (λ k. judged-exact s bytes 2 (sample x k)) 4 0 (at + 2) vs (b .more) good (tail-left s (at + 2) y l t2)
+      (subst₂ (λ (m n : ℕ). judged 2 (sample x m) s n ≡ refuse z q 0 0) (sym (zero-add (length vs))) (sym e) (stop (tail-after s (at + 2) y l q e t2))) in
+      rw one (rw two)
+
+  pub colour-stops : {l : List ℕ} {z p : ℕ} → DamagedColour l z p → Tail s at l → colour s at ≡ refuse z (at + p) 0 0
+  unfolding colour
+  colour-stops (space-cut l few) t = rw (judged-cut s 2 at space few t) (ap (λ (k : ℕ). refuse 2 k 0 0) (sym (add-zero at)))
+  colour-stops (wrong-space x l small none) t = rw (judged-wrong s 2 at space 4 x small (rw (no-space x none)) (tail-left s at (be 2 x) l t)) (ap (λ (k : ℕ). refuse 4 k 0 0) (sym (add-zero at)))
+  colour-stops (sample-cut x used vs l b few) t = samples-stop x used vs l b t 2 (judged-cut s 2 (at + (2 + 2 * length vs)) (sample x (length vs)) few)
+  colour-stops (wrong-sample x used vs v l b small bad) t =
+      samples-stop x used vs (be 2 v ++ l) b t 5 (λ u. judged-wrong s 2 (at + (2 + 2 * length vs)) (sample x (length vs)) 5 v small (rw (no-sample x used (length vs) v (b .space) small bad)) (tail-left s (at + (2 + 2 * length vs)) (be 2 v) l u))
+
+-- ---- a record of list 2
+
+name-stops : (s : List ℕ) (at : ℕ) {l : List ℕ} {z p : ℕ} → DamagedName l z p → Tail s at l → name 4 s at ≡ refuse z (at + p) 0 0
+name-stops s at (count-cut l few) t = name-cut s 4 at few t ∙ ap (λ (k : ℕ). refuse 2 k 0 0) (sym (add-zero at))
+name-stops s at (no-units l) t = name-none s 4 at (omega arith) (tail-left s at (be 4 0) l t) ∙ ap (λ (k : ℕ). refuse 8 k 0 0) (sym (add-zero at))
+name-stops s at (units-cut n l some small few) t = name-units-cut s 4 at n l some small (omega arith) t
+name-stops s at (unclosed us l small fit o) t =
+    let y : List ℕ = be 4 (length us) in
+    name-open s 4 at us small fit o (tail-left s at (y ++ joined (be 2) us) l (subst (λ (x : List ℕ). Tail s at x) (sym (append-assoc y (joined (be 2) us) l)) t)) ∙ ap (λ (k : ℕ). refuse 8 k 0 0) (sym (add-zero at))
+
+module _ (s : List ℕ) (bytes : Bytes s) (i : ℕ) (w : Swatch) (sized : Sized (hue w)) (at : ℕ) where
+  -- f fields that are w's, and then one that is refused
+  fields-stop : (f : ℕ) (l : List ℕ) → f < 5 → Tail s at (joined (be 2) (take f (fieldsOf w)) ++ l) → (z r g : ℕ)
+      → (Tail s (at + 2 * f) l → twin i (hue w) f s (at + 2 * f) ≡ refuse z (at + 2 * f) r g) → entry i (hue w) s at ≡ refuse z (at + 2 * f) r g
+  unfolding entry
+  fields-stop f l h t z r g stop =
+      let c : Colour = hue w in
+      let vs : List ℕ = fieldsOf w in
+      let y : List ℕ = take f vs in
+      let ly : length y ≡ f = length-take-le f vs (omega (arith, sized .four)) in
+      let Twin : ℕ → ℕ → Type 0 = λ f v. (v < 256 ^ 2) × (compared i c f v ≡ fine) in
+      let all : All (λ k v. v < 256 ^ 2) 0 vs = (sized .small, all-from (λ v. v < 256 ^ 2) 0 1 (w .samples) (sized .each-small)) in
+      let fit : All Twin 0 y =
+      all-by Twin 0 0 y (λ k b.
+      let e : getD y k 0 ≡ getD vs k 0 = getD-take f vs k 0 (omega arith) in
+      let sm : getD vs k 0 < 256 ^ 2 = all-at (λ k v. v < 256 ^ 2) 0 0 vs all k (omega (arith, sized .four)) in
+      (subst (λ (n : ℕ). n < 256 ^ 2) (sym e) sm, compared-fine i c (0 + k) (getD y k 0) (e ∙ ap (λ (n : ℕ). getD vs n 0) (sym (zero-add k))))) in
+      let len : at + length (joined (be 2) y) ≡ at + 2 * f = omega (arith, length-bes 2 y) in
+      let e : each 5 0 (twin i c) s at ≡ refuse z (at + 2 * f) r g =
+      each-stops {p = twin i c} {Ok = Twin} (λ f. judged-exact s bytes 2 (compared i c f)) 5 0 at y (omega arith) fit (tail-left s at (joined (be 2) y) l t)
+      (subst₂ (λ (k m : ℕ). twin i c k s m ≡ refuse z (at + 2 * f) r g) (sym (zero-add (length y) ∙ ly)) (sym len) (stop (tail-after s at (joined (be 2) y) l (at + 2 * f) len t))) in
+      rw e
+
+  pub record-stops : {l : List ℕ} {z p r f : ℕ} → DamagedRecord i w l z p r f → Tail s at l → entry i (hue w) s at ≡ refuse z (at + p) r f
+  unfolding entry colourBytes
+  record-stops (field-cut f l h few) t = fields-stop f l h t 2 0 0 (judged-cut s 2 (at + 2 * f) (compared i (hue w) f) few)
+  record-stops (difference f v l h small ne) t =
+      fields-stop f (be 2 v ++ l) h t 7 i f (λ u. judged-refuses s bytes 2 (compared i (hue w) f) (at + 2 * f) v 7 i f small (tail-left s (at + 2 * f) (be 2 v) l u) (rw (ne-eqb v (fieldOf (hue w) f) ne)))
+  record-stops (wrong-name l z p d) t =
+      let c : Colour = hue w in
+      let ten : at + length (paint c) ≡ at + 10 = ap (λ (k : ℕ). at + k) (length-colour w (sized .four)) in
+      let one = twins-exact s bytes i c sized .reads at tt tt (tail-left s at (paint c) l t) in
+      let two : name 4 s (at + 10) ≡ refuse z (at + 10 + p) 0 0 = name-stops s (at + 10) d (tail-after s at (paint c) l (at + 10) ten t) in
+      let e : at + 10 + p ≡ at + (10 + p) = omega arith in
+      rw (one .1 ∙ ap (λ (k : ℕ). ok (one .0) k) ten) (rw two (ap (λ (k : ℕ). refuse z k 0 0) e))
