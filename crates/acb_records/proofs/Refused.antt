@@ -5,7 +5,7 @@ use mathlib.Core.List.{List, [], _∷_}
 use lib.Dec.{leb, ltb}
 use lib.ListN.{length}
 use Rattle.fields.specs.Reader.{limit}
-use Rattle.fields.specs.Faults.{firstOf, faults}
+use Rattle.fields.specs.Faults.{faults}
 use Rattle.fields.specs.Writing.{refused}
 use Rattle.fields.specs.Refusal.{Of, among}
 use Rattle.fields.proofs.Numbered.{Fault, no-fault, pick-fault, first-fault, faults-fault, body-fault, needs-refused, writes-refused}

@@ -9,7 +9,7 @@ use borrow.Author.Tests.{eq-eqb, ne-eqb, lt-ltb, le-ltb, ltb-true}
 use native.Mathlib.Omega.{arith}
 use native.Mathlib.Nat.{add-zero, sub-zero, mul-le-mul-right, div-mul-le-self, lt-div-mul-add}
 use Rattle.fields.specs.Reader.{pick}
-use Rattle.acb_show.specs.Pages.{is, none, shown, numbered, sampleFrom, sampleOf, records, absent, pageRange, dummies}
+use Rattle.acb_show.specs.Pages.{none, shown, numbered, sampleFrom, sampleOf, records, absent, pageRange, dummies}
 use Rattle.acb_show.specs.Answer.{Told, record-is, refused, pageOf}
 
 -- ---- of some records the one numbered k, or the last, or x where there is none

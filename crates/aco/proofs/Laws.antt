@@ -10,7 +10,7 @@ use borrow.Author.Tests.{eqb-true, eq-eqb, ltb-true, ltb-false, le-ltb}
 use native.Mathlib.Omega.{arith}
 use native.Mathlib.Nat.{zero-add}
 use Rattle.fields.specs.Numbers.{be, joined, Bytes, All}
-use Rattle.fields.specs.Reader.{pick, Judged, fine, fault, unless, judged, give, _>>=_, each}
+use Rattle.fields.specs.Reader.{pick, Judged, fine, judged, give, _>>=_, each}
 use Rattle.fields.specs.Text.{Name, name, nameBytes, Named}
 use Rattle.fields.specs.Algebra.{Lawful, Exact}
 use Rattle.fields.proofs.Lawful.{judged-lawful, give-lawful, bind-lawful, each-lawful, name-lawful}
@@ -19,7 +19,7 @@ use Rattle.colour.specs.declared.space.Colour.{Colour}
 use Rattle.colour.specs.Spaces.{uses, known, allowed}
 use Rattle.colour.proofs.Laws.{sample-by}
 use Rattle.aco.specs.Grammar.{Sample, Swatch, Space, rgb, hsb, cmyk, lab, gray, Allowed, colourBytes, entryBytes}
-use Rattle.aco.specs.Reading.{space, sample, samples, colour, heading, fieldOf, twin, Entry, entry, swatch, version, compared}
+use Rattle.aco.specs.Reading.{space, sample, samples, colour, heading, twin, Entry, entry, swatch, version, compared}
 use Rattle.aco.proofs.Fine.{space-fine, sample-fine, version-fine, compared-fine, fine-space, fine-sample, fine-version, fine-compared}
 
 -- ---- the reader's table of spaces and the grammar's

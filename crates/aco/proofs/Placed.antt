@@ -5,7 +5,7 @@ use mathlib.Core.List.{List}
 use lib.ListN.{length, getD}
 use lib.Dec.{leb, eqb}
 use native.Mathlib.Omega.{arith}
-use Rattle.fields.specs.Reader.{refuse, pick, Judged, fine, fault, unless, judged, each}
+use Rattle.fields.specs.Reader.{refuse, Judged, judged, each}
 use Rattle.fields.specs.Text.{name}
 use Rattle.fields.specs.Refusal.{Of, among, Placed, ends, Numbered}
 use Rattle.fields.proofs.Placed.{unless-numbered, differ-numbered, refusal-placed, placed-then, placed-pick, judged-placed, ended-placed, name-placed, each-placed, limited-placed}

@@ -4,12 +4,12 @@ use mathlib.Core.Path.{_≡_, refl, sym, ap, _∙_, subst, subst₂}
 use mathlib.Core.List.{List, map}
 use mathlib.Core.Logic.{_⊎_, inl, inr}
 use mathlib.Core.Bool.{Bool, true, false}
-use lib.Dec.{leb, eqb}
+use lib.Dec.{leb}
 use lib.ListN.{length, getD, List·getD-map}
 use native.Mathlib.Omega.{arith}
 use native.Mathlib.Nat.{zero-add}
 use Rattle.fields.specs.Numbers.{num, nums, Bytes, All}
-use Rattle.fields.specs.Reader.{Res, ok, refuse, pick, fine, fault, each, numberOf, limit}
+use Rattle.fields.specs.Reader.{Res, ok, refuse, pick, each, numberOf, limit}
 use Rattle.fields.proofs.Places.{length-nums, at-whole}
 use Rattle.fields.proofs.Inverse.{clash, each-length, ok-value}
 use Rattle.fields.proofs.Exact.{length-map}

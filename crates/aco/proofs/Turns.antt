@@ -1,7 +1,7 @@
 -- What is refused in each turn of a heading, a colour and a record: a damaged one, by its number and at its place. Assumes nothing.
 use Prim.Native.Nat.{ℕ, _+_, _*_, _^_, _≤_, _<_}
 use mathlib.Core.Path.{_≡_, refl, sym, ap, _∙_, subst, subst₂}
-use mathlib.Core.List.{List, _∷_, _++_, append-assoc}
+use mathlib.Core.List.{List, _++_, append-assoc}
 use mathlib.Core.Bool.{Bool, true, false}
 use lib.ListN.{length, getD, take}
 use lib.Seq.{length-take-le, getD-take}
@@ -9,7 +9,7 @@ use borrow.Author.Tests.{ne-eqb}
 use native.Mathlib.Omega.{arith}
 use native.Mathlib.Nat.{add-zero, zero-add}
 use Rattle.fields.specs.Numbers.{be, joined, Bytes, All}
-use Rattle.fields.specs.Reader.{ok, refuse, then, Judged, fine, fault, judged, each}
+use Rattle.fields.specs.Reader.{ok, refuse, Judged, fine, fault, judged, each}
 use Rattle.fields.specs.Text.{name}
 use Rattle.fields.proofs.Places.{length-be, length-bes}
 use Rattle.fields.proofs.Exact.{all-map, all-from, all-at, all-by, judged-exact}

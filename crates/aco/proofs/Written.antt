@@ -2,14 +2,13 @@
 use Prim.Native.Nat.{ℕ, zero, suc, _+_, _-_, _^_, _≤_, _<_}
 use mathlib.Core.Path.{_≡_, refl, sym, ap, ap₂, _∙_, subst, subst₂}
 use mathlib.Core.List.{List, [], _∷_, _++_, map, append-nil}
-use mathlib.Core.Bool.{Bool}
-use lib.Dec.{leb, eqb}
+use lib.Dec.{leb}
 use lib.ListN.{length, getD, length-append}
 use borrow.Author.Tests.{eq-eqb, ne-eqb}
 use native.Mathlib.Omega.{arith}
 use native.Mathlib.Nat.{zero-add}
 use Rattle.fields.specs.Numbers.{num, nums, be, joined, At, Bytes, All}
-use Rattle.fields.specs.Reader.{ok, then, pick, rule, Judged, fine, fault, unless, judged, give, _>>=_, each, ended}
+use Rattle.fields.specs.Reader.{ok, then, pick, rule, Judged, judged, give, _>>=_, each, ended}
 use Rattle.fields.specs.Text.{name, nameBytes}
 use Rattle.fields.specs.Faults.{firstOf, faults, faultsFrom}
 use Rattle.fields.specs.Algebra.{Tells}
@@ -21,7 +20,7 @@ use Rattle.fields.proofs.Tells.{Outcome, good, outcome-fault, outcome-then, out
 use Rattle.colour.specs.declared.space.Colour.{Colour}
 use Rattle.colour.specs.Spaces.{known, allowed}
 use Rattle.aco.specs.Grammar.{Swatch, colourBytes, entryBytes, listOne, listTwo, twoLists}
-use Rattle.aco.specs.Reading.{most, space, sample, samples, colour, heading, entry, black, second, after, lists, version, firstCount, secondCount}
+use Rattle.aco.specs.Reading.{space, sample, samples, colour, heading, entry, black, second, after, lists, version, firstCount, secondCount}
 use Rattle.aco.specs.Faults.{sampleFault, fieldsFault, colourFault, nameFault, paletteFault, Fits}
 use Rattle.aco.proofs.Fine.{version-fine, second-fine}
 use Rattle.aco.proofs.Raw.{colour-inv}

@@ -10,10 +10,9 @@ use Rattle.fields.specs.Numbers.{num, nums}
 use Rattle.fields.specs.Reader.{field, orZero, limit}
 use Rattle.fields.proofs.Laws.{field-in}
 use Rattle.colour.specs.declared.space.Colour.{Colour}
-use Rattle.aco.specs.Reading.{Entry, black, unnamed, lists, aco}
+use Rattle.aco.specs.Reading.{Entry, black, unnamed, aco}
 use Rattle.aco.specs.Raw.{rawColour}
 use Rattle.aco.specs.Places.{entryPlace}
-use Rattle.aco_judge.specs.Answer.{accepted}
 use Rattle.aco.proofs.Inverse.{aco-inv}
 use Rattle.aco.proofs.RoundTrip.{records-count, one-list, one-record, Placed, records-place}
 use Rattle.aco_read.specs.Table.{row, numbers, Where, lies, refusal, swatchOf, recordAt, recordsOf, Accepted}

@@ -2,11 +2,10 @@
 use Prim.Native.Nat.{ℕ}
 use mathlib.Core.Path.{_≡_, refl}
 use mathlib.Core.List.{List, map, [], _∷_}
-use mathlib.Core.Bool.{Bool}
 use lib.Dec.{leb}
 use lib.ListN.{length}
 use Rattle.fields.specs.Reader.{limit}
-use Rattle.fields.specs.Faults.{firstOf, faults, faultsFrom}
+use Rattle.fields.specs.Faults.{faults}
 use Rattle.fields.specs.Writing.{refused}
 use Rattle.fields.specs.Refusal.{Of, among}
 use Rattle.fields.proofs.Numbered.{Fault, no-fault, pick-fault, first-fault, faults-fault, from-fault, text-fault, needs-refused, writes-refused}

@@ -1,5 +1,5 @@
 -- Writing records of a run of numbers: what is judged first, and the bytes that are made.
-use Prim.Native.Nat.{ℕ, zero, _+_, _*_, _/_}
+use Prim.Native.Nat.{ℕ, _+_, _*_, _/_}
 use mathlib.Core.List.{List, [], _∷_, map}
 use lib.ListN.{length, getD}
 use lib.Dec.{leb}

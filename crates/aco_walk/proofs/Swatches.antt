@@ -10,7 +10,7 @@ use borrow.Author.Tests.{le-leb, eq-eqb, ne-eqb, ltb-true, ltb-false}
 use native.Mathlib.Omega.{arith}
 use native.Mathlib.Nat.{add-zero}
 use Rattle.fields.specs.Numbers.{num, nums}
-use Rattle.fields.specs.Reader.{ok, then, pick, Judged, fine, fault, each}
+use Rattle.fields.specs.Reader.{ok, then, pick, Judged, each}
 use Rattle.fields.specs.Text.{name}
 use Rattle.fields.proofs.Laws.{field-in}
 use Rattle.fields.proofs.Places.{length-nums, getD-nums}

@@ -3,12 +3,11 @@ use Prim.Native.Nat.{ℕ, _+_, _*_, _-_, _≤_, _<_}
 use mathlib.Core.Path.{_≡_, refl, sym, ap, _∙_, subst}
 use mathlib.Core.List.{List, [], map}
 use mathlib.Core.Bool.{Bool, true, false}
-use lib.Dec.{eqb}
 use lib.ListN.{length, getD}
 use denote.Ref.{now}
 use native.Mathlib.Omega.{arith}
 use Rattle.fields.specs.Numbers.{nums}
-use Rattle.fields.specs.Reader.{Res, ok, refuse, then, pick, field, fine, fault}
+use Rattle.fields.specs.Reader.{Res, ok, refuse, then, pick, field}
 use Rattle.fields.specs.Store.{part}
 use Rattle.fields.specs.Text.{Name, name}
 use Rattle.fields.proofs.Inverse.{then-inv, name-inv, ok-value, ok-place}

@@ -4,20 +4,20 @@ use mathlib.Core.Path.{_≡_, refl, sym, ap, _∙_, subst}
 use mathlib.Core.List.{List, [], _∷_, _++_, append-assoc, append-nil}
 use mathlib.Core.Logic.{_⊎_, inl, inr}
 use mathlib.Core.Bool.{Bool, true, false, true≢false}
-use lib.ListN.{length, length-append}
+use lib.ListN.{length}
 use native.Mathlib.Omega.{arith}
 use native.Mathlib.Nat.{lt-of-not-le}
-use native.Mathlib.Decide.{ℕ-discrete, decLe}
+use native.Mathlib.Decide.{decLe}
 use Rattle.fields.specs.Numbers.{be, joined, Bytes, All}
 use Rattle.fields.specs.Text.{nameBytes, Named}
-use Rattle.fields.proofs.Places.{joined-append}
-use Rattle.fields.proofs.Exact.{all-both, all-left, all-from}
+use Rattle.fields.proofs.Exact.{all-from}
 use Rattle.colour.specs.Models.{isModel, channelsOf}
 use Rattle.colour.specs.Channels.{allowsBits}
 use Rattle.ase.specs.Grammar.{colour, payload, Model, Channel, Colour}
 use Rattle.ase.specs.Damaged.{DamagedName, count-cut, no-units, units-cut, unclosed, DamagedGroup, group-name, group-left, DamagedColour, colour-name, model-cut, wrong-model, channel-cut, wrong-channel, type-cut, wrong-type, colour-left, modelAt, channelAt}
 use Rattle.ase.proofs.Tables.{model-known, known-model, channel-allowed, allowed-channel}
-use Rattle.fields.proofs.Begins.{First, fewer, number, first, Row, shorter, numbers, row, Closed, closes, closed-or-open}
+use Rattle.fields.proofs.Begins.{First, fewer, number, first}
+use Rattle.fields.proofs.Names.{NameFirst, count-short, count-zero, units-short, units-open, name-whole, name-first}
 
 -- ---- a name
 
@@ -25,31 +25,15 @@ pub data NameOr : List ℕ → Type 0 where
   bad-name : {l : List ℕ} (z p : ℕ) → DamagedName l z p → NameOr l
   good-name : (us l : List ℕ) → Named 2 us → Bytes l → NameOr (nameBytes 2 us ++ l)
 
-closed-name : (us l : List ℕ) → length us < 256 ^ 2 → All (λ k u. u < 256 ^ 2) 0 us → Bytes l → Closed us → NameOr (be 2 (length us) ++ (joined (be 2) us ++ l))
-unfolding nameBytes joined
-closed-name us l small fit b (closes vs some) =
-    let n : length (vs ++ (0 ∷ [])) ≡ length vs + 1 = length-append vs (0 ∷ []) in
-    let e : joined (be 2) (vs ++ (0 ∷ [])) ≡ joined (be 2) vs ++ be 2 0 = joined-append (be 2) vs (0 ∷ []) ∙ ap (λ (y : List ℕ). joined (be 2) vs ++ y) (append-nil (be 2 0)) in
-    let m : nameBytes 2 vs ++ l ≡ be 2 (length (vs ++ (0 ∷ []))) ++ (joined (be 2) (vs ++ (0 ∷ [])) ++ l) = rw n (rw e (simp append-assoc)) in
-    subst NameOr m (good-name vs l (record { counted = omega arith; units = all-both (λ k u. 0 < u) (λ k u. u < 256 ^ 2) 0 vs some (all-left (λ u. u < 256 ^ 2) 0 vs (0 ∷ []) fit) }) b)
-
-units-or : (n : ℕ) {l : List ℕ} → n < 256 ^ 2 → 0 < n → Row 2 n l → NameOr (be 2 n ++ l)
-units-or n small some (shorter l few) = bad-name 13 2 (units-cut n l some small (omega arith))
-units-or n small some (numbers [] x e fit b) = absurd (omega arith)
-units-or n small some (numbers (u ∷ us) x e fit b) = subst (λ (k : ℕ). NameOr (be 2 k ++ (joined (be 2) (u ∷ us) ++ x))) e (elim (closed-or-open u us) [
-  | inl c ↦ closed-name (u ∷ us) x (omega arith) fit b c
-  | inr o ↦ bad-name 8 6 (unclosed (u ∷ us) x (omega arith) fit o)
-])
-
-name-by : {l : List ℕ} → First 2 l → NameOr l
-name-by (fewer l h) = bad-name 13 2 (count-cut l h)
-name-by (number n l small b) = elim (ℕ-discrete n 0) [
-  | yes e ↦ subst (λ (k : ℕ). NameOr (be 2 k ++ l)) (sym e) (bad-name 8 6 (no-units l))
-  | no e ↦ units-or n small (omega arith) (row 2 n l b)
-]
+name-by : {l : List ℕ} → NameFirst 2 l → NameOr l
+name-by (count-short l h) = bad-name 13 2 (count-cut l h)
+name-by (count-zero l) = bad-name 8 6 (no-units l)
+name-by (units-short n l some small few) = bad-name 13 2 (units-cut n l some small (omega arith))
+name-by (units-open us l small fit o) = bad-name 8 6 (unclosed us l small fit o)
+name-by (name-whole us l nm b) = good-name us l nm b
 
 pub name-or : (l : List ℕ) → Bytes l → NameOr l
-name-or l b = name-by (first 2 l b)
+name-or l b = name-by (name-first 2 l b)
 
 -- ---- a group start's content
 

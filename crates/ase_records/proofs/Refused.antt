@@ -4,7 +4,7 @@ use mathlib.Core.Path.{_≡_, refl}
 use mathlib.Core.List.{List, map, [], _∷_}
 use lib.Dec.{leb, ltb, eqb}
 use Rattle.fields.specs.Reader.{limit, stateAfter}
-use Rattle.fields.specs.Faults.{firstOf, faultsFrom, faultsIn}
+use Rattle.fields.specs.Faults.{faultsIn}
 use Rattle.fields.specs.Writing.{refused}
 use Rattle.fields.specs.Refusal.{Of, among}
 use Rattle.fields.proofs.Numbered.{Fault, no-fault, pick-fault, first-fault, from-fault, in-fault, text-fault, needs-refused, writes-refused}

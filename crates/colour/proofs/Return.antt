@@ -1,6 +1,6 @@
 -- Every sample comes back from its channel. Assumes nothing.
 use mathlib.Core.Path.{_≡_, refl, sym, ap, _∙_, subst}
-use Prim.Native.Nat.{ℕ, _+_, _-_, _*_, _/_, _^_, _≤_, _<_, zero-le}
+use Prim.Native.Nat.{ℕ, _+_, _-_, _*_, _^_, _≤_, _<_, zero-le}
 use native.Mathlib.Nat.{le-trans, le-of-eq, le-of-lt, lt-of-lt-of-le, add-mul, mul-comm, mul-assoc, mul-left-comm, mul-mul-mul-comm, mul-pos, le-antisymm, le-of-suc-le-suc, div-lt-iff-lt-mul, le-div-iff-mul-le, suc-mul}
 use native.Mathlib.Omega.{arith}
 use mathlib.Core.Bool.{false}

@@ -8,7 +8,7 @@ use Rattle.fields.specs.Refusal.{among}
 use Rattle.fields.specs.Sets.{Number, Seq, Counted}
 use Rattle.fields.proofs.Places.{length-be, bytes-append}
 use Rattle.descriptor.specs.Reading.{Row}
-use Rattle.descriptor_tree.specs.Grammar.{IdBody, Id, Units, Class, Measure, Leaf, Form, ArrayMeasure, UnitDoubles}
+use Rattle.descriptor_tree.specs.Grammar.{IdBody, Id, Units, Class, Leaf, Form, UnitDoubles}
 use Rattle.descriptor_tree.specs.Tree.{Members, none, one, Descriptor, bytes, rootHead, fileBytes, memberHeads, fileHeads, rows, fileRows, Place, Item, Member, Allowed, File, file}
 
 -- the ID `a`, and a class without a name that has it

@@ -12,7 +12,7 @@ use Rattle.fields.proofs.Inverse.{clash, then-inv, ok-value, ok-place}
 use Rattle.descriptor.specs.Reading.{Known, is, unknown, known, id, class, flag, double, enumerated, run, unicode, unitDouble, skip, Sort, leaf, list, object, reference, array, types, sortOf, forms, formOf, Row, headed, plain, siblings, children, refValue, refItem, arrayPair, item, pair, beside}
 use Rattle.fields.specs.Refusal.{among}
 use Rattle.fields.specs.Sets.{Size, Seq, number, counted}
-use Rattle.descriptor_tree.specs.Grammar.{Class, Leaf, Form, IdBody, Id, Units, Text, Raw, Double, Measure}
+use Rattle.descriptor_tree.specs.Grammar.{Class, Leaf, Form, IdBody, Id, Units, Text, Raw, Double}
 use Rattle.fields.specs.Sets.Seq.{seq}
 use Rattle.descriptor_tree.specs.Tree.{Place, Item}
 use Rattle.fields.proofs.Sets.{Sound, sound-in, Stands, field-numbers, number-whole, number-sound}

@@ -5,11 +5,11 @@ use mathlib.Core.List.{List, [], _∷_}
 use mathlib.Core.Bool.{Bool, true, false}
 use lib.Dec.{leb}
 use lib.ListN.{length, getD}
-use borrow.Author.Tests.{le-leb, lt-leb, leb-true, leb-false}
+use borrow.Author.Tests.{leb-true, leb-false}
 use native.Mathlib.Omega.{arith}
-use native.Mathlib.Nat.{add-assoc, suc-mul}
+use native.Mathlib.Nat.{suc-mul}
 use Rattle.fields.specs.Numbers.{num}
-use Rattle.fields.specs.Reader.{Res, ok, refuse, Reader, then, pick, rule, field, shift, Judged, fine, fault, judged, give, _>>=_, each}
+use Rattle.fields.specs.Reader.{Res, ok, refuse, Reader, then, rule, field, shift, Judged, fine, fault, judged, give, _>>=_, each}
 use Rattle.fields.proofs.Inverse.{judged-inv, clash, ok-place}
 use Rattle.fields.proofs.Laws.{field-in, field-short}
 

@@ -1,5 +1,5 @@
 -- A writer's fault is none, or one of some numbers: each combinator of faults; and so is what it answers. Assumes nothing.
-use Prim.Native.Nat.{ℕ, zero, suc, _+_, _-_, _*_}
+use Prim.Native.Nat.{ℕ, _+_, _-_, _*_}
 use mathlib.Core.Path.{_≡_, refl, sym, ap, subst}
 use mathlib.Core.List.{List, [], _∷_, _++_}
 use mathlib.Core.Bool.{Bool, true, false, not}
@@ -7,7 +7,7 @@ use lib.Dec.{leb, eqb}
 use lib.ListN.{length, drop}
 use native.Mathlib.Omega.{arith}
 use Rattle.fields.specs.Numbers.{nums}
-use Rattle.fields.specs.Reader.{Res, ok, refuse, then, pick, body, unless, rule, numberOf}
+use Rattle.fields.specs.Reader.{ok, refuse, then, pick, body, unless, rule, numberOf}
 use Rattle.fields.specs.Text.{anyZero, text}
 use Rattle.fields.specs.Faults.{firstOf, faults, faultsFrom, faultsIn}
 use Rattle.fields.specs.Writing.{Outcome, bytes, refused, needs, writes}

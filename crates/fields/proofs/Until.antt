@@ -4,7 +4,6 @@ use mathlib.Core.Path.{_≡_, refl, sym, ap, ap₂, _∙_, subst, subst₂}
 use mathlib.Core.List.{List, [], _∷_, _++_, map}
 use mathlib.Core.Bool.{Bool, true, false}
 use lib.ListN.{length, length-append}
-use lib.Dec.{eqb}
 use borrow.Author.Tests.{ne-eqb}
 use native.Mathlib.Omega.{arith}
 use native.Mathlib.Nat.{add-zero}
@@ -19,7 +18,7 @@ use Rattle.fields.proofs.Inverse.{then-inv, ok-value, ok-place}
 use Rattle.fields.proofs.Lawful.{same-left, same-right}
 use Rattle.fields.proofs.Placed.{placed-then, placed-pick}
 use Rattle.fields.proofs.Cuts.{step-cut}
-use Rattle.fields.proofs.Tells.{Outcome, good, outcome-fault, outcome-then, tells, outcome, Gives, first-zero}
+use Rattle.fields.proofs.Tells.{Outcome, good, outcome-fault, outcome-then, outcome, Gives, first-zero}
 
 -- the test does not stop before any of the values bs, whose bytes stand from `at`
 abbrev pub Going : {B S : Type 0} → Test S → (S → B → S) → (B → List ℕ) → List ℕ → S → ℕ → List B → Type 0

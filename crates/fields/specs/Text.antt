@@ -1,5 +1,5 @@
 -- Names: counted text units with a closing zero.
-use Prim.Native.Nat.{ℕ, zero, _+_, _^_, _<_}
+use Prim.Native.Nat.{ℕ, _+_, _^_, _<_}
 use mathlib.Core.List.{List, [], _∷_, _++_}
 use mathlib.Core.Bool.{Bool, true, false, not}
 use lib.ListN.{length}
