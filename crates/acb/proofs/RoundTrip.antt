@@ -133,7 +133,7 @@ module _ (b : Book) (f : BookFits b) (short : length (fileBytes b) ≤ limit) wh
       numbers-number (subst (λ (k : ℕ). DamagedNumbers (be 2 n ++ (be 2 k ++ l)) 5 2) (sym e) (size-zero n l (f .count)))
 
   space-number : 0 < b .size → isSpace (b .space) ≡ false → numberOf (acb s) ≡ 4
-  space-number some unknown = numbers-number (wrong-space (length (b .colours)) (b .size) (b .offset) (b .space) rest (f .count) some (f .size) (f .offset) (f .space) (unknown-space (b .space) unknown))
+  space-number some unknown = numbers-number (wrong-space (length (b .colours)) (b .size) (b .offset) (b .space) rest (record { count = f .count; some = some; size = f .size }) (f .offset) (f .space) (unknown-space (b .space) unknown))
 
   other-number : (v : ℕ) → b .tag ≡ other v → Unknown v → ltb 0 (b .size) ≡ true → isSpace (b .space) ≡ true → numberOf (acb s) ≡ 3
   other-number v e u z x =

@@ -12,7 +12,7 @@ use Rattle.fields.proofs.Exact.{all-map, all-from}
 use Rattle.fields.proofs.Begins.{First, fewer, number, first, Row, shorter, numbers, row}
 use Rattle.acb.specs.Grammar.{Colour, Tag, none, spot, process, tagged, Unknown, Book, Space, String, Octets, Swatch, Allowed, File, file, stringBytes, colourBytes, tagBytes, headBytes, fileBytes}
 use Rattle.acb.specs.Reading.{isSpace, componentsOf}
-use Rattle.acb.specs.Damaged.{signature-cut, wrong-signature, version-cut, wrong-version, identifier-cut, CutString, count-cut, units-cut, DamagedNumbers, colours-cut, size-cut, size-zero, offset-cut, space-cut, wrong-space, CutColour, name-cut, code-cut, component-cut, DamagedEnd, tag-cut, wrong-tag, left-over, opened, stringsEnd, counting, ending, tagAt, Damaged, wrong-opening, string-cut, wrong-numbers, record-cut, wrong-end}
+use Rattle.acb.specs.Damaged.{Paged, signature-cut, wrong-signature, version-cut, wrong-version, identifier-cut, CutString, count-cut, units-cut, DamagedNumbers, colours-cut, size-cut, size-zero, offset-cut, space-cut, wrong-space, CutColour, name-cut, code-cut, component-cut, DamagedEnd, tag-cut, wrong-tag, left-over, opened, stringsEnd, counting, ending, tagAt, Damaged, wrong-opening, string-cut, wrong-numbers, record-cut, wrong-end}
 use Rattle.acb.proofs.Laws.{space-is, is-space}
 
 -- ---- n parts of one kind, of which the first that is not there is cut
@@ -91,26 +91,26 @@ module _ (n : ℕ) where
 
 data NumbersOr : List ℕ → Type 0 where
   bad-numbers : {l : List ℕ} (z p : ℕ) → DamagedNumbers l z p → NumbersOr l
-  good-numbers : (n z o v m : ℕ) (l : List ℕ) → n < 256 ^ 2 → (0 < z) × (z < 256 ^ 2) → o < 256 ^ 2 → Space v m → Bytes l → NumbersOr (be 2 n ++ (be 2 z ++ (be 2 o ++ (be 2 v ++ l))))
+  good-numbers : (n z o v m : ℕ) (l : List ℕ) → Paged n z → o < 256 ^ 2 → Space v m → Bytes l → NumbersOr (be 2 n ++ (be 2 z ++ (be 2 o ++ (be 2 v ++ l))))
 
 module _ (n : ℕ) (fn : n < 256 ^ 2) where
-  space-by : (z o : ℕ) → 0 < z → z < 256 ^ 2 → o < 256 ^ 2 → {l : List ℕ} → First 2 l → NumbersOr (be 2 n ++ (be 2 z ++ (be 2 o ++ l)))
-  space-by z o some fz fo (fewer l h) = bad-numbers 2 6 (space-cut n z o l fn some fz fo h)
-  space-by z o some fz fo (number v l fv b) = go (isSpace v) refl
+  space-by : (z o : ℕ) → Paged n z → o < 256 ^ 2 → {l : List ℕ} → First 2 l → NumbersOr (be 2 n ++ (be 2 z ++ (be 2 o ++ l)))
+  space-by z o paged fo (fewer l h) = bad-numbers 2 6 (space-cut n z o l paged fo h)
+  space-by z o paged fo (number v l fv b) = go (isSpace v) refl
     where
       go : (k : Bool) → isSpace v ≡ k → NumbersOr (be 2 n ++ (be 2 z ++ (be 2 o ++ (be 2 v ++ l))))
-      go true e = good-numbers n z o v (componentsOf v) l fn (some, fz) fo (is-space v e) b
-      go false e = bad-numbers 4 6 (wrong-space n z o v l fn some fz fo fv (λ m sp. true≢false (sym (space-is sp) ∙ e)))
+      go true e = good-numbers n z o v (componentsOf v) l paged fo (is-space v e) b
+      go false e = bad-numbers 4 6 (wrong-space n z o v l paged fo fv (λ m sp. true≢false (sym (space-is sp) ∙ e)))
 
-  offset-by : (z : ℕ) → 0 < z → z < 256 ^ 2 → {l : List ℕ} → First 2 l → NumbersOr (be 2 n ++ (be 2 z ++ l))
-  offset-by z some fz (fewer l h) = bad-numbers 2 4 (offset-cut n z l fn some fz h)
-  offset-by z some fz (number o l fo b) = space-by z o some fz fo (first 2 l b)
+  offset-by : (z : ℕ) → Paged n z → {l : List ℕ} → First 2 l → NumbersOr (be 2 n ++ (be 2 z ++ l))
+  offset-by z paged (fewer l h) = bad-numbers 2 4 (offset-cut n z l paged h)
+  offset-by z paged (number o l fo b) = space-by z o paged fo (first 2 l b)
 
   size-by : {l : List ℕ} → First 2 l → NumbersOr (be 2 n ++ l)
   size-by (fewer l h) = bad-numbers 2 2 (size-cut n l fn h)
   size-by (number z l fz b) = elim (ℕ-discrete z 0) [
     | yes e ↦ subst (λ (k : ℕ). NumbersOr (be 2 n ++ (be 2 k ++ l))) (sym e) (bad-numbers 5 2 (size-zero n l fn))
-    | no e ↦ offset-by z (omega arith) fz (first 2 l b)
+    | no e ↦ offset-by z (record { count = fn; some = omega arith; size = fz }) (first 2 l b)
   ]
 
 numbers-by : {l : List ℕ} → First 2 l → NumbersOr l
@@ -180,24 +180,24 @@ module _ (i : ℕ) (ts : List (List ℕ)) (fi : i < 256 ^ 2) (four : length ts �
   abbrev made : ℕ → ℕ → ℕ → List Colour → Book
   made z o v cs = record { identifier = i; texts = ts; size = z; offset = o; space = v; colours = cs; tag = tagged none }
 
-  sound : (z o v m : ℕ) (cs : List Colour) → (0 < z) × (z < 256 ^ 2) → o < 256 ^ 2 → Space v m → length cs < 256 ^ 2 → All (λ k c. Swatch m c) 0 cs → Allowed (made z o v cs)
-  sound z o v m cs fz fo sp few ok = record { identifier = fi; four = four; texts = texts; count = few; size = fz; offset = fo; components = m; space = sp; colours = ok; ends = none; tag = refl }
+  sound : (n z o v m : ℕ) (cs : List Colour) → Paged n z → o < 256 ^ 2 → Space v m → length cs ≤ n → All (λ k c. Swatch m c) 0 cs → Allowed (made z o v cs)
+  sound n z o v m cs h fo sp few ok = record { identifier = fi; four = four; texts = texts; count = omega (arith, h .count); size = (h .some, h .size); offset = fo; components = m; space = sp; colours = ok; ends = none; tag = refl }
 
   abbrev headed : ℕ → ℕ → ℕ → ℕ → List ℕ → List ℕ
   headed n z o v l = opened i ts (be 2 n ++ (be 2 z ++ (be 2 o ++ (be 2 v ++ l))))
 
-  records-by : (n z o v m : ℕ) → n < 256 ^ 2 → (0 < z) × (z < 256 ^ 2) → o < 256 ^ 2 → Space v m → {l : List ℕ} → PartsOr (Swatch m) colourBytes (CutColour m) n l → Short (headed n z o v l) → FileOr (headed n z o v l)
+  records-by : (n z o v m : ℕ) → Paged n z → o < 256 ^ 2 → Space v m → {l : List ℕ} → PartsOr (Swatch m) colourBytes (CutColour m) n l → Short (headed n z o v l) → FileOr (headed n z o v l)
   unfolding counting opened ending headBytes sound
-  records-by n z o v m fn fz fo sp (bad-parts before l p few ok d) fits =
+  records-by n z o v m h fo sp (bad-parts before l p few ok d) fits =
       let b : Book = made z o v before in
-      is-damaged 2 (tagAt b + p) (record-cut n b l p (sound z o v m before fz fo sp (omega arith) ok) fn few d)
-  records-by n z o v m fn fz fo sp (good-parts cs l all ok b) fits =
+      is-damaged 2 (tagAt b + p) (record-cut n b l p (sound n z o v m before h fo sp (omega arith) ok) (h .count) few d)
+  records-by n z o v m h fo sp (good-parts cs l all ok b) fits =
       let e : ending (made z o v cs) l ≡ headed n z o v (joined colourBytes cs ++ l) = simp append-assoc (ap (λ (k : ℕ). headed k z o v (joined colourBytes cs ++ l)) all) in
-      subst FileOr e (end-by (made z o v cs) (sound z o v m cs fz fo sp (omega arith) ok) (end-or l b) (subst Short (sym e) fits))
+      subst FileOr e (end-by (made z o v cs) (sound n z o v m cs h fo sp (omega arith) ok) (end-or l b) (subst Short (sym e) fits))
 
   header-by : {l : List ℕ} → NumbersOr l → Short (opened i ts l) → FileOr (opened i ts l)
   header-by (bad-numbers {l} z p d) fits = is-damaged z (stringsEnd ts + p) (wrong-numbers i ts l z p fi four texts d)
-  header-by (good-numbers n z o v m l fn fz fo sp b) fits = records-by n z o v m fn fz fo sp (parts-or (Swatch m) colourBytes (CutColour m) (colour-or m) n l b) fits
+  header-by (good-numbers n z o v m l h fo sp b) fits = records-by n z o v m h fo sp (parts-or (Swatch m) colourBytes (CutColour m) (colour-or m) n l b) fits
 
 abbrev begun : ℕ → List ℕ → List ℕ
 begun i l = be 4 0x3842_4342 ++ (be 2 1 ++ (be 2 i ++ l))

@@ -109,18 +109,18 @@ module _ (s : List ℕ) where
     numbers-stop (colours-cut l few) t = rw (field-cut s 2 at few t) (here 2 at)
     numbers-stop (size-cut n l fn few) t = let a = counted n l fn t in rw (a .0) (rw (judged-cut s 2 (at + 2) pageSize few (a .1)))
     numbers-stop (size-zero n l fn) t = let a = counted n (be 2 0 ++ l) fn t in rw (a .0) (rw (judged-wrong s 2 (at + 2) pageSize 5 0 (omega arith) no-page (tail-left s (at + 2) (be 2 0) l (a .1))))
-    numbers-stop (offset-cut n z l fn some fz few) t =
-        let a = counted n (be 2 z ++ l) fn t in
-        let b = sized z l some fz (a .1) in
+    numbers-stop (offset-cut n z l h few) t =
+        let a = counted n (be 2 z ++ l) (h .count) t in
+        let b = sized z l (h .some) (h .size) (a .1) in
         rw (a .0) (rw (b .0) (rw (field-cut s 2 (at + 4) few (b .1))))
-    numbers-stop (space-cut n z o l fn some fz fo few) t =
-        let a = counted n (be 2 z ++ (be 2 o ++ l)) fn t in
-        let b = sized z (be 2 o ++ l) some fz (a .1) in
+    numbers-stop (space-cut n z o l h fo few) t =
+        let a = counted n (be 2 z ++ (be 2 o ++ l)) (h .count) t in
+        let b = sized z (be 2 o ++ l) (h .some) (h .size) (a .1) in
         let c = offset o l fo (b .1) in
         rw (a .0) (rw (b .0) (rw (c .0) (rw (judged-cut s 2 (at + 6) space few (c .1)))))
-    numbers-stop (wrong-space n z o v l fn some fz fo fv out) t =
-        let a = counted n (be 2 z ++ (be 2 o ++ (be 2 v ++ l))) fn t in
-        let b = sized z (be 2 o ++ (be 2 v ++ l)) some fz (a .1) in
+    numbers-stop (wrong-space n z o v l h fo fv out) t =
+        let a = counted n (be 2 z ++ (be 2 o ++ (be 2 v ++ l))) (h .count) t in
+        let b = sized z (be 2 o ++ (be 2 v ++ l)) (h .some) (h .size) (a .1) in
         let c = offset o (be 2 v ++ l) fo (b .1) in
         rw (a .0) (rw (b .0) (rw (c .0) (rw (judged-wrong s 2 (at + 6) space 4 v fv (other-space v out) (tail-left s (at + 6) (be 2 v) l (c .1))))))
 

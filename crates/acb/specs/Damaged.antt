@@ -22,14 +22,20 @@ pub data CutString : List ℕ → ℕ → Type 0 where
   count-cut : (l : List ℕ) → length l < 4 → CutString l 0
   units-cut : (n : ℕ) (l : List ℕ) → n < 256 ^ 4 → length l < 2 * n → CutString (be 4 n ++ l) 4
 
+-- what stands before the page offset: a colour count, and a page size that is not 0
+pub record Paged (n z : ℕ) : Type 0 where
+  pub count : n < 256 ^ 2
+  pub some : 0 < z
+  pub size : z < 256 ^ 2
+
 -- colour count, page size, page offset, space
 pub data DamagedNumbers : List ℕ → ℕ → ℕ → Type 0 where
   colours-cut : (l : List ℕ) → length l < 2 → DamagedNumbers l 2 0
   size-cut : (n : ℕ) (l : List ℕ) → n < 256 ^ 2 → length l < 2 → DamagedNumbers (be 2 n ++ l) 2 2
   size-zero : (n : ℕ) (l : List ℕ) → n < 256 ^ 2 → DamagedNumbers (be 2 n ++ (be 2 0 ++ l)) 5 2
-  offset-cut : (n z : ℕ) (l : List ℕ) → n < 256 ^ 2 → 0 < z → z < 256 ^ 2 → length l < 2 → DamagedNumbers (be 2 n ++ (be 2 z ++ l)) 2 4
-  space-cut : (n z o : ℕ) (l : List ℕ) → n < 256 ^ 2 → 0 < z → z < 256 ^ 2 → o < 256 ^ 2 → length l < 2 → DamagedNumbers (be 2 n ++ (be 2 z ++ (be 2 o ++ l))) 2 6
-  wrong-space : (n z o v : ℕ) (l : List ℕ) → n < 256 ^ 2 → 0 < z → z < 256 ^ 2 → o < 256 ^ 2 → v < 256 ^ 2 → ((m : ℕ) → Space v m → ⊥) → DamagedNumbers (be 2 n ++ (be 2 z ++ (be 2 o ++ (be 2 v ++ l)))) 4 6
+  offset-cut : (n z : ℕ) (l : List ℕ) → Paged n z → length l < 2 → DamagedNumbers (be 2 n ++ (be 2 z ++ l)) 2 4
+  space-cut : (n z o : ℕ) (l : List ℕ) → Paged n z → o < 256 ^ 2 → length l < 2 → DamagedNumbers (be 2 n ++ (be 2 z ++ (be 2 o ++ l))) 2 6
+  wrong-space : (n z o v : ℕ) (l : List ℕ) → Paged n z → o < 256 ^ 2 → v < 256 ^ 2 → ((m : ℕ) → Space v m → ⊥) → DamagedNumbers (be 2 n ++ (be 2 z ++ (be 2 o ++ (be 2 v ++ l)))) 4 6
 
 -- a record of n components is never wrong either
 pub data CutColour (n : ℕ) : List ℕ → ℕ → Type 0 where
