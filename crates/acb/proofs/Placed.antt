@@ -3,16 +3,13 @@ use Prim.Native.Nat.{ℕ, _≤_}
 use mathlib.Core.Path.{_≡_, refl}
 use mathlib.Core.List.{List}
 use lib.ListN.{length}
-use lib.Dec.{ltb, eqb}
+use lib.Dec.{leb, ltb, eqb}
 use native.Mathlib.Omega.{arith}
-use Rattle.fields.specs.Reader.{refuse, field, body, Judged, unless, judged, each}
-use Rattle.fields.specs.Refusal.{Of, among, Placed, ends}
-use Rattle.fields.proofs.Placed.{unless-numbered, refusal-placed, placed-then, placed-pick, field-placed, body-placed, judged-placed, ended-placed, each-placed, limited-placed}
-use Rattle.acb.specs.Reading.{string, colour, isSpace, componentsOf, pageSize, space, opening, strings, numbers, header, isTag, tagOf, closing, book, acb}
+use Rattle.fields.specs.Reader.{refuse, field, body, judged, each, limit}
+use Rattle.fields.specs.Refusal.{Of, among, Placed, ends, fails}
+use Rattle.fields.proofs.Placed.{unless-numbered, refusal-placed, placed-then, placed-pick, field-placed, body-placed, judged-placed, ended-placed, each-placed}
+use Rattle.acb.specs.Reading.{string, colour, isSpace, componentsOf, pageSize, space, signature, version, opening, strings, numbers, header, isTag, tagOf, tag, closing, book, acb}
 use Rattle.acb.specs.Refusals.{refusals}
-
-three : Of refusals 3
-three = among refl
 
 module _ {s : List ℕ} where
   string-placed : (at : ℕ) → at ≤ length s → Placed refusals s (string s at)
@@ -29,10 +26,8 @@ module _ {s : List ℕ} where
   opening-placed : (at : ℕ) → at ≤ length s → Placed refusals s (opening s at)
   unfolding opening
   opening-placed at l =
-      let i : ℕ → Judged = λ x. unless (eqb x 0x3842_4342) 3 in
-      let j : ℕ → Judged = λ v. unless (eqb v 1) 3 in
-      placed-then (judged 4 i s at) _ (judged-placed (among refl) 4 i at (λ x. unless-numbered (eqb x 0x3842_4342) three) l)
-      (λ x q h. placed-then (judged 2 j s q) _ (judged-placed (among refl) 2 j q (λ v. unless-numbered (eqb v 1) three) h) (λ v e g. field-placed (among refl) 2 e g))
+      placed-then (judged 4 signature s at) _ (judged-placed (among refl) 4 signature at (λ x. unless-numbered (eqb x 0x3842_4342) (among refl)) l)
+      (λ x q h. placed-then (judged 2 version s q) _ (judged-placed (among refl) 2 version q (λ v. unless-numbered (eqb v 1) (among refl)) h) (λ v e g. field-placed (among refl) 2 e g))
 
   numbers-placed : (at : ℕ) → at ≤ length s → Placed refusals s (numbers s at)
   unfolding numbers
@@ -52,9 +47,8 @@ module _ {s : List ℕ} where
   closing-placed : (at : ℕ) → at ≤ length s → Placed refusals s (closing s at)
   unfolding closing
   closing-placed at l =
-      let j : ℕ → Judged = λ t. unless (isTag t) 3 in
       placed-pick (eqb at (length s)) (ends l)
-      (placed-then (judged 8 j s at) _ (judged-placed (among refl) 8 j at (λ t. unless-numbered (isTag t) three) l) (λ t q h. ended-placed (among refl) (tagOf t) q h))
+      (placed-then (judged 8 tag s at) _ (judged-placed (among refl) 8 tag at (λ t. unless-numbered (isTag t) (among refl)) l) (λ t q h. ended-placed (among refl) (tagOf t) q h))
 
   book-placed : (at : ℕ) → at ≤ length s → Placed refusals s (book s at)
   unfolding book
@@ -66,4 +60,4 @@ module _ {s : List ℕ} where
 
 pub refused-placed : (s : List ℕ) {x p r f : ℕ} → acb s ≡ refuse x p r f → Of refusals x × (p ≤ length s)
 unfolding acb
-refused-placed s e = refusal-placed {s = s} (limited-placed (among refl) (book-placed 0 (omega arith))) e
+refused-placed s e = refusal-placed {s = s} (placed-pick (leb (length s) limit) (book-placed 0 (omega arith)) (fails (among refl) (omega arith))) e

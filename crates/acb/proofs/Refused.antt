@@ -1,129 +1,159 @@
 -- What is promised of damaged ACB files: by which number they are refused, and where. Assumes nothing.
-use Prim.Native.Nat.{ℕ, _+_, _-_, _^_, _≤_, _<_}
-use mathlib.Core.Path.{_≡_, refl, sym, ap, _∙_, subst}
+use Prim.Native.Nat.{ℕ, _+_, _^_, _≤_, _<_}
+use mathlib.Core.Path.{_≡_, refl, sym, ap, _∙_, subst, subst₂}
 use mathlib.Core.List.{List, _++_, append-assoc, append-nil}
 use lib.ListN.{length, take, length-append}
 use lib.Seq.{length-take-le, take-at}
-use borrow.Author.Tests.{le-leb}
+use borrow.Author.Tests.{le-leb, lt-leb}
 use native.Mathlib.Omega.{arith}
-use Rattle.fields.specs.Numbers.{be, joined, At, Bytes}
-use Rattle.fields.specs.Reader.{ok, refuse}
+use native.Mathlib.Nat.{zero-add}
+use Rattle.fields.specs.Numbers.{be, joined, At, Bytes, All}
+use Rattle.fields.specs.Reader.{ok, refuse, each}
 use Rattle.fields.specs.Cut.{notWhole, Stub}
-use Rattle.fields.proofs.Places.{length-be, at-left, at-after, at-whole, bytes-append, bytes-be, bytes-joined}
+use Rattle.fields.proofs.Places.{length-be, at-whole, bytes-append}
 use Rattle.fields.proofs.Cuts.{stub-take, bytes-take}
-use Rattle.acb.specs.Grammar.{none, Ending, tagged, Unknown, Book, Space, Allowed, File, file, stringBytes, colourBytes, tagBytes, endingBytes, headBytes, fileBytes}
-use Rattle.acb.specs.Reading.{Contents, closing, acb, bookOf}
+use Rattle.fields.proofs.Stops.{each-stops}
+use Rattle.fields.proofs.Tails.{Tail, tail-left, tail-after}
+use Rattle.acb.specs.Grammar.{Tag, none, spot, process, Ending, tagged, Book, String, Swatch, Allowed, File, file, stringBytes, colourBytes, tagBytes, endingBytes, headBytes, fileBytes}
+use Rattle.acb.specs.Reading.{string, colour, componentsOf, Numbers, opening, strings, numbers, header, Contents, closing, book, acb, bookOf}
 use Rattle.acb.specs.Widths.{headWidths, colourWidths, endingWidths, fileWidths}
-use Rattle.acb.specs.Damaged.{signed, versioned, sized, spaced, sizeAt, spaceAt, Begins, ending, tagAt, untagged}
-use Rattle.acb.proofs.Laws.{topBytes, short-stops}
-use Rattle.acb.proofs.Whole.{topIn, head-parts, bytes-string, bytes-head, bytes-colours, bytes-file, book-to, allowed-parts, file-reads}
-use Rattle.acb.proofs.Damaged.{long-stops, header-stops, no-space, signature-stops, version-stops, size-stops, space-stops, other-stops}
-use Rattle.acb.proofs.Cut.{book-cut, closing-left}
+use Rattle.acb.specs.Damaged.{CutString, DamagedNumbers, CutColour, DamagedEnd, opened, stringsEnd, counting, ending, tagAt, Damaged, wrong-opening, string-cut, wrong-numbers, record-cut, wrong-end, left-over, untagged}
+use Rattle.acb.proofs.Laws.{Top, topBytes, Headed, space-components, string-exact, opening-exact, strings-exact, header-exact, colour-exact}
+use Rattle.acb.proofs.Whole.{topIn, head-parts, allowed-headed, bytes-file, book-to, allowed-parts, file-reads}
+use Rattle.acb.proofs.Turns.{opening-stops, string-stops, numbers-stop, colour-stops, end-stops}
+use Rattle.acb.proofs.Cut.{book-cut}
 
--- ---- the length
-
--- a file of more than 16,777,216 bytes: 1 at 0, whatever it holds
+-- ---- longer than the limit: 1 at 0, whatever stands there
 pub long-refused : (s : List ℕ) → 16777216 < length s → acb s ≡ refuse 1 0 0 0
-long-refused s long = long-stops s long
+unfolding acb
+long-refused s long = simp (lt-leb (length s) 16777216 long)
 
--- ---- the header
+-- ---- damaged
 
--- another signature: 3 at 0
-pub signature-refused : (v : ℕ) → v < 256 ^ 4 → (v ≡ 0x3842_4342 → ⊥) → (x : List ℕ) → Bytes x → length (signed v x) ≤ 16777216 → acb (signed v x) ≡ refuse 3 0 0 0
-unfolding signed
-signature-refused v small other x b short =
-    let s : List ℕ = be 4 v ++ x in
-    header-stops s short (signature-stops s (bytes-append (be 4 v) x (bytes-be 4 v) b) v small other (at-left s 0 (be 4 v) x (at-whole s)))
+whole-tail : (s : List ℕ) → Tail s 0 s
+whole-tail s = record { stands = at-whole s; ends = sym (zero-add (length s)) }
 
--- another version: 3 at 4
-pub version-refused : (v : ℕ) → v < 256 ^ 2 → (v ≡ 1 → ⊥) → (x : List ℕ) → Bytes x → length (versioned v x) ≤ 16777216 → acb (versioned v x) ≡ refuse 3 4 0 0
-unfolding versioned
-version-refused v small other x b short =
-    let a : List ℕ = be 4 0x3842_4342 in
-    let s : List ℕ = a ++ (be 2 v ++ x) in
-    let h : At s 0 ((a ++ be 2 v) ++ x) = subst (λ (l : List ℕ). At s 0 l) (sym (append-assoc a (be 2 v) x)) (at-whole s) in
-    header-stops s short (version-stops s (bytes-append a (be 2 v ++ x) (bytes-be 4 0x3842_4342) (bytes-append (be 2 v) x (bytes-be 2 v) b)) v small other (at-left s 0 (a ++ be 2 v) x h))
+-- behind signature, version and identifier
+module _ (i : ℕ) (ts : List (List ℕ)) (x : List ℕ) (small : i < 256 ^ 2) (texts : All (λ k us. String us) 0 ts) (bytes : Bytes (opened i ts x)) where
+  abbrev s : List ℕ
+  s = opened i ts x
 
-bytes-sized : (i : ℕ) (ts : List (List ℕ)) (n z : ℕ) (x : List ℕ) → Bytes x → Bytes (sized i ts n z x)
-unfolding sized
-bytes-sized i ts n z x b =
-    bytes-append (be 4 0x3842_4342) _ (bytes-be 4 0x3842_4342) (bytes-append (be 2 1) _ (bytes-be 2 1) (bytes-append (be 2 i) _ (bytes-be 2 i)
-    (bytes-append (joined stringBytes ts) _ (bytes-joined stringBytes bytes-string ts) (bytes-append (be 2 n) _ (bytes-be 2 n) (bytes-append (be 2 z) x (bytes-be 2 z) b)))))
+  abbrev t : List ℕ
+  t = joined stringBytes ts
 
--- page size 0: 5 at the page size, whatever stands behind it
-pub size-refused : (i : ℕ) (ts : List (List ℕ)) (n : ℕ) → Begins i ts n → (x : List ℕ) → Bytes x → length (sized i ts n 0 x) ≤ 16777216 → acb (sized i ts n 0 x) ≡ refuse 5 (sizeAt ts) 0 0
-unfolding sized
-size-refused i ts n fit x b short =
-    let s : List ℕ = sized i ts n 0 x in
-    header-stops s short (size-stops s (bytes-sized i ts n 0 x b) i ts n fit x (at-whole s))
+  opens : (opening s 0 ≡ ok i 8) × Tail s 8 (t ++ x)
+  unfolding opened be
+  opens =
+      let o : List ℕ = be 4 0x3842_4342 ++ (be 2 1 ++ be 2 i) in
+      let w : Tail s 0 (o ++ (t ++ x)) = whole-tail s in
+      let r = opening-exact s bytes .reads 0 i small (tail-left s 0 o (t ++ x) w) in
+      (r .1 ∙ ap (λ (k : ℕ). ok k 8) (r .2), tail-after s 0 o (t ++ x) 8 refl w)
 
--- a space that the layout does not have, behind a page size that is not 0: 4 at the space
-pub space-refused : (i : ℕ) (ts : List (List ℕ)) (n : ℕ) → Begins i ts n → (z o v : ℕ) → 0 < z → z < 256 ^ 2 → o < 256 ^ 2 → v < 256 ^ 2 → ((m : ℕ) → Space v m → ⊥)
-    → (x : List ℕ) → Bytes x → length (spaced i ts n z o v x) ≤ 16777216 → acb (spaced i ts n z o v x) ≡ refuse 4 (spaceAt ts) 0 0
-unfolding sized spaced
-space-refused i ts n fit z o v some small few tiny unknown x b short =
-    let s : List ℕ = spaced i ts n z o v x in
-    let bs : Bytes s = bytes-sized i ts n z (be 2 o ++ (be 2 v ++ x)) (bytes-append (be 2 o) (be 2 v ++ x) (bytes-be 2 o) (bytes-append (be 2 v) x (bytes-be 2 v) b)) in
-    header-stops s short (space-stops s bs i ts n fit z o v some small few tiny (no-space v unknown) x (at-whole s))
+  behind : Tail s (stringsEnd ts) x
+  unfolding stringsEnd
+  behind = tail-after s 8 t x (8 + length t) refl (opens .1)
 
--- ---- the end
+  string-refused : {p : ℕ} → length ts < 4 → CutString x p → book s 0 ≡ refuse 2 (stringsEnd ts + p) 0 0
+  unfolding book header strings stringsEnd
+  string-refused {p} few d =
+      let a = opens in
+      let b : each 4 0 (λ k. string) s 8 ≡ refuse 2 (8 + length t + p) 0 0 =
+      each-stops {p = λ k. string} {Ok = λ k us. String us} (λ k. string-exact s bytes) 4 0 8 ts few texts (tail-left s 8 t x (a .1)) (string-stops s (8 + length t) d behind) in
+      rw (a .0) (rw b)
 
--- a book that stands up to its records: what is found behind them is the file's answer
-module _ (b : Book) (a : Allowed b) where
-  length-top : length (topBytes (topIn b)) ≡ length (headBytes b)
-  length-top = sym (ap length (head-parts b))
+  numbers-refused : {z p : ℕ} → length ts ≡ 4 → DamagedNumbers x z p → book s 0 ≡ refuse z (stringsEnd ts + p) 0 0
+  unfolding book header stringsEnd
+  numbers-refused four d =
+      let a = opens in
+      let b = strings-exact s bytes .reads 8 ts (four, texts) (tail-left s 8 t x (a .1)) in
+      rw (a .0) (rw (b .1) (rw (numbers-stop s (8 + length t) d behind)))
 
-  closing-stops : (s : List ℕ) → Bytes s → length s ≤ 16777216 → (x : List ℕ) → At s 0 (headBytes b ++ (joined colourBytes (b .colours) ++ x)) → {n p : ℕ}
-      → (At s (tagAt b) x → closing s (tagAt b) ≡ refuse n p 0 0) → acb s ≡ refuse n p 0 0
-  unfolding acb tagAt
-  closing-stops s bs short x h bad =
-      let t : List ℕ = headBytes b in
-      let l : List ℕ = joined colourBytes (b .colours) in
-      let r = book-to b a s bs x (subst (λ (z : List ℕ). At s 0 (z ++ (l ++ x))) (head-parts b) h) in
-      let q : ℕ = length t + length l in
-      let e : closing s (length (topBytes (topIn b)) + length l) ≡ _ = ap (λ (k : ℕ). closing s (k + length l)) length-top ∙ bad (at-after s (length t) l x q refl (at-after s 0 t (l ++ x) (length t) (omega arith) h)) in
-      simp (le-leb (length s) 16777216 short) (r .3 ∙ rw e)
+-- behind a header: records, and then one that is cut
+module _ (b : Book) (a : Allowed b) (n : ℕ) (x : List ℕ) where
+  -- the header that counts n
+  abbrev d : Top
+  d = record { identifier = b .identifier; texts = b .texts; numbers = record { count = n; size = b .size; offset = b .offset; space = b .space } }
 
-  bytes-ending : (x : List ℕ) → Bytes x → Bytes (ending b x)
-  unfolding ending
-  bytes-ending x h = bytes-append (headBytes b) _ (bytes-head b) (bytes-append (joined colourBytes (b .colours)) x (bytes-colours (b .colours)) h)
+  abbrev l : List ℕ
+  l = joined colourBytes (b .colours)
 
-  length-ending : (x : List ℕ) → length (ending b x) ≡ tagAt b + length x
-  unfolding ending tagAt
-  length-ending x = omega (arith, length-append (headBytes b) (joined colourBytes (b .colours) ++ x), length-append (joined colourBytes (b .colours)) x)
+  counting-parts : counting n b x ≡ topBytes d ++ (l ++ x)
+  unfolding counting opened
+  counting-parts = sym (simp append-assoc refl)
 
-  ending-refused : (x : List ℕ) → Bytes x → length (ending b x) ≤ 16777216 → {n p : ℕ} → (At (ending b x) (tagAt b) x → closing (ending b x) (tagAt b) ≡ refuse n p 0 0) → acb (ending b x) ≡ refuse n p 0 0
-  unfolding ending
-  ending-refused x h short bad = closing-stops (ending b x) (bytes-ending x h) short x (at-whole (ending b x)) bad
+  -- another count is as long
+  length-counting : length (topBytes d) ≡ length (headBytes b)
+  length-counting =
+      let m : ℕ = length (b .colours) in
+      let o : List ℕ = be 4 0x3842_4342 ++ (be 2 1 ++ be 2 (b .identifier)) in
+      let ts : List ℕ = joined stringBytes (b .texts) in
+      let r : List ℕ = be 2 (b .size) ++ (be 2 (b .offset) ++ be 2 (b .space)) in
+      let long : (k : ℕ) → length (o ++ (ts ++ (be 2 k ++ r))) ≡ length o + length ts + 2 + length r = λ k. omega (arith, length-append o (ts ++ (be 2 k ++ r)), length-append ts (be 2 k ++ r), length-append (be 2 k) r, length-be 2 k) in
+      long n ∙ sym (long m) ∙ sym (ap length (head-parts b))
 
-  -- eight bytes that are no tag, and any bytes: 3 at the tag
-  pub tag-refused : (v : ℕ) → Unknown v → (x : List ℕ) → Bytes x → length (ending b (be 8 v ++ x)) ≤ 16777216 → acb (ending b (be 8 v ++ x)) ≡ refuse 3 (tagAt b) 0 0
-  tag-refused v u x h short =
-      let y : List ℕ = be 8 v ++ x in
-      let s : List ℕ = ending b y in
-      let more : tagAt b < length s = omega (arith, length-ending y, length-append (be 8 v) x, length-be 8 v) in
-      let bs : Bytes y = bytes-append (be 8 v) x (bytes-be 8 v) h in
-      ending-refused y bs short (λ g. other-stops s (bytes-ending y bs) v (tagAt b) u (at-left s (tagAt b) (be 8 v) x g) more)
+  record-refused : {p : ℕ} → n < 256 ^ 2 → length (b .colours) < n → CutColour (a .components) x p → Bytes (counting n b x) → book (counting n b x) 0 ≡ refuse 2 (tagAt b + p) 0 0
+  unfolding book tagAt
+  record-refused {p} small few cut bytes =
+      let s : List ℕ = counting n b x in
+      let q : ℕ = length (topBytes d) in
+      let sound : Headed d = let h = allowed-headed b a in record { identifier = a .identifier; four = a .four; texts = a .texts; numbers = record { count = small; size = a .size; offset = a .offset; space = h .numbers .space } } in
+      let t : Tail s 0 (topBytes d ++ (l ++ x)) = subst (λ (y : List ℕ). Tail s 0 y) counting-parts (whole-tail s) in
+      let r = header-exact s bytes .reads 0 d sound (tail-left s 0 (topBytes d) (l ++ x) t) in
+      let ns : r .0 .numbers ≡ d .numbers = ap (λ (y : Top). y .numbers) (r .2) in
+      let m : ℕ = componentsOf (r .0 .numbers .space) in
+      let c : m ≡ a .components = ap (λ (y : Numbers). componentsOf (y .space)) ns ∙ space-components (a .space) in
+      let k : r .0 .numbers .count ≡ n = ap (λ (y : Numbers). y .count) ns in
+      let tq : Tail s q (l ++ x) = tail-after s 0 (topBytes d) (l ++ x) q (zero-add q) t in
+      let stop : colour m s (q + length l) ≡ refuse 2 (q + length l + p) 0 0 = colour-stops s bytes m (q + length l) (subst (λ (y : ℕ). CutColour y x p) (sym c) cut) (tail-after s q l x (q + length l) refl tq) in
+      let y : each (r .0 .numbers .count) 0 (λ i. colour m) s q ≡ refuse 2 (q + length l + p) 0 0 =
+      each-stops {p = λ i. colour m} {Ok = λ i c. Swatch m c} (λ i. colour-exact s bytes m) (r .0 .numbers .count) 0 q (b .colours) (omega arith) (subst (λ (y : ℕ). All (λ i c. Swatch y c) 0 (b .colours)) (sym c) (a .colours)) (tail-left s q l x tq) stop in
+      rw (r .1 ∙ ap (λ (k : ℕ). ok (r .0) k) (zero-add q)) (rw y (ap (λ (k : ℕ). refuse 2 (k + length l + p) 0 0) length-counting))
 
-  -- one to seven bytes, whatever they are: 2 at the tag
-  pub tail-refused : (x : List ℕ) → Bytes x → 0 < length x → length x < 8 → length (ending b x) ≤ 16777216 → acb (ending b x) ≡ refuse 2 (tagAt b) 0 0
-  tail-refused x h some few short =
-      let s : List ℕ = ending b x in
-      ending-refused x h short (λ g. short-stops s (tagAt b) (omega (arith, length-ending x)) (omega (arith, length-ending x)))
+-- behind the records
+end-refused : (b : Book) → Allowed b → (x : List ℕ) {z p : ℕ} → DamagedEnd x z p → Bytes (ending b x) → book (ending b x) 0 ≡ refuse z (tagAt b + p) 0 0
+unfolding ending tagAt
+end-refused b a x {z} {p} d bytes =
+    let s : List ℕ = ending b x in
+    let h : List ℕ = headBytes b in
+    let l : List ℕ = joined colourBytes (b .colours) in
+    let q : ℕ = length h + length l in
+    let w : Tail s 0 (h ++ (l ++ x)) = whole-tail s in
+    let r = book-to b a s bytes x (subst (λ (y : List ℕ). At s 0 (y ++ (l ++ x))) (head-parts b) (w .stands)) in
+    let t : Tail s q x = tail-after s (length h) l x q refl (tail-after s 0 h (l ++ x) (length h) (zero-add (length h)) w) in
+    let e : closing s (length (topBytes (topIn b)) + length l) ≡ refuse z (q + p) 0 0 = ap (λ (y : List ℕ). closing s (length y + length l)) (sym (head-parts b)) ∙ end-stops s bytes q d t in
+    r .3 ∙ rw e
+
+book-stops : {s : List ℕ} {z p : ℕ} → Damaged s z p → Bytes s → book s 0 ≡ refuse z p 0 0
+unfolding book header
+book-stops (wrong-opening s z p d) bytes = rw (opening-stops s d (whole-tail s))
+book-stops (string-cut i before x p small few texts d) bytes = string-refused i before x small texts bytes few d
+book-stops (wrong-numbers i ts x z p small four texts d) bytes = numbers-refused i ts x small texts bytes four d
+book-stops (record-cut n b x p a small few d) bytes = record-refused b a n x small few d bytes
+book-stops (wrong-end b x z p a d) bytes = end-refused b a x d bytes
+
+-- a damaged book is refused by its number and at its place
+pub damaged-refused : {s : List ℕ} {z p : ℕ} → Damaged s z p → Bytes s → length s ≤ 16777216 → acb s ≡ refuse z p 0 0
+unfolding acb
+damaged-refused {s} d bytes short = simp (le-leb (length s) 16777216 short) (book-stops d bytes)
+
+tag-eight : (t : Tag) → (t ≡ none → ⊥) → length (tagBytes t) ≡ 8
+tag-eight none ne = absurd (ne refl)
+tag-eight spot ne = length-be 8 0x7370_666C_7370_6F74
+tag-eight process ne = length-be 8 0x7370_666C_7072_6F63
 
 -- bytes behind a book with a tag: 6 where they begin
 pub left-over-refused : {b : Book} {w : List ℕ} → File b w → (b .tag ≡ tagged none → ⊥) → (x : List ℕ) → Bytes x → 0 < length x → length (w ++ x) ≤ 16777216 → acb (w ++ x) ≡ refuse 6 (length w) 0 0
-unfolding fileBytes tagAt
+unfolding fileBytes ending tagAt
 left-over-refused (file {b} a short) more x h some fits =
     let w : List ℕ = fileBytes b in
-    let s : List ℕ = w ++ x in
     let t : List ℕ = headBytes b in
     let l : List ℕ = joined colourBytes (b .colours) in
     let g : List ℕ = tagBytes (a .ends) in
+    let ne : a .ends ≡ none → ⊥ = λ z. more (a .tag ∙ ap tagged z) in
     let e : w ≡ t ++ (l ++ g) = ap (λ (z : Ending). t ++ (l ++ endingBytes z)) (a .tag) in
-    let n : length w ≡ tagAt b + length g = ap length e ∙ omega (arith, length-append t (l ++ g), length-append l g) in
-    closing-stops b a s (bytes-append w x (bytes-file b) h) fits g (subst (λ (z : List ℕ). At s 0 z) e (at-left s 0 w x (at-whole s)))
-    (λ k. closing-left s (bytes-append w x (bytes-file b) h) (a .ends) (tagAt b) (λ z. more (a .tag ∙ ap tagged z)) k (omega (arith, length-append w x)) ∙ ap (λ (m : ℕ). refuse 6 m 0 0) (sym n))
+    let i : w ++ x ≡ ending b (g ++ x) = ap (λ (z : List ℕ). z ++ x) e ∙ append-assoc t (l ++ g) x ∙ ap (λ (z : List ℕ). t ++ z) (append-assoc l g x) in
+    let n : tagAt b + 8 ≡ length w = omega (arith, ap length e, length-append t (l ++ g), length-append l g, tag-eight (a .ends) ne) in
+    damaged-refused (subst₂ (λ (y : List ℕ) (k : ℕ). Damaged y 6 k) (sym i) n (wrong-end b (g ++ x) 6 8 a (left-over (a .ends) x ne some))) (bytes-append w x (bytes-file b) h) fits
 
 -- ---- cuts
 

@@ -1,24 +1,26 @@
 -- What is promised of ACB files: reading and the grammar agree, and what a writer may write. Assumes nothing.
 use Prim.Native.Nat.{ℕ, _+_, _*_, _≤_, _<_}
-use mathlib.Core.Path.{_≡_, refl, sym, ap, _∙_, subst}
+use mathlib.Core.Path.{_≡_, refl, sym, ap, _∙_, subst, subst₂}
 use mathlib.Core.List.{List, [], _∷_, _++_, append-assoc, append-nil}
-use mathlib.Core.Bool.{Bool, true, false}
+use mathlib.Core.Logic.{_⊎_, inl, inr}
+use mathlib.Core.Bool.{Bool, true, false, true≢false}
 use lib.Dec.{leb, ltb}
 use lib.ListN.{length, length-append}
 use borrow.Author.Tests.{leb-true, le-leb, ltb-true, ltb-false}
 use native.Mathlib.Omega.{arith}
 use Rattle.fields.specs.Numbers.{be, joined, Bytes, All}
-use Rattle.fields.specs.Reader.{refuse, pick, ok, numberOf, limit}
+use Rattle.fields.specs.Reader.{Res, ok, refuse, pick, numberOf, limit}
 use Rattle.fields.specs.Faults.{firstOf}
-use Rattle.fields.proofs.Places.{length-be, length-bes, bytes-nil, bytes-append, bytes-be}
-use Rattle.fields.proofs.Inverse.{ok-value}
+use Rattle.fields.proofs.Places.{length-be, length-bes}
+use Rattle.fields.proofs.Inverse.{clash, ok-value}
 use Rattle.acb.specs.Grammar.{Colour, none, Ending, tagged, other, Unknown, Book, Space, Swatch, stringBytes, colourBytes, endingBytes, headBytes, fileBytes, File, file}
 use Rattle.acb.specs.Reading.{isSpace, Contents, book, acb, bookOf}
 use Rattle.acb.specs.Faults.{endingFault, EndingFits, bookFault, BookFits}
-use Rattle.acb.specs.Damaged.{sized, spaced, Begins, ending, untagged}
+use Rattle.acb.specs.Damaged.{DamagedNumbers, size-zero, wrong-space, wrong-tag, opened, ending, Damaged, wrong-numbers, wrong-end, untagged}
 use Rattle.acb.proofs.Laws.{space-is, space-components, components-some}
-use Rattle.acb.proofs.Whole.{bytes-colours, bytes-ending, file-reads, file-writes}
-use Rattle.acb.proofs.Refused.{size-refused, space-refused, tag-refused}
+use Rattle.acb.proofs.Whole.{bytes-file, file-reads, file-writes}
+use Rattle.acb.proofs.Refused.{damaged-refused}
+use Rattle.acb.proofs.Total.{FileOr, is-file, is-damaged, file-or}
 use Rattle.acb.proofs.Faultless.{tested-allowed, faultless-allowed, allowed-faultless}
 
 -- ---- the grammar and the reader
@@ -37,6 +39,37 @@ allowed-unique f g =
     let x = allowed-reads f in
     let y = allowed-reads g in
     sym (x .2) ∙ ap bookOf (ok-value (sym (x .1) ∙ y .1)) ∙ y .2
+
+-- ---- refusals
+
+-- every file within the limit is one of the grammar or a damaged one
+pub allowed-or-damaged : (s : List ℕ) → Bytes s → length s ≤ 16777216 → ((b : Book) × File b s) ⊎ ((z p : ℕ) × Damaged s z p)
+allowed-or-damaged s bytes short = elim (file-or s bytes short) [
+  | is-file b g ↦ inl (b, g)
+  | is-damaged z p d ↦ inr (z, p, d)
+]
+
+-- what is refused within the limit is damaged, and the refusal's number and place are those of the damage
+pub refused-damaged : {s : List ℕ} → Bytes s → length s ≤ 16777216 → {z p r f : ℕ} → acb s ≡ refuse z p r f → Damaged s z p × (r ≡ 0) × (f ≡ 0)
+refused-damaged {s} bytes short {z} {p} {r} {f} e = go (file-or s bytes short)
+  where
+    go : FileOr s → Damaged s z p × (r ≡ 0) × (f ≡ 0)
+    go (is-file b g) = clash (sym e ∙ allowed-reads g .1)
+    go (is-damaged y q d) =
+        let same : refuse y q 0 0 ≡ refuse z p r f = sym (damaged-refused d bytes short) ∙ e in
+        let a : y ≡ z = cc in
+        let b : q ≡ p = cc in
+        (subst₂ (λ (n m : ℕ). Damaged s n m) a b d, cc, cc)
+
+-- no file is damaged in two ways: it has one number and one place
+pub damaged-unique : {s : List ℕ} → Bytes s → length s ≤ 16777216 → {z p y q : ℕ} → Damaged s z p → Damaged s y q → (z ≡ y) × (p ≡ q)
+damaged-unique bytes short {z} {p} {y} {q} d e =
+    let same : _≡_ {A = Res Contents} (refuse z p 0 0) (refuse y q 0 0) = sym (damaged-refused d bytes short) ∙ damaged-refused e bytes short in
+    (cc, cc)
+
+-- no file of the grammar is damaged
+pub allowed-undamaged : {b : Book} {s : List ℕ} → File b s → {z p : ℕ} → Damaged s z p → ⊥
+allowed-undamaged (file {b} a short) d = clash (sym (damaged-refused d (bytes-file b) short) ∙ file-reads b a short .1)
 
 -- ---- how many records a file can hold
 
@@ -68,16 +101,16 @@ unfolding acb
 whole s short = sym (rw (le-leb (length s) limit short))
 
 -- a book by its fields, and without its tag
-file-spaced : (b : Book) → fileBytes b ≡ spaced (b .identifier) (b .texts) (length (b .colours)) (b .size) (b .offset) (b .space) (joined colourBytes (b .colours) ++ endingBytes (b .tag))
-unfolding fileBytes headBytes spaced sized
-file-spaced b = simp append-assoc
+file-opened : (b : Book) → fileBytes b ≡ opened (b .identifier) (b .texts) (be 2 (length (b .colours)) ++ (be 2 (b .size) ++ (be 2 (b .offset) ++ (be 2 (b .space) ++ (joined colourBytes (b .colours) ++ endingBytes (b .tag))))))
+unfolding fileBytes headBytes opened
+file-opened b = simp append-assoc
 
 file-ending : (b : Book) (v : ℕ) → b .tag ≡ other v → fileBytes b ≡ ending (untagged b) (be 8 v ++ [])
 unfolding fileBytes headBytes ending
 file-ending b v e = ap (λ (g : Ending). headBytes b ++ (joined colourBytes (b .colours) ++ endingBytes g)) e ∙ ap (λ (l : List ℕ). headBytes b ++ (joined colourBytes (b .colours) ++ l)) (sym (append-nil (be 8 v)))
 
 unknown-space : (x : ℕ) → isSpace x ≡ false → (n : ℕ) → Space x n → ⊥
-unknown-space x e n h = let z : true ≡ false = sym (space-is h) ∙ e in let y : _≡_ {A = ℕ} 0 1 = cc in absurd (omega arith)
+unknown-space x e n h = true≢false (sym (space-is h) ∙ e)
 
 module _ (b : Book) (f : BookFits b) (short : length (fileBytes b) ≤ limit) where
   abbrev s : List ℕ
@@ -86,31 +119,26 @@ module _ (b : Book) (f : BookFits b) (short : length (fileBytes b) ≤ limit) wh
   abbrev rest : List ℕ
   rest = joined colourBytes (b .colours) ++ endingBytes (b .tag)
 
-  begins : Begins (b .identifier) (b .texts) (length (b .colours))
-  begins = record { identifier = f .identifier; four = f .four; texts = f .texts; count = f .count }
-
-  bytes-rest : Bytes rest
-  bytes-rest = bytes-append (joined colourBytes (b .colours)) (endingBytes (b .tag)) (bytes-colours (b .colours)) (bytes-ending (b .tag))
+  damaged-number : {x : List ℕ} {z p : ℕ} → s ≡ x → Damaged x z p → numberOf (acb s) ≡ z
+  damaged-number {x} {z} {p} e d = ap numberOf (damaged-refused (subst (λ (y : List ℕ). Damaged y z p) (sym e) d) (bytes-file b) short)
 
   -- the first fault of each kind
+  numbers-number : {z p : ℕ} → DamagedNumbers (be 2 (length (b .colours)) ++ (be 2 (b .size) ++ (be 2 (b .offset) ++ (be 2 (b .space) ++ rest)))) z p → numberOf (acb s) ≡ z
+  numbers-number {z} {p} d = damaged-number (file-opened b) (wrong-numbers (b .identifier) (b .texts) _ z p (f .identifier) (f .four) (f .texts) d)
+
   size-number : b .size ≡ 0 → numberOf (acb s) ≡ 5
-  unfolding spaced
-  size-number z =
-      let y : List ℕ = be 2 (b .offset) ++ (be 2 (b .space) ++ rest) in
-      let e : s ≡ sized (b .identifier) (b .texts) (length (b .colours)) 0 y = file-spaced b ∙ ap (λ (k : ℕ). sized (b .identifier) (b .texts) (length (b .colours)) k y) z in
-      let by : Bytes y = bytes-append (be 2 (b .offset)) (be 2 (b .space) ++ rest) (bytes-be 2 (b .offset)) (bytes-append (be 2 (b .space)) rest (bytes-be 2 (b .space)) bytes-rest) in
-      ap numberOf (ap acb e ∙ size-refused (b .identifier) (b .texts) (length (b .colours)) begins y by (subst (λ (l : List ℕ). length l ≤ limit) e short))
+  size-number e =
+      let n : ℕ = length (b .colours) in
+      let l : List ℕ = be 2 (b .offset) ++ (be 2 (b .space) ++ rest) in
+      numbers-number (subst (λ (k : ℕ). DamagedNumbers (be 2 n ++ (be 2 k ++ l)) 5 2) (sym e) (size-zero n l (f .count)))
 
   space-number : 0 < b .size → isSpace (b .space) ≡ false → numberOf (acb s) ≡ 4
-  space-number some unknown =
-      let e = file-spaced b in
-      ap numberOf (ap acb e ∙ space-refused (b .identifier) (b .texts) (length (b .colours)) begins (b .size) (b .offset) (b .space) some (f .size) (f .offset) (f .space) (unknown-space (b .space) unknown) rest bytes-rest (subst (λ (l : List ℕ). length l ≤ limit) e short))
+  space-number some unknown = numbers-number (wrong-space (length (b .colours)) (b .size) (b .offset) (b .space) rest (record { count = f .count; some = some; size = f .size }) (f .offset) (f .space) (unknown-space (b .space) unknown))
 
   other-number : (v : ℕ) → b .tag ≡ other v → Unknown v → ltb 0 (b .size) ≡ true → isSpace (b .space) ≡ true → numberOf (acb s) ≡ 3
   other-number v e u z x =
-      let i = file-ending b v e in
       let g : BookFits (untagged b) = record { identifier = f .identifier; four = f .four; texts = f .texts; count = f .count; size = f .size; offset = f .offset; space = f .space; colours = f .colours; tag = tt } in
-      ap numberOf (ap acb i ∙ tag-refused (untagged b) (tested-allowed (untagged b) g z x none refl) v u [] bytes-nil (subst (λ (l : List ℕ). length l ≤ limit) i short))
+      damaged-number (file-ending b v e) (wrong-end (untagged b) (be 8 v ++ []) 3 0 (tested-allowed (untagged b) g z x none refl) (wrong-tag v [] u))
 
   -- size, space and tag in this order
   number-is : (t u : Bool) (e : Ending) → ltb 0 (b .size) ≡ t → isSpace (b .space) ≡ u → b .tag ≡ e → EndingFits e → numberOf (acb s) ≡ firstOf (pick t 0 5) (firstOf (pick u 0 4) (endingFault e))
