@@ -305,11 +305,11 @@ module _ (s : List ℕ) (at : ℕ) where
   unfolding marked every
   glance-end found i h g inv e = let n : 128 ≡ 4 * i = omega arith in ap (λ (k : ℕ). anyZero (nums 2 k s at)) n ∙ inv (ap not e)
 
-  pub clear-on : (i : ℕ) → anyZero (nums 2 (4 * i) s at) ≡ false → anyZero (nums 2 128 s (at + 8 * i)) ≡ false → anyZero (nums 2 (4 * (i + 32)) s at) ≡ false
-  clear-on i e f =
-      let n : 4 * (i + 32) ≡ 4 * i + 128 = omega arith in
+  pub clear-join : (i j : ℕ) → anyZero (nums 2 (4 * i) s at) ≡ false → anyZero (nums 2 (4 * j) s (at + 8 * i)) ≡ false → anyZero (nums 2 (4 * (i + j)) s at) ≡ false
+  clear-join i j e f =
+      let n : 4 * (i + j) ≡ 4 * i + 4 * j = omega arith in
       let p : at + 2 * (4 * i) ≡ at + 8 * i = omega arith in
-      ap (λ (k : ℕ). anyZero (nums 2 k s at)) n ∙ clear-more (4 * i) 128 e (ap (λ (q : ℕ). anyZero (nums 2 128 s q)) p ∙ f)
+      ap (λ (k : ℕ). anyZero (nums 2 k s at)) n ∙ clear-more (4 * i) (4 * j) e (ap (λ (q : ℕ). anyZero (nums 2 (4 * j) s q)) p ∙ f)
 
   -- what is left behind clear units
   pub clear-left : (n k : ℕ) → k ≤ n / 4 → anyZero (nums 2 (4 * k) s at) ≡ false → anyZero (nums 2 n s at) ≡ anyZero (nums 2 (n - 4 * k) s (at + 8 * k))

@@ -130,7 +130,31 @@ fn clear_fours(s: &[u8], at: usize, k: usize) -> usize
     i
 }
 
-// Whether one of n units from `at` is zero. A long name is passed over as far as it is clear.
+// How many of k fours from `at` have no zero, from the first on, by 32 of them at a time.
+fn sound_fours(s: &[u8], at: usize, k: usize) -> usize
+    requires { ⌜ at + k * 8 ≤ length (now s) ⌝ }
+    ensures { λ r. ⌜ (r ≤ k) × (anyZero (nums 2 (4 * r) (now (s .entry)) at) ≡ false) ⌝ }
+{
+    let mut i: usize = 0;
+    while k - i >= 32 {
+        if any_in_fours(s, at + 8 * i, 32) {
+            return i;
+        }
+        i += 32;
+    }
+    i
+}
+
+// The same, as far as they are clear at a glance, and then by the exact test.
+fn passed_fours(s: &[u8], at: usize, k: usize) -> usize
+    requires { ⌜ at + k * 8 ≤ length (now s) ⌝ }
+    ensures { λ r. ⌜ (r ≤ k) × (anyZero (nums 2 (4 * r) (now (s .entry)) at) ≡ false) ⌝ }
+{
+    let i = clear_fours(s, at, k);
+    i + sound_fours(s, at + 8 * i, k - i)
+}
+
+// Whether one of n units from `at` is zero. A long name is first passed over by 128 units at a time.
 fn any_zero(s: &[u8], at: usize, n: usize) -> bool
     requires { ⌜ at + n * 2 ≤ length (now s) ⌝ }
     ensures { λ r. ⌜ r ≡ anyZero (nums 2 n (now (s .entry)) at) ⌝ }
@@ -138,7 +162,7 @@ fn any_zero(s: &[u8], at: usize, n: usize) -> bool
     if n < 256 {
         return any_in_few(s, at, n);
     }
-    let k = clear_fours(s, at, n / 4);
+    let k = passed_fours(s, at, n / 4);
     any_in_few(s, at + 8 * k, n - 4 * k)
 }
 

@@ -10,8 +10,8 @@ any-in-few-requires c κs = search needs
 returns : tie.Need-returns
 returns c = search needs
 
-clear-fours-requires : tie.Need-clear-fours-requires
-clear-fours-requires c κs = search needs
+passed-fours-requires : tie.Need-passed-fours-requires
+passed-fours-requires c κs = search needs
 
 mul-any-in-few : tie.Need-mul-any-in-few
 mul-any-in-few c = search needs
@@ -29,7 +29,7 @@ any-in-few-requires-2 : tie.Need-any-in-few-requires-2
 any-in-few-requires-2 c κs = search needs
 
 returns-2 : tie.Need-returns-2
-returns-2 c = let k = c .before .clear-fours in c .any-in-few2 .ensures ∙ sym (clear-left _ _ _ (k .result) (k .ensures .0) (k .ensures .1))
+returns-2 c = let k = c .before .passed-fours in c .any-in-few2 .ensures ∙ sym (clear-left _ _ _ (k .result) (k .ensures .0) (k .ensures .1))
 
 pub any-zero-spec : {M : Type 1} → statement M
 any-zero-spec =
@@ -37,7 +37,7 @@ any-zero-spec =
     (tie.spec
     any-in-few-requires
     returns
-    clear-fours-requires
+    passed-fours-requires
     mul-any-in-few
     add-any-in-few
     mul-any-in-few-2

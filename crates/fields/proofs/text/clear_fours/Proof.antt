@@ -5,7 +5,7 @@ use native.Mathlib.Omega.{arith}
 use borrow.Author.Needs.{needs}
 use Rattle.fields.specs.Numbers.{nums}
 use Rattle.fields.specs.Text.{anyZero}
-use Rattle.fields.proofs.Lanes.{not-false, clear-start, clear-on}
+use Rattle.fields.proofs.Lanes.{not-false, clear-start, clear-join}
 use Rattle.fields.proofs.text.clear_fours.Statement.{statement}
 use Rattle.fields.proofs.text.clear_fours.Tie as tie
 
@@ -42,7 +42,7 @@ loop-less c = search needs
 loop-again : tie.Need-loop-again Inv-loop μ-loop
 loop-again c =
     let l = c .before .before .before .loop in
-    (omega arith, clear-on _ _ (l .i) (l .inv .1) (c .before .is-clear .ensures (not-false _ (c .if1 .left))))
+    (omega arith, clear-join _ _ (l .i) 32 (l .inv .1) (c .before .is-clear .ensures (not-false _ (c .if1 .left))))
 
 returns-2 : tie.Need-returns-2 Inv-loop μ-loop
 returns-2 c = c .before .loop .inv
