@@ -5,7 +5,7 @@ use mathlib.Core.List.{List, [], _∷_}
 use mathlib.Core.Bool.{Bool, true, false, not, true≢false}
 use lib.Dec.{eqb}
 use lib.Arith.{bin-ind}
-use lib.Bits.{bitAnd, bitOr, and-step, or-step, and-block, and-high, and-shr, and-mod, or-shr, or-mod, and-zero-r, or-add-and, and-le-l, and-le-r, or-shifted-r}
+use lib.Bits.{bitAnd, bitOr, and-step, or-step, and-block, and-high, and-shr, and-mod, or-shr, and-zero-r, or-add-and, and-le-l, and-le-r, or-shifted-r}
 use borrow.Author.Tests.{eq-eqb, ne-eqb}
 use native.Mathlib.Omega.{arith}
 use native.Mathlib.Nat.{div-add-mod', mul-assoc, pow-suc, mod-eq-of-lt, add-zero, zero-add, sub-zero}
@@ -37,6 +37,10 @@ eqb-sum a b = elim (ℕ-discrete b 0) [
   ]
   | no h ↦ let e : a * 65536 + b ≡ 0 → ⊥ = λ z. h (omega arith) in rw (ne-eqb _ _ e, ne-eqb _ _ h)
 ]
+
+either : (x y z : Bool) → pick x true (pick y true z) ≡ pick (pick x true y) true z
+either true y z = refl
+either false y z = refl
 
 neither : (x y : Bool) → pick x true y ≡ false → (x ≡ false) × (y ≡ false)
 neither true y e = absurd (true≢false e)
@@ -73,12 +77,17 @@ module _ (x y n E B M : ℕ) (less : y + (E * 65536 + 1) ≡ x + B * 65536) (res
   high-rest : n / 65536 + x / 65536 + 1 ≡ M
   high-rest = omega arith
 
+-- the lowest lane by itself, of a word less one in each lane
+lane-less : (k x y b : ℕ) → y + every (suc k) 1 ≡ x + b * 65536 ^ suc k → y + (every k 1 * 65536 + 1) ≡ x + b * 65536 ^ k * 65536
+unfolding every
+lane-less k x y b less = less ∙ ap (λ (z : ℕ). x + z) (ap (λ (z : ℕ). b * z) (pow-suc 65536 k) ∙ sym (mul-assoc b (65536 ^ k) 65536))
+
 -- a word less one in each lane (with what it borrows), and its complement: both have some lane's highest bit exactly where a lane is zero
 pub zero-marked : (k x y n b : ℕ) → y + every k 1 ≡ x + b * 65536 ^ k → n + x + 1 ≡ 65536 ^ k → marked k (bitAnd y n) ≡ anyZero (lanes k x)
 unfolding marked every lanes anyZero
 zero-marked zero x y n b less rest = ap (λ (z : ℕ). not (eqb z 0)) (and-zero-r (bitAnd y n))
 zero-marked (suc k) x y n b less rest =
-    let l : y + (every k 1 * 65536 + 1) ≡ x + b * 65536 ^ k * 65536 = less ∙ ap (λ (z : ℕ). x + z) (ap (λ (z : ℕ). b * z) (pow-suc 65536 k) ∙ sym (mul-assoc b (65536 ^ k) 65536)) in
+    let l = lane-less k x y b less in
     let r : n + x + 1 ≡ 65536 ^ k * 65536 = rest ∙ pow-suc 65536 k in
     marked-low k (bitAnd y n)
     ∙ ap₂ (λ (u v : ℕ). pick (not (eqb (bitAnd u 32768) 0)) true (marked k v)) (and-mod y n 16) (and-shr y n 16)
@@ -92,7 +101,7 @@ pub none-marked : (k x y b : ℕ) → y + every k 1 ≡ x + b * 65536 ^ k → ma
 unfolding every lanes anyZero
 none-marked zero x y b less clear = refl
 none-marked (suc k) x y b less clear =
-    let l : y + (every k 1 * 65536 + 1) ≡ x + b * 65536 ^ k * 65536 = less ∙ ap (λ (z : ℕ). x + z) (ap (λ (z : ℕ). b * z) (pow-suc 65536 k) ∙ sym (mul-assoc b (65536 ^ k) 65536)) in
+    let l = lane-less k x y b less in
     let c : pick (not (eqb (bitAnd (y % 65536) 32768) 0)) true (marked k (y / 65536)) ≡ false = sym (marked-low k y) ∙ clear in
     elim (ℕ-discrete (x % 65536) 0) [
       | yes h ↦ let v : y % 65536 ≡ 65535 = omega arith in absurd (true≢false (sym (ap (λ (z : ℕ). pick (not (eqb (bitAnd z 32768) 0)) true (marked k (y / 65536))) v) ∙ c))
@@ -231,11 +240,7 @@ any-split (suc a) b s at =
     let p : at + 2 + 2 * a ≡ at + 2 * suc a = omega arith in
     ap (λ (n : ℕ). anyZero (nums 2 n s at)) k
     ∙ ap (λ (x : Bool). pick (eqb (num 2 s at) 0) true x) (any-split a b s (at + 2) ∙ ap (λ (q : ℕ). pick (anyZero (nums 2 a s (at + 2))) true (anyZero (nums 2 b s q))) p)
-    ∙ go (eqb (num 2 s at) 0) (anyZero (nums 2 a s (at + 2))) (anyZero (nums 2 b s (at + 2 * suc a)))
-  where
-    go : (x y z : Bool) → pick x true (pick y true z) ≡ pick (pick x true y) true z
-    go true y z = refl
-    go false y z = refl
+    ∙ either (eqb (num 2 s at) 0) (anyZero (nums 2 a s (at + 2))) (anyZero (nums 2 b s (at + 2 * suc a)))
 
 module _ (s : List ℕ) (at k : ℕ) where
   pub fours-start : anyZero (nums 2 (4 * k) s at) ≡ pick (marked 4 0) true (anyZero (nums 2 (4 * (k - 0)) s (at + 0)))
@@ -251,12 +256,8 @@ module _ (s : List ℕ) (at k : ℕ) where
         ∙ ap (λ (x : Bool). pick (marked 4 found) true x)
         (ap (λ (j : ℕ). anyZero (nums 2 j s (at + 8 * i))) n ∙ any-split 4 (4 * (k - (i + 1))) s (at + 8 * i)
         ∙ ap₂ (λ (x : Bool) (q : ℕ). pick x true (anyZero (nums 2 (4 * (k - (i + 1))) s q))) (sym e) p)
-        ∙ go (marked 4 found) (marked 4 m) (anyZero (nums 2 (4 * (k - (i + 1))) s (at + 8 * (i + 1))))
+        ∙ either (marked 4 found) (marked 4 m) (anyZero (nums 2 (4 * (k - (i + 1))) s (at + 8 * (i + 1))))
         ∙ ap (λ (x : Bool). pick x true (anyZero (nums 2 (4 * (k - (i + 1))) s (at + 8 * (i + 1))))) (sym (marked-or 4 found m))
-      where
-        go : (x y z : Bool) → pick x true (pick y true z) ≡ pick (pick x true y) true z
-        go true y z = refl
-        go false y z = refl
 
     pub fours-end : k ≤ i → all ≡ marked 4 found
     unfolding nums anyZero
