@@ -11,6 +11,7 @@ pub mod Placed
 pub mod Stores
 pub mod Writing
 pub mod Texts
+pub mod Lanes
 pub mod Floats
 pub mod Sets
 pub mod Joined

@@ -1,6 +1,7 @@
 pub mod Numbers
 pub mod Reader
 pub mod Text
+pub mod Lanes
 pub mod Faults
 pub mod Store
 pub mod Writing

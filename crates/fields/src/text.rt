@@ -1,10 +1,12 @@
 // Names: counted text units with a closing zero.
 ghost use mathlib.Core.Path.{_≡_};
-ghost use Prim.Native.Nat.{_+_, _*_, _≤_};
+ghost use Prim.Native.Nat.{_+_, _*_, _≤_, _<_};
 ghost use lib.ListN.{length};
+ghost use mathlib.Core.Bool.{true, false};
 ghost use Rattle.fields.specs.Numbers.{nums};
 ghost use Rattle.fields.specs.Reader.{done};
 ghost use Rattle.fields.specs.Text.{anyZero, closed, text, closedUnits, name, place};
+ghost use Rattle.fields.specs.Lanes.{lanes, marked};
 ghost use Rattle.fields.specs.Answer.{toldStep, toldName};
 use crate::number::Number16;
 use crate::number::Number32;
@@ -17,9 +19,53 @@ pub enum NameAt {
     Refused(u32, usize),
 }
 
-// Whether one of n units from `at` is zero; a unit is where it is with its bytes swapped. The loop
-// has no way out but its end, so that it is compiled to vectors.
-fn any_zero(s: &[u8], at: usize, n: usize) -> bool
+fn wide64(x: u8) -> u64
+    ensures { λ r. ⌜ (r ≡ x) × (r < 256) ⌝ }
+{
+    x as u64
+}
+
+// Four units from `at` in one word, each with its bytes swapped. Joined by `|` and shifts the eight
+// bytes become one load before loops are compiled to vectors; as a sum of products only afterwards.
+fn four_at(s: &[u8], at: usize) -> u64
+    requires { ⌜ at + 8 ≤ length (now s) ⌝ }
+    ensures { λ r. ⌜ anyZero (lanes 4 r) ≡ anyZero (nums 2 4 (now (s .entry)) at) ⌝ }
+{
+    wide64(s[at])
+        | wide64(s[at + 1]) << 8
+        | wide64(s[at + 2]) << 16
+        | wide64(s[at + 3]) << 24
+        | wide64(s[at + 4]) << 32
+        | wide64(s[at + 5]) << 40
+        | wide64(s[at + 6]) << 48
+        | wide64(s[at + 7]) << 56
+}
+
+// A word that is marked exactly where one of the four lanes of x is zero: less one, a zero lane
+// borrows and gets the highest bit, which its complement has too.
+fn marks(x: u64) -> u64
+    ensures { λ r. ⌜ marked 4 r ≡ anyZero (lanes 4 x) ⌝ }
+{
+    std::num::wrapping_sub_u64(x, 0x0001_0001_0001_0001) & !x
+}
+
+// Whether one of four times k units from `at` is zero. The loop has no way out but its end, and
+// keeps a word, not a bool, so that it is compiled to vectors.
+fn any_in_fours(s: &[u8], at: usize, k: usize) -> bool
+    requires { ⌜ at + k * 8 ≤ length (now s) ⌝ }
+    ensures { λ r. ⌜ r ≡ anyZero (nums 2 (4 * k) (now (s .entry)) at) ⌝ }
+{
+    let mut found: u64 = 0;
+    let mut i: usize = 0;
+    while i < k {
+        found = found | marks(four_at(s, at + 8 * i));
+        i += 1;
+    }
+    found & 0x8000_8000_8000_8000 != 0
+}
+
+// Whether one of n units from `at` is zero, one by one; a unit is where it is with its bytes swapped.
+fn any_one_by_one(s: &[u8], at: usize, n: usize) -> bool
     requires { ⌜ at + n * 2 ≤ length (now s) ⌝ }
     ensures { λ r. ⌜ r ≡ anyZero (nums 2 n (now (s .entry)) at) ⌝ }
 {
@@ -32,6 +78,92 @@ fn any_zero(s: &[u8], at: usize, n: usize) -> bool
         i += 1;
     }
     found
+}
+
+// Whether one of n units from `at` is zero: four at a time, and the one to three that are left.
+fn any_in_few(s: &[u8], at: usize, n: usize) -> bool
+    requires { ⌜ at + n * 2 ≤ length (now s) ⌝ }
+    ensures { λ r. ⌜ r ≡ anyZero (nums 2 n (now (s .entry)) at) ⌝ }
+{
+    let k = n / 4;
+    if any_in_fours(s, at, k) {
+        return true;
+    }
+    any_one_by_one(s, at + 8 * k, n % 4)
+}
+
+// A word that is marked wherever one of the four lanes of x is zero, and where a lane is above
+// 0x8000: what it does not mark has no zero, and it costs less than `marks`.
+fn less(x: u64) -> u64
+    ensures { λ r. ⌜ (marked 4 r ≡ false → anyZero (lanes 4 x) ≡ false) ⌝ }
+{
+    std::num::wrapping_sub_u64(x, 0x0001_0001_0001_0001)
+}
+
+// Whether the 128 units from `at` are clear at a glance: where they are, none is zero. The loop of
+// known length is unrolled.
+fn is_clear(s: &[u8], at: usize) -> bool
+    requires { ⌜ at + 256 ≤ length (now s) ⌝ }
+    ensures { λ r. ⌜ (r ≡ true → anyZero (nums 2 128 (now (s .entry)) at) ≡ false) ⌝ }
+{
+    let mut found: u64 = 0;
+    let mut i: usize = 0;
+    while i < 32 {
+        found = found | less(four_at(s, at + 8 * i));
+        i += 1;
+    }
+    found & 0x8000_8000_8000_8000 == 0
+}
+
+// How many of k fours from `at` are clear at a glance, from the first on.
+fn clear_fours(s: &[u8], at: usize, k: usize) -> usize
+    requires { ⌜ at + k * 8 ≤ length (now s) ⌝ }
+    ensures { λ r. ⌜ (r ≤ k) × (anyZero (nums 2 (4 * r) (now (s .entry)) at) ≡ false) ⌝ }
+{
+    let mut i: usize = 0;
+    while k - i >= 32 {
+        if !is_clear(s, at + 8 * i) {
+            return i;
+        }
+        i += 32;
+    }
+    i
+}
+
+// How many of k fours from `at` have no zero, from the first on, by 32 of them at a time.
+fn sound_fours(s: &[u8], at: usize, k: usize) -> usize
+    requires { ⌜ at + k * 8 ≤ length (now s) ⌝ }
+    ensures { λ r. ⌜ (r ≤ k) × (anyZero (nums 2 (4 * r) (now (s .entry)) at) ≡ false) ⌝ }
+{
+    let mut i: usize = 0;
+    while k - i >= 32 {
+        if any_in_fours(s, at + 8 * i, 32) {
+            return i;
+        }
+        i += 32;
+    }
+    i
+}
+
+// The same, as far as they are clear at a glance, and then by the exact test.
+fn passed_fours(s: &[u8], at: usize, k: usize) -> usize
+    requires { ⌜ at + k * 8 ≤ length (now s) ⌝ }
+    ensures { λ r. ⌜ (r ≤ k) × (anyZero (nums 2 (4 * r) (now (s .entry)) at) ≡ false) ⌝ }
+{
+    let i = clear_fours(s, at, k);
+    i + sound_fours(s, at + 8 * i, k - i)
+}
+
+// Whether one of n units from `at` is zero. A long name is first passed over by 128 units at a time.
+fn any_zero(s: &[u8], at: usize, n: usize) -> bool
+    requires { ⌜ at + n * 2 ≤ length (now s) ⌝ }
+    ensures { λ r. ⌜ r ≡ anyZero (nums 2 n (now (s .entry)) at) ⌝ }
+{
+    if n < 256 {
+        return any_in_few(s, at, n);
+    }
+    let k = passed_fours(s, at, n / 4);
+    any_in_few(s, at + 8 * k, n - 4 * k)
 }
 
 // n units from `at`, none of them zero: the next place, 2 where they pass the end, 8 where one is zero.
