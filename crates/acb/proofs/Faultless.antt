@@ -4,10 +4,10 @@ use mathlib.Core.Path.{_≡_, refl, sym, ap, subst}
 use mathlib.Core.Bool.{true}
 use lib.Dec.{ltb}
 use borrow.Author.Tests.{ltb-true, lt-ltb}
-use Rattle.fields.specs.Numbers.{All}
-use Rattle.fields.specs.Faults.{firstOf}
-use Rattle.fields.specs.Reader.{pick}
-use Rattle.fields.proofs.Tells.{first-inv, pick-none}
+use Rattle.algebra.specs.Numbers.{All}
+use Rattle.algebra.specs.Faults.{firstOf}
+use Rattle.algebra.specs.Reader.{pick}
+use Rattle.algebra.proofs.Tells.{first-inv, pick-none}
 use native.Mathlib.Omega.{arith}
 use Rattle.acb.specs.Grammar.{Tag, Ending, tagged, other, Book, Swatch, Allowed}
 use Rattle.acb.specs.Reading.{isSpace, componentsOf, space}

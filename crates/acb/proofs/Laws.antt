@@ -7,17 +7,17 @@ use lib.Dec.{ltb, eqb}
 use lib.ListN.{length, length-append}
 use borrow.Author.Tests.{eqb-true, ltb-true, lt-ltb, ne-eqb}
 use native.Mathlib.Omega.{arith}
-use Rattle.fields.specs.Numbers.{be, joined, At, Bytes, All}
-use Rattle.fields.specs.Reader.{Reader, ok, refuse, pick, field, body, Judged, fine, judged, give, _>>=_, each}
-use Rattle.fields.specs.Text.{Name}
-use Rattle.fields.specs.Algebra.{Exact}
-use Rattle.fields.proofs.Laws.{field-short, judged-short}
-use Rattle.fields.proofs.Cuts.{judged-reads}
-use Rattle.fields.proofs.Stops.{ended-left}
-use Rattle.fields.proofs.Places.{at-in, at-left, at-right, at-next}
-use Rattle.fields.proofs.Inverse.{then-inv, unless-fine, ok-value, ok-place}
-use Rattle.fields.proofs.Exact.{all-map, map-id, judged-exact, body-exact, same-exact, one-exact, bind-exact, give-exact, each-exact}
-use Rattle.fields.proofs.Sequence.{field-exact, then-exact}
+use Rattle.algebra.specs.Numbers.{be, joined, At, Bytes, All}
+use Rattle.algebra.specs.Reader.{Reader, ok, refuse, pick, field, body, Judged, fine, judged, give, _>>=_, each}
+use Rattle.algebra.specs.Text.{Name}
+use Rattle.algebra.specs.Algebra.{Exact}
+use Rattle.algebra.proofs.Laws.{field-short, judged-short}
+use Rattle.algebra.proofs.Cuts.{judged-reads}
+use Rattle.algebra.proofs.Stops.{ended-left}
+use Rattle.algebra.proofs.Places.{at-in, at-left, at-right, at-next}
+use Rattle.algebra.proofs.Inverse.{then-inv, unless-fine, ok-value, ok-place}
+use Rattle.algebra.proofs.Exact.{all-map, map-id, judged-exact, body-exact, same-exact, one-exact, bind-exact, give-exact, each-exact}
+use Rattle.algebra.proofs.Sequence.{field-exact, then-exact}
 use Rattle.acb.specs.Grammar.{Colour, Space, rgb, cmyk, lab, String, Octets, Swatch, stringBytes, colourBytes}
 use Rattle.acb.specs.Reading.{string, Entry, colour, isSpace, componentsOf, pageSize, space, Numbers, Header, signature, version, opening, strings, numbers, header, colourOf, isTag, tagOf, tag, closing}
 

@@ -5,9 +5,9 @@ use mathlib.Core.List.{List}
 use lib.ListN.{length}
 use lib.Dec.{leb, ltb, eqb}
 use native.Mathlib.Omega.{arith}
-use Rattle.fields.specs.Reader.{refuse, field, body, judged, each, limit}
-use Rattle.fields.specs.Refusal.{Of, among, Placed, ends, fails}
-use Rattle.fields.proofs.Placed.{unless-numbered, refusal-placed, placed-then, placed-pick, field-placed, body-placed, judged-placed, ended-placed, each-placed}
+use Rattle.algebra.specs.Reader.{refuse, field, body, judged, each, limit}
+use Rattle.algebra.specs.Refusal.{Of, among, Placed, ends, fails}
+use Rattle.algebra.proofs.Placed.{unless-numbered, refusal-placed, placed-then, placed-pick, field-placed, body-placed, judged-placed, ended-placed, each-placed}
 use Rattle.acb.specs.Reading.{string, colour, isSpace, componentsOf, pageSize, space, signature, version, opening, strings, numbers, header, isTag, tagOf, tag, closing, book, acb}
 use Rattle.acb.specs.Refusals.{refusals}
 

@@ -7,13 +7,13 @@ use lib.Seq.{length-take-le, take-at}
 use borrow.Author.Tests.{le-leb, lt-leb}
 use native.Mathlib.Omega.{arith}
 use native.Mathlib.Nat.{zero-add}
-use Rattle.fields.specs.Numbers.{be, joined, At, Bytes, All}
-use Rattle.fields.specs.Reader.{ok, refuse, each}
-use Rattle.fields.specs.Cut.{notWhole, Stub}
-use Rattle.fields.proofs.Places.{length-be, at-whole, bytes-append}
-use Rattle.fields.proofs.Cuts.{stub-take, bytes-take}
-use Rattle.fields.proofs.Stops.{each-stops}
-use Rattle.fields.proofs.Tails.{Tail, tail-left, tail-after}
+use Rattle.algebra.specs.Numbers.{be, joined, At, Bytes, All}
+use Rattle.algebra.specs.Reader.{ok, refuse, each}
+use Rattle.algebra.specs.Cut.{notWhole, Stub}
+use Rattle.algebra.proofs.Places.{length-be, at-whole, bytes-append}
+use Rattle.algebra.proofs.Cuts.{stub-take, bytes-take}
+use Rattle.algebra.proofs.Stops.{each-stops}
+use Rattle.algebra.proofs.Tails.{Tail, tail-left, tail-after}
 use Rattle.acb.specs.Grammar.{Tag, none, spot, process, Ending, tagged, Book, String, Swatch, Allowed, File, file, stringBytes, colourBytes, tagBytes, endingBytes, headBytes, fileBytes}
 use Rattle.acb.specs.Reading.{string, colour, componentsOf, Numbers, opening, strings, numbers, header, Contents, closing, book, acb, bookOf}
 use Rattle.acb.specs.Widths.{headWidths, colourWidths, endingWidths, fileWidths}

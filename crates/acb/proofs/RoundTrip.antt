@@ -8,11 +8,11 @@ use lib.Dec.{leb, ltb}
 use lib.ListN.{length, length-append}
 use borrow.Author.Tests.{leb-true, le-leb, ltb-true, ltb-false}
 use native.Mathlib.Omega.{arith}
-use Rattle.fields.specs.Numbers.{be, joined, Bytes, All}
-use Rattle.fields.specs.Reader.{Res, ok, refuse, pick, numberOf, limit}
-use Rattle.fields.specs.Faults.{firstOf}
-use Rattle.fields.proofs.Places.{length-be, length-bes}
-use Rattle.fields.proofs.Inverse.{clash, ok-value}
+use Rattle.algebra.specs.Numbers.{be, joined, Bytes, All}
+use Rattle.algebra.specs.Reader.{Res, ok, refuse, pick, numberOf, limit}
+use Rattle.algebra.specs.Faults.{firstOf}
+use Rattle.algebra.proofs.Places.{length-be, length-bes}
+use Rattle.algebra.proofs.Inverse.{clash, ok-value}
 use Rattle.acb.specs.Grammar.{Colour, none, Ending, tagged, other, Unknown, Book, Space, Swatch, stringBytes, colourBytes, endingBytes, headBytes, fileBytes, File, file}
 use Rattle.acb.specs.Reading.{isSpace, Contents, book, acb, bookOf}
 use Rattle.acb.specs.Faults.{endingFault, EndingFits, bookFault, BookFits}

@@ -6,10 +6,10 @@ use mathlib.Core.Bool.{Bool, true, false, true≢false}
 use lib.ListN.{length}
 use native.Mathlib.Omega.{arith}
 use native.Mathlib.Decide.{ℕ-discrete}
-use Rattle.fields.specs.Numbers.{be, joined, At, Bytes, All}
-use Rattle.fields.proofs.Places.{length-be, at-whole, num-be}
-use Rattle.fields.proofs.Exact.{all-map, all-from}
-use Rattle.fields.proofs.Begins.{First, fewer, number, first, Row, shorter, numbers, row}
+use Rattle.algebra.specs.Numbers.{be, joined, At, Bytes, All}
+use Rattle.algebra.proofs.Places.{length-be, at-whole, num-be}
+use Rattle.algebra.proofs.Exact.{all-map, all-from}
+use Rattle.algebra.proofs.Begins.{First, fewer, number, first, Row, shorter, numbers, row}
 use Rattle.acb.specs.Grammar.{Colour, Tag, none, spot, process, tagged, Unknown, Book, Space, String, Octets, Swatch, Allowed, File, file, stringBytes, colourBytes, tagBytes, headBytes, fileBytes}
 use Rattle.acb.specs.Reading.{isSpace, componentsOf}
 use Rattle.acb.specs.Damaged.{Paged, signature-cut, wrong-signature, version-cut, wrong-version, identifier-cut, CutString, count-cut, units-cut, DamagedNumbers, colours-cut, size-cut, size-zero, offset-cut, space-cut, wrong-space, CutColour, name-cut, code-cut, component-cut, DamagedEnd, tag-cut, wrong-tag, left-over, opened, stringsEnd, counting, ending, tagAt, Damaged, wrong-opening, string-cut, wrong-numbers, record-cut, wrong-end}

@@ -7,14 +7,14 @@ use lib.ListN.{length}
 use borrow.Author.Tests.{ne-eqb}
 use native.Mathlib.Omega.{arith}
 use native.Mathlib.Nat.{add-zero}
-use Rattle.fields.specs.Numbers.{nums, be, joined, Bytes}
-use Rattle.fields.specs.Reader.{Res, ok, refuse, field, fault, judged, each}
-use Rattle.fields.proofs.Laws.{field-short, body-short}
-use Rattle.fields.proofs.Places.{length-be, length-bes, length-nums, nums-lt, bes-nums}
-use Rattle.fields.proofs.Exact.{all-map, body-exact}
-use Rattle.fields.proofs.Sequence.{field-exact}
-use Rattle.fields.proofs.Stops.{each-stops}
-use Rattle.fields.proofs.Tails.{Tail, tail-left, tail-after, field-there, field-cut, judged-there, judged-wrong, judged-cut}
+use Rattle.algebra.specs.Numbers.{nums, be, joined, Bytes}
+use Rattle.algebra.specs.Reader.{Res, ok, refuse, field, fault, judged, each}
+use Rattle.algebra.proofs.Laws.{field-short, body-short}
+use Rattle.algebra.proofs.Places.{length-be, length-bes, length-nums, nums-lt, bes-nums}
+use Rattle.algebra.proofs.Exact.{all-map, body-exact}
+use Rattle.algebra.proofs.Sequence.{field-exact}
+use Rattle.algebra.proofs.Stops.{each-stops}
+use Rattle.algebra.proofs.Tails.{Tail, tail-left, tail-after, field-there, field-cut, judged-there, judged-wrong, judged-cut}
 use Rattle.acb.specs.Grammar.{none, spot, process, Unknown, Space, stringBytes}
 use Rattle.acb.specs.Reading.{string, colour, isSpace, componentsOf, pageSize, space, signature, version, opening, numbers, isTag, tagOf, tag, closing}
 use Rattle.acb.specs.Damaged.{DamagedOpening, signature-cut, wrong-signature, version-cut, wrong-version, identifier-cut, CutString, count-cut, units-cut, DamagedNumbers, colours-cut, size-cut, size-zero, offset-cut, space-cut, wrong-space, CutColour, name-cut, code-cut, component-cut, DamagedEnd, tag-cut, wrong-tag, left-over}

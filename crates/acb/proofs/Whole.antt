@@ -8,13 +8,13 @@ use lib.ListN.{length, length-append}
 use borrow.Author.Tests.{eqb-true, eq-eqb, ne-eqb, le-leb, leb-true}
 use native.Mathlib.Omega.{arith}
 use native.Mathlib.Nat.{add-zero, zero-add}
-use Rattle.fields.specs.Numbers.{be, joined, At, Bytes, All}
-use Rattle.fields.specs.Reader.{Res, ok, pick, then, judged, each, ended}
-use Rattle.fields.specs.Text.{Name}
-use Rattle.fields.specs.Algebra.{Exact}
-use Rattle.fields.proofs.Places.{length-be, at-in, at-next, at-left, at-after, at-all, at-whole, bytes-nil, bytes-append, bytes-be, bytes-joined}
-use Rattle.fields.proofs.Inverse.{then-inv, pick-inv, unless-fine, ended-inv, ok-value, ok-place}
-use Rattle.fields.proofs.Exact.{judged-exact, each-exact}
+use Rattle.algebra.specs.Numbers.{be, joined, At, Bytes, All}
+use Rattle.algebra.specs.Reader.{Res, ok, pick, then, judged, each, ended}
+use Rattle.algebra.specs.Text.{Name}
+use Rattle.algebra.specs.Algebra.{Exact}
+use Rattle.algebra.proofs.Places.{length-be, at-in, at-next, at-left, at-after, at-all, at-whole, bytes-nil, bytes-append, bytes-be, bytes-joined}
+use Rattle.algebra.proofs.Inverse.{then-inv, pick-inv, unless-fine, ended-inv, ok-value, ok-place}
+use Rattle.algebra.proofs.Exact.{judged-exact, each-exact}
 use Rattle.acb.specs.Grammar.{Colour, Tag, none, spot, process, Ending, tagged, other, Book, Space, Swatch, stringBytes, colourBytes, tagBytes, endingBytes, headBytes, fileBytes, Allowed, File, file}
 use Rattle.acb.specs.Reading.{Entry, colour, colourOf, componentsOf, Numbers, Header, header, isTag, tagOf, tag, closing, Contents, book, acb, bookOf}
 use Rattle.acb.proofs.Laws.{tag-fine, space-components, colour-exact, numberBytes, Top, topOf, Headed, topBytes, header-exact}

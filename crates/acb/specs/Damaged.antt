@@ -4,7 +4,7 @@ use Prim.Native.Nat.{ℕ, _+_, _*_, _^_, _<_}
 use mathlib.Core.Path.{_≡_}
 use mathlib.Core.List.{List, _++_}
 use lib.ListN.{length}
-use Rattle.fields.specs.Numbers.{be, joined, All}
+use Rattle.algebra.specs.Numbers.{be, joined, All}
 use Rattle.acb.specs.Grammar.{Tag, none, tagged, Unknown, Book, Space, String, Octets, Allowed, stringBytes, colourBytes, tagBytes, headBytes}
 
 -- ---- parts of a file: the bytes from the part to the file's end, the number, the place counted from the part

@@ -3,9 +3,9 @@ use Prim.Native.Nat.{ℕ, _^_, _<_}
 use mathlib.Core.Path.{_≡_}
 use lib.Dec.{ltb}
 use lib.ListN.{length}
-use Rattle.fields.specs.Numbers.{All}
-use Rattle.fields.specs.Reader.{pick}
-use Rattle.fields.specs.Faults.{firstOf}
+use Rattle.algebra.specs.Numbers.{All}
+use Rattle.algebra.specs.Reader.{pick}
+use Rattle.algebra.specs.Faults.{firstOf}
 use Rattle.acb.specs.Grammar.{Ending, tagged, other, Unknown, Book, String, Swatch}
 use Rattle.acb.specs.Reading.{isSpace, componentsOf}
 

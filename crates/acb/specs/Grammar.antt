@@ -4,7 +4,7 @@ use Prim.Native.Nat.{ℕ, _^_, _≤_, _<_}
 use mathlib.Core.Path.{_≡_}
 use mathlib.Core.List.{List, [], _++_}
 use lib.ListN.{length}
-use Rattle.fields.specs.Numbers.{be, joined, All}
+use Rattle.algebra.specs.Numbers.{be, joined, All}
 
 -- a record: the units of its name, its code, its components; one without a name is a dummy
 pub record Colour : Type 0 where

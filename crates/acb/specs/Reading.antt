@@ -4,8 +4,8 @@ use mathlib.Core.List.{List, map}
 use mathlib.Core.Bool.{Bool, true}
 use lib.Dec.{leb, ltb, eqb}
 use lib.ListN.{length}
-use Rattle.fields.specs.Reader.{Res, ok, refuse, Reader, then, pick, field, body, Judged, unless, judged, give, _>>=_, each, ended, limit}
-use Rattle.fields.specs.Text.{Name}
+use Rattle.algebra.specs.Reader.{Res, ok, refuse, Reader, then, pick, field, body, Judged, unless, judged, give, _>>=_, each, ended, limit}
+use Rattle.algebra.specs.Text.{Name}
 use Rattle.colour.specs.Spaces.{rgb, cmyk, lab}
 use Rattle.acb.specs.Grammar.{Colour, Tag, none, spot, process, tagged, Book}
 

@@ -8,12 +8,12 @@ use lib.Dec.{leb, eqb}
 use borrow.Author.Tests.{le-leb, lt-leb, leb-true, leb-false, eq-eqb, ne-eqb}
 use native.Mathlib.Omega.{arith}
 use native.Mathlib.Nat.{add-zero}
-use Rattle.fields.specs.Numbers.{num}
-use Rattle.fields.specs.Reader.{Res, ok, refuse, then, pick, field, body, done, mapRes, each, ended, judged, unless, limit}
-use Rattle.fields.specs.Text.{Name, place}
-use Rattle.fields.proofs.Laws.{field-in, field-short, body-in, body-short, judged-short, judged-bad, judged-ok, then-done}
-use Rattle.fields.proofs.Places.{length-nums}
-use Rattle.fields.proofs.Inverse.{body-inv, field-inv, each-length, ok-value, ok-place, clash}
+use Rattle.algebra.specs.Numbers.{num}
+use Rattle.algebra.specs.Reader.{Res, ok, refuse, then, pick, field, body, done, mapRes, each, ended, judged, unless, limit}
+use Rattle.algebra.specs.Text.{Name, place}
+use Rattle.algebra.proofs.Laws.{field-in, field-short, body-in, body-short, judged-short, judged-bad, judged-ok, then-done}
+use Rattle.algebra.proofs.Places.{length-nums}
+use Rattle.algebra.proofs.Inverse.{body-inv, field-inv, each-length, ok-value, ok-place, clash}
 use Rattle.acb.specs.Grammar.{Tag, none, spot, process}
 use Rattle.acb.specs.Reading.{string, Entry, colour, isTag, tagOf, componentsOf, Numbers, Header, opening, strings, numbers, header, closing, book, acb}
 use Rattle.acb_judge.specs.Parts.{two, headerFrom, rest, tagged, unknown, knownTag}

@@ -2,8 +2,8 @@
 use Prim.Native.Nat.{ℕ}
 use mathlib.Core.List.{List, [], _∷_, map}
 use lib.ListN.{length}
-use Rattle.fields.specs.Reader.{Res, ok, refuse}
-use Rattle.fields.specs.Text.{Name}
+use Rattle.algebra.specs.Reader.{Res, ok, refuse}
+use Rattle.algebra.specs.Text.{Name}
 use Rattle.acb.specs.Grammar.{Tag, none, spot, process}
 use Rattle.acb.specs.Reading.{Numbers, Header, Contents}
 use Rattle.acb_judge.specs.Parts.{Found, tagged, unknown}

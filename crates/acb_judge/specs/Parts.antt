@@ -1,8 +1,8 @@
 -- Parts of the reading that the code goes by.
 use Prim.Native.Nat.{ℕ}
 use lib.Dec.{eqb}
-use Rattle.fields.specs.Reader.{Reader, ok, then, pick, field, judged, each}
-use Rattle.fields.specs.Text.{place}
+use Rattle.algebra.specs.Reader.{Reader, ok, then, pick, field, judged, each}
+use Rattle.algebra.specs.Text.{place}
 use Rattle.acb.specs.Grammar.{Tag, spot, process}
 use Rattle.acb.specs.Reading.{string, colour, componentsOf, Numbers, Header, space, strings, numbers, closing}
 

@@ -3,9 +3,10 @@ ghost use mathlib.Core.Path.{_≡_};
 ghost use Prim.Native.Nat.{_≤_};
 ghost use lib.ListN.{length};
 ghost use mathlib.Core.List.{map};
-ghost use Rattle.fields.specs.Reader.{done, each, judged, mapRes};
-ghost use Rattle.fields.specs.Text.{place};
-ghost use Rattle.fields.specs.Answer.{toldStep, toldName};
+ghost use Rattle.algebra.specs.Reader.{done, each, judged, mapRes};
+ghost use Rattle.algebra.specs.Text.{place};
+ghost use Rattle.fields.specs.Answer.{toldStep};
+ghost use Rattle.names.specs.Answer.{toldName};
 ghost use Rattle.acb.specs.Reading.{string, colour, isSpace, componentsOf, pageSize, space, opening, strings, numbers, header, closing, acb};
 ghost use Rattle.acb_judge.specs.Parts.{two, offsets, headerFrom, rest, knownTag};
 ghost use Rattle.acb_judge.specs.Answer.{lies, verdict, verdictFrom, told, toldHeader, toldOpening, toldTwo, toldStrings, toldCounts, toldHead, headed, toldKnown, toldClosing};
@@ -13,11 +14,11 @@ use acb::LIMIT;
 use acb::PROCESS;
 use acb::SIGNATURE;
 use acb::SPOT;
-use fields::NameAt;
 use fields::Number16;
 use fields::Number32;
 use fields::Number64;
 use fields::Step;
+use names::NameAt;
 
 // Where a string lies: the place of its first unit, and its number of units.
 pub struct Text {

@@ -9,10 +9,10 @@ use lib.Dec.{leb, eqb}
 use borrow.Author.Tests.{le-leb, eq-eqb, ne-eqb}
 use native.Mathlib.Omega.{arith}
 use native.Mathlib.Numerals.{add-one}
-use Rattle.fields.specs.Numbers.{joined, Bytes}
-use Rattle.fields.specs.Reader.{Res, ok, refuse, pick}
-use Rattle.fields.proofs.Places.{length-joined}
-use Rattle.fields.proofs.Exact.{length-map}
+use Rattle.algebra.specs.Numbers.{joined, Bytes}
+use Rattle.algebra.specs.Reader.{Res, ok, refuse, pick}
+use Rattle.algebra.proofs.Places.{length-joined}
+use Rattle.algebra.proofs.Exact.{length-map}
 use Rattle.acb.specs.Grammar.{Tag}
 use Rattle.acb.specs.Reading.{Entry, Contents, componentsOf, acb, colourOf}
 use Rattle.acb.proofs.RoundTrip.{accepted-allowed, thirteen-each}

@@ -4,8 +4,8 @@ use mathlib.Core.List.{List, [], _++_}
 use mathlib.Core.Bool.{Bool}
 use lib.ListN.{length, getD, take, drop}
 use lib.Dec.{eqb}
-use Rattle.fields.specs.Reader.{Res, ok, refuse, pick}
-use Rattle.fields.specs.Numbers.{joined}
+use Rattle.algebra.specs.Reader.{Res, ok, refuse, pick}
+use Rattle.algebra.specs.Numbers.{joined}
 use Rattle.acb.specs.Reading.{Entry, Contents, componentsOf}
 use Rattle.acb.specs.Grammar.{Tag, none, spot, process}
 use Rattle.acb_judge.specs.Answer.{Shown, shown}

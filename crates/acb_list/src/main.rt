@@ -4,7 +4,7 @@ ghost use mathlib.Core.Path.{_≡_};
 ghost use mathlib.Core.List.{List, _++_};
 ghost use Prim.Native.Nat.{ℕ, _≤_, _<_};
 ghost use lib.ListN.{length, take, drop};
-ghost use Rattle.fields.specs.Numbers.{joined};
+ghost use Rattle.algebra.specs.Numbers.{joined};
 ghost use Rattle.acb.specs.Reading.{Entry, acb};
 ghost use Rattle.acb_judge.specs.Answer.{toldText, toldHeader, toldTag};
 ghost use Rattle.acb_show.specs.Answer.{toldPage};

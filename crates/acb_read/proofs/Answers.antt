@@ -8,10 +8,10 @@ use lib.Seq.{sets, sets-eq}
 use lib.Dec.{ltb}
 use borrow.Author.Tests.{le-leb, lt-leb, lt-ltb, le-ltb, ltb-true}
 use native.Mathlib.Omega.{arith}
-use Rattle.fields.specs.Numbers.{num, joined, Bytes}
-use Rattle.fields.specs.Reader.{Res, ok, refuse, pick, field, orZero, limit}
-use Rattle.fields.specs.Store.{part}
-use Rattle.fields.proofs.Places.{length-joined}
+use Rattle.algebra.specs.Numbers.{num, joined, Bytes}
+use Rattle.algebra.specs.Reader.{Res, ok, refuse, pick, field, orZero, limit}
+use Rattle.algebra.specs.Store.{part}
+use Rattle.algebra.proofs.Places.{length-joined}
 use Rattle.acb.specs.Grammar.{Tag}
 use Rattle.acb.specs.Reading.{Entry, componentsOf, Contents, acb}
 use Rattle.acb_judge.specs.Answer.{Shown as Heading, Verdict, accepted, refused, verdict}

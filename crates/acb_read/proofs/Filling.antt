@@ -8,10 +8,10 @@ use borrow.Author.Tests.{leb-true}
 use native.Mathlib.Omega.{arith}
 use native.Mathlib.Numerals.{add-one}
 use native.Mathlib.Nat.{add-zero}
-use Rattle.fields.specs.Numbers.{num, Bytes}
-use Rattle.fields.specs.Reader.{ok, each, limit}
-use Rattle.fields.proofs.Places.{at-in}
-use Rattle.fields.proofs.Inverse.{ok-value, then-inv, pick-inv, each-inv, each-length}
+use Rattle.algebra.specs.Numbers.{num, Bytes}
+use Rattle.algebra.specs.Reader.{ok, each, limit}
+use Rattle.algebra.proofs.Places.{at-in}
+use Rattle.algebra.proofs.Inverse.{ok-value, then-inv, pick-inv, each-inv, each-length}
 use Rattle.acb.specs.Reading.{Entry, colour, componentsOf, header, Contents, closing, book, acb}
 use Rattle.acb.proofs.Laws.{components-some, topBytes, topOf, header-exact}
 use Rattle.acb_read.specs.Table.{row, blank}

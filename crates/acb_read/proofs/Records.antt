@@ -8,12 +8,12 @@ use lib.ListN.{length, getD, set, List·getD-eq-default}
 use lib.Seq.{sets}
 use borrow.Author.Tests.{eqb-true, eqb-false}
 use native.Mathlib.Omega.{arith}
-use Rattle.fields.specs.Numbers.{num, nums, Bytes}
-use Rattle.fields.specs.Reader.{ok, pick, field, orZero, body, each}
-use Rattle.fields.specs.Text.{Name}
-use Rattle.fields.proofs.Laws.{field-in, num-1}
-use Rattle.fields.proofs.Places.{length-nums, getD-nums}
-use Rattle.fields.proofs.Inverse.{ok-value, ok-place, then-inv, field-inv, body-inv, each-none, each-inv}
+use Rattle.algebra.specs.Numbers.{num, nums, Bytes}
+use Rattle.algebra.specs.Reader.{ok, pick, field, orZero, body, each}
+use Rattle.algebra.specs.Text.{Name}
+use Rattle.algebra.proofs.Laws.{field-in, num-1}
+use Rattle.algebra.proofs.Places.{length-nums, getD-nums}
+use Rattle.algebra.proofs.Inverse.{ok-value, ok-place, then-inv, field-inv, body-inv, each-none, each-inv}
 use Rattle.acb.specs.Reading.{string, Entry, colour}
 use Rattle.acb_read.specs.Table.{row}
 use Rattle.acb_read.specs.Raw.{codeAt, nextRecord, fourthAt, codeRow, rawRow}

@@ -4,8 +4,8 @@ use mathlib.Core.Path.{_≡_}
 use mathlib.Core.List.{List, [], _∷_}
 use lib.Dec.{eqb}
 use lib.ListN.{length, getD}
-use Rattle.fields.specs.Numbers.{num}
-use Rattle.fields.specs.Reader.{Res, ok, refuse, pick}
+use Rattle.algebra.specs.Numbers.{num}
+use Rattle.algebra.specs.Reader.{Res, ok, refuse, pick}
 use Rattle.acb.specs.Reading.{Entry, componentsOf, Contents}
 
 -- ---- places

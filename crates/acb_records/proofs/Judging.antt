@@ -1,5 +1,5 @@
 -- Which fault is found first, and how long the file is, on plain values. Assumes nothing.
-use Rattle.fields.proofs.Counted.{counted-end, counted-start, counted-turn}
+use Rattle.algebra.proofs.Counted.{counted-end, counted-start, counted-turn}
 use Prim.Native.Nat.{ℕ, zero, suc, _+_, _*_, _-_, _/_, _≤_, _<_}
 use mathlib.Core.Path.{_≡_, refl, sym, ap, _∙_, subst}
 use mathlib.Core.List.{List, [], _∷_}
@@ -10,11 +10,11 @@ use borrow.Author.Tests.{eq-eqb, ne-eqb, le-leb, lt-leb, leb-true, lt-ltb, le-lt
 use native.Mathlib.Omega.{arith}
 use native.Mathlib.Nat.{add-zero, lt-of-not-le}
 use native.Mathlib.Decide.{ℕ-discrete, decLe}
-use Rattle.fields.specs.Reader.{pick, numberOf}
-use Rattle.fields.specs.Faults.{firstOf, faults}
-use Rattle.fields.proofs.Laws.{body-in, body-short}
-use Rattle.fields.proofs.Tells.{first-inv, pick-none}
-use Rattle.fields.proofs.Firsts.{hit, pass}
+use Rattle.algebra.specs.Reader.{pick, numberOf}
+use Rattle.algebra.specs.Faults.{firstOf, faults}
+use Rattle.algebra.proofs.Laws.{body-in, body-short}
+use Rattle.algebra.proofs.Tells.{first-inv, pick-none}
+use Rattle.algebra.proofs.Firsts.{hit, pass}
 use Rattle.acb.specs.Reading.{isSpace}
 use Rattle.acb_judge.specs.Answer.{Shown}
 use Rattle.acb_records.specs.Writing.{Given, givenAt, givens, componentsIn, sizes, stringSize, sizeIn, textFault, byteFault, headFault, colourFault}

@@ -6,12 +6,12 @@ use lib.ListN.{length}
 use lib.Dec.{leb}
 use borrow.Author.Tests.{le-leb, lt-leb}
 use native.Mathlib.Omega.{arith}
-use Rattle.fields.specs.Reader.{limit}
-use Rattle.fields.specs.Faults.{firstOf, faults}
-use Rattle.fields.specs.Writing.{bytes, refused}
-use Rattle.fields.proofs.Tells.{first-inv}
-use Rattle.fields.proofs.Writing.{needs-no, needs-all, needs-inv}
-use Rattle.fields.proofs.Firsts.{hit, pass, test-holds}
+use Rattle.algebra.specs.Reader.{limit}
+use Rattle.algebra.specs.Faults.{firstOf, faults}
+use Rattle.algebra.specs.Writing.{bytes, refused}
+use Rattle.algebra.proofs.Tells.{first-inv}
+use Rattle.algebra.proofs.Writing.{needs-no, needs-all, needs-inv}
+use Rattle.algebra.proofs.Firsts.{hit, pass, test-holds}
 use Rattle.acb.specs.Grammar.{Ending}
 use Rattle.acb.specs.Reading.{componentsOf}
 use Rattle.acb.specs.Faults.{endingFault}

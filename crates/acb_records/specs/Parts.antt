@@ -4,9 +4,9 @@ use mathlib.Core.Path.{_≡_}
 use mathlib.Core.List.{List, [], _∷_, _++_, map}
 use lib.Dec.{ltb, eqb}
 use lib.ListN.{length}
-use Rattle.fields.specs.Numbers.{be, joined}
-use Rattle.fields.specs.Reader.{pick}
-use Rattle.fields.specs.Faults.{faults}
+use Rattle.algebra.specs.Numbers.{be, joined}
+use Rattle.algebra.specs.Reader.{pick}
+use Rattle.algebra.specs.Faults.{faults}
 use Rattle.acb.specs.Grammar.{stringBytes}
 use Rattle.acb_judge.specs.Answer.{Shown, toldText}
 use Rattle.acb_records.specs.declared.Record.{Record}

@@ -3,10 +3,10 @@ use Prim.Native.Nat.{ℕ, _+_, _*_, _/_}
 use mathlib.Core.List.{List, [], _∷_, map}
 use lib.ListN.{length, getD, take}
 use lib.Dec.{leb, ltb}
-use Rattle.fields.specs.Numbers.{counted, nums}
-use Rattle.fields.specs.Reader.{pick, body, numberOf, limit}
-use Rattle.fields.specs.Faults.{firstOf, faults}
-use Rattle.fields.specs.Writing.{Outcome, needs, writes}
+use Rattle.algebra.specs.Numbers.{counted, nums}
+use Rattle.algebra.specs.Reader.{pick, body, numberOf, limit}
+use Rattle.algebra.specs.Faults.{firstOf, faults}
+use Rattle.algebra.specs.Writing.{Outcome, needs, writes}
 use Rattle.acb.specs.Grammar.{Colour, Tag, none, spot, process, Ending, tagged, other, Book, fileBytes}
 use Rattle.acb.specs.Reading.{isSpace, componentsOf}
 use Rattle.acb.specs.Faults.{endingFault}

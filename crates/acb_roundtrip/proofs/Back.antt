@@ -6,10 +6,10 @@ use mathlib.Core.Bool.{Bool}
 use lib.Dec.{leb}
 use lib.ListN.{length, drop}
 use borrow.Author.Tests.{le-leb}
-use Rattle.fields.specs.Numbers.{Bytes}
-use Rattle.fields.specs.Reader.{ok, pick, limit}
-use Rattle.fields.specs.Writing.{bytes, refused, needs, writes}
-use Rattle.fields.proofs.Writing.{Wrote, writes-inv}
+use Rattle.algebra.specs.Numbers.{Bytes}
+use Rattle.algebra.specs.Reader.{ok, pick, limit}
+use Rattle.algebra.specs.Writing.{bytes, refused, needs, writes}
+use Rattle.algebra.proofs.Writing.{Wrote, writes-inv}
 use Rattle.acb.specs.Grammar.{Ending, tagged, Book, fileBytes, File, file}
 use Rattle.acb.specs.Reading.{Contents, bookOf, acb}
 use Rattle.acb_judge.specs.Answer.{Shown, shown}

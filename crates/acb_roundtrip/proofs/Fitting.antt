@@ -9,13 +9,13 @@ use borrow.Author.Tests.{leb-true, le-leb, ne-eqb}
 use native.Mathlib.Omega.{arith}
 use native.Mathlib.Nat.{lt-of-not-le}
 use native.Mathlib.Decide.{ℕ-discrete, decLe}
-use Rattle.fields.specs.Numbers.{Bytes, All}
-use Rattle.fields.specs.Reader.{pick, limit}
-use Rattle.fields.specs.Faults.{firstOf, faults}
-use Rattle.fields.proofs.Places.{length-nums, nums-lt}
-use Rattle.fields.proofs.Exact.{all-map, all-both, length-map}
-use Rattle.fields.proofs.Tells.{first-none, first-inv, pick-none, faults-inv, faults-none, faults-from}
-use Rattle.fields.proofs.Firsts.{test-holds, all-image}
+use Rattle.algebra.specs.Numbers.{Bytes, All}
+use Rattle.algebra.specs.Reader.{pick, limit}
+use Rattle.algebra.specs.Faults.{firstOf, faults}
+use Rattle.algebra.proofs.Places.{length-nums, nums-lt}
+use Rattle.algebra.proofs.Exact.{all-map, all-both, length-map}
+use Rattle.algebra.proofs.Tells.{first-none, first-inv, pick-none, faults-inv, faults-none, faults-from}
+use Rattle.algebra.proofs.Firsts.{test-holds, all-image}
 use Rattle.acb.specs.Grammar.{Ending, tagged, other, String, Swatch}
 use Rattle.acb.specs.Reading.{isSpace, componentsOf}
 use Rattle.acb_judge.specs.Answer.{Shown}

@@ -7,14 +7,14 @@ use lib.ListN.{length, getD, take}
 use lib.Seq.{getD-append-add}
 use native.Mathlib.Omega.{arith}
 use native.Mathlib.Nat.{add-zero}
-use Rattle.fields.specs.Numbers.{counted, nums, joined, Bytes, All}
-use Rattle.fields.specs.Reader.{Reader, ok, field, body, each, limit}
-use Rattle.fields.specs.Text.{Name}
-use Rattle.fields.proofs.Places.{length-nums}
-use Rattle.fields.proofs.Inverse.{then-inv, pick-inv, body-inv, ok-value, each-none, each-inv}
-use Rattle.fields.proofs.Exact.{all-map, all-both, length-map}
-use Rattle.fields.proofs.Firsts.{all-image, all-source}
-use Rattle.fields.proofs.Rows.{rows-back, length-rows, all-fit}
+use Rattle.algebra.specs.Numbers.{counted, nums, joined, Bytes, All}
+use Rattle.algebra.specs.Reader.{Reader, ok, field, body, each, limit}
+use Rattle.algebra.specs.Text.{Name}
+use Rattle.algebra.proofs.Places.{length-nums}
+use Rattle.algebra.proofs.Inverse.{then-inv, pick-inv, body-inv, ok-value, each-none, each-inv}
+use Rattle.algebra.proofs.Exact.{all-map, all-both, length-map}
+use Rattle.algebra.proofs.Firsts.{all-image, all-source}
+use Rattle.algebra.proofs.Rows.{rows-back, length-rows, all-fit}
 use Rattle.acb.specs.Grammar.{Colour, tagged, Book, String, Swatch, Allowed, File, file}
 use Rattle.acb.specs.Reading.{string, Entry, colour, componentsOf, Header, strings, numbers, opening, header, closing, Contents, book, acb, colourOf, bookOf}
 use Rattle.acb_judge.specs.Answer.{lies, shown}

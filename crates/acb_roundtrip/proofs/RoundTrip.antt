@@ -7,10 +7,10 @@ use lib.ListN.{length, getD, take, drop, length-append, length-drop}
 use lib.Seq.{take-at, drop-at}
 use borrow.Author.Tests.{leb-true}
 use native.Mathlib.Omega.{arith}
-use Rattle.fields.specs.Numbers.{be, joined, Bytes}
-use Rattle.fields.specs.Reader.{ok, numberOf, limit}
-use Rattle.fields.specs.Writing.{bytes}
-use Rattle.fields.proofs.Firsts.{test-holds}
+use Rattle.algebra.specs.Numbers.{be, joined, Bytes}
+use Rattle.algebra.specs.Reader.{ok, numberOf, limit}
+use Rattle.algebra.specs.Writing.{bytes}
+use Rattle.algebra.proofs.Firsts.{test-holds}
 use Rattle.acb.specs.Grammar.{Tag, none, spot, process, Ending, tagged, other, Book, tagBytes, fileBytes}
 use Rattle.acb.specs.Reading.{Entry, Contents, componentsOf, acb}
 use Rattle.acb_judge.specs.Answer.{Shown, shown}

@@ -4,9 +4,9 @@ use mathlib.Core.Path.{_≡_, refl, ap, ap₂}
 use mathlib.Core.List.{List, [], _∷_, map}
 use lib.Dec.{leb}
 use lib.ListN.{length}
-use Rattle.fields.specs.Reader.{pick, limit}
-use Rattle.fields.specs.Faults.{firstOf, faults}
-use Rattle.fields.specs.Writing.{needs, writes}
+use Rattle.algebra.specs.Reader.{pick, limit}
+use Rattle.algebra.specs.Faults.{firstOf, faults}
+use Rattle.algebra.specs.Writing.{needs, writes}
 use Rattle.acb.specs.Grammar.{Colour, Ending, fileBytes}
 use Rattle.acb.specs.Reading.{componentsOf}
 use Rattle.acb.specs.Faults.{endingFault}

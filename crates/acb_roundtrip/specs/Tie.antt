@@ -3,8 +3,8 @@ use Prim.Native.Nat.{ℕ, _+_, _*_, _^_, _≤_, _<_}
 use mathlib.Core.Path.{_≡_}
 use mathlib.Core.List.{List, [], _∷_, map}
 use lib.ListN.{length}
-use Rattle.fields.specs.Numbers.{All}
-use Rattle.fields.specs.Reader.{ok}
+use Rattle.algebra.specs.Numbers.{All}
+use Rattle.algebra.specs.Reader.{ok}
 use Rattle.acb.specs.Grammar.{Ending, Book, fileBytes}
 use Rattle.acb.specs.Faults.{EndingFits}
 use Rattle.acb.specs.Reading.{Entry, Contents, bookOf, componentsOf, acb}

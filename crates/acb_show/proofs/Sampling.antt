@@ -8,7 +8,7 @@ use lib.ListN.{length, getD, take, drop}
 use borrow.Author.Tests.{eq-eqb, ne-eqb, lt-ltb, le-ltb, ltb-true}
 use native.Mathlib.Omega.{arith}
 use native.Mathlib.Nat.{add-zero, sub-zero, mul-le-mul-right, div-mul-le-self, lt-div-mul-add}
-use Rattle.fields.specs.Reader.{pick}
+use Rattle.algebra.specs.Reader.{pick}
 use Rattle.acb_show.specs.Pages.{none, shown, numbered, sampleFrom, sampleOf, records, absent, pageRange, dummies}
 use Rattle.acb_show.specs.Answer.{Told, record-is, refused, pageOf}
 

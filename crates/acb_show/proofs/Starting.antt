@@ -8,9 +8,9 @@ use lib.ListN.{length}
 use borrow.Author.Tests.{le-leb, lt-leb, leb-false, eq-eqb, ne-eqb}
 use native.Mathlib.Omega.{arith}
 use native.Mathlib.Nat.{sub-zero}
-use Rattle.fields.specs.Reader.{ok, refuse, pick, field}
-use Rattle.fields.specs.Numbers.{num}
-use Rattle.fields.proofs.Laws.{field-next}
+use Rattle.algebra.specs.Reader.{ok, refuse, pick, field}
+use Rattle.algebra.specs.Numbers.{num}
+use Rattle.algebra.proofs.Laws.{field-next}
 use Rattle.acb_show.specs.Texts.{behindEquals, shownStart}
 
 -- a field that is refused needs more bytes than remain

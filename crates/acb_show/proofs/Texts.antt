@@ -10,10 +10,10 @@ use lib.Seq.{take-all}
 use borrow.Author.Count.{below-more}
 use borrow.Author.Tests.{le-leb, leb-true, eq-eqb, ne-eqb, eqb-true, eqb-false}
 use native.Mathlib.Omega.{arith}
-use Rattle.fields.specs.Reader.{pick}
-use Rattle.fields.specs.Numbers.{num, Bytes}
-use Rattle.fields.proofs.Laws.{num-split}
-use Rattle.fields.proofs.Places.{num-lt}
+use Rattle.algebra.specs.Reader.{pick}
+use Rattle.algebra.specs.Numbers.{num, Bytes}
+use Rattle.algebra.proofs.Laws.{num-split}
+use Rattle.algebra.proofs.Places.{num-lt}
 use Rattle.acb_show.specs.Texts.{marked, behindEquals, shownStart, shownText}
 
 -- unit k of a string is `=`

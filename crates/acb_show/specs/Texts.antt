@@ -4,8 +4,8 @@ use mathlib.Core.List.{List}
 use mathlib.Core.Bool.{Bool, false}
 use lib.Dec.{leb, eqb}
 use lib.ListN.{length, drop}
-use Rattle.fields.specs.Reader.{pick}
-use Rattle.fields.specs.Numbers.{num}
+use Rattle.algebra.specs.Reader.{pick}
+use Rattle.algebra.specs.Numbers.{num}
 
 -- a string begins with the four units of `$$$/`
 abbrev pub marked : List ℕ → Bool

@@ -6,9 +6,9 @@ use mathlib.Core.Bool.{Bool, true, false}
 use lib.Dec.{leb}
 use lib.ListN.{length, getD, drop, length-append}
 use native.Mathlib.Omega.{arith}
-use Rattle.fields.specs.Numbers.{joined}
-use Rattle.fields.specs.Reader.{Res, ok, refuse, pick}
-use Rattle.fields.proofs.Places.{length-joined}
+use Rattle.algebra.specs.Numbers.{joined}
+use Rattle.algebra.specs.Reader.{Res, ok, refuse, pick}
+use Rattle.algebra.proofs.Places.{length-joined}
 use Rattle.acb.specs.Grammar.{Tag}
 use Rattle.acb.specs.Reading.{Entry, Contents}
 use Rattle.acb_judge.specs.Answer.{Shown, shown, Verdict, accepted, refused, verdict}

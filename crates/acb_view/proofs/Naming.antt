@@ -9,12 +9,12 @@ use lib.Seq.{sets, sets-eq}
 use lib.Dec.{leb, eqb}
 use borrow.Author.Tests.{le-leb, lt-leb, leb-true, lt-ltb, le-ltb}
 use native.Mathlib.Omega.{arith}
-use Rattle.fields.specs.Reader.{Res, Reader, ok, refuse, pick, each, body, field, limit}
-use Rattle.fields.specs.Text.{Name}
-use Rattle.fields.specs.Store.{part, stored}
-use Rattle.fields.proofs.Inverse.{ok-value, then-inv, pick-inv, field-inv, body-inv, each-inv}
-use Rattle.fields.proofs.Places.{length-nums}
-use Rattle.fields.proofs.Stores.{stored-in, stored-append, length-stored}
+use Rattle.algebra.specs.Reader.{Res, Reader, ok, refuse, pick, each, body, field, limit}
+use Rattle.algebra.specs.Text.{Name}
+use Rattle.algebra.specs.Store.{part, stored}
+use Rattle.algebra.proofs.Inverse.{ok-value, then-inv, pick-inv, field-inv, body-inv, each-inv}
+use Rattle.algebra.proofs.Places.{length-nums}
+use Rattle.algebra.proofs.Stores.{stored-in, stored-append, length-stored}
 use Rattle.acb.specs.Grammar.{Tag}
 use Rattle.acb.specs.Reading.{string, Entry, componentsOf, Header, opening, strings, numbers, header, closing, colour, Contents, book, acb}
 use Rattle.acb_judge.specs.Answer.{Shown, lies, shown, accepted, refused, verdict}

@@ -5,12 +5,12 @@ use mathlib.Core.List.{List, _++_}
 use lib.ListN.{length, getD}
 use lib.Dec.{leb}
 use native.Mathlib.Omega.{arith}
-use Rattle.fields.specs.Numbers.{be, joined, nums, At, Bytes}
-use Rattle.fields.specs.Reader.{ok, each, body, field, limit}
-use Rattle.fields.specs.Text.{Name}
-use Rattle.fields.specs.Store.{part}
-use Rattle.fields.proofs.Inverse.{ok-value, then-inv, pick-inv, field-inv, body-inv, each-length}
-use Rattle.fields.proofs.Places.{at-take, bes-nums, length-bes, length-nums}
+use Rattle.algebra.specs.Numbers.{be, joined, nums, At, Bytes}
+use Rattle.algebra.specs.Reader.{ok, each, body, field, limit}
+use Rattle.algebra.specs.Text.{Name}
+use Rattle.algebra.specs.Store.{part}
+use Rattle.algebra.proofs.Inverse.{ok-value, then-inv, pick-inv, field-inv, body-inv, each-length}
+use Rattle.algebra.proofs.Places.{at-take, bes-nums, length-bes, length-nums}
 use Rattle.acb.specs.Reading.{string, Entry, componentsOf, header, closing, colour, Contents, book, acb}
 use Rattle.acb_read.specs.Table.{blank}
 use Rattle.acb_show.specs.Texts.{shownText}

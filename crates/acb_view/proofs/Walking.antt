@@ -6,9 +6,9 @@ use mathlib.Core.Bool.{Bool}
 use lib.ListN.{length, getD}
 use lib.Dec.{eqb, eqb·suc-zero}
 use native.Mathlib.Omega.{arith}
-use Rattle.fields.specs.Numbers.{Bytes}
-use Rattle.fields.specs.Reader.{Res, ok, refuse, field, orZero, limit}
-use Rattle.fields.specs.Text.{isEmpty}
+use Rattle.algebra.specs.Numbers.{Bytes}
+use Rattle.algebra.specs.Reader.{Res, ok, refuse, field, orZero, limit}
+use Rattle.algebra.specs.Text.{isEmpty}
 use Rattle.acb.specs.Grammar.{Tag}
 use Rattle.acb.specs.Reading.{Entry, componentsOf, Contents, acb}
 use Rattle.acb_judge.specs.Answer.{Shown, shown as heading, accepted, refused, verdict}

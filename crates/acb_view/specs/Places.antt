@@ -3,7 +3,7 @@ use Prim.Native.Nat.{ℕ, _≤_, _<_}
 use mathlib.Core.Path.{_≡_}
 use mathlib.Core.List.{List}
 use lib.ListN.{length, getD}
-use Rattle.fields.specs.Reader.{Res}
+use Rattle.algebra.specs.Reader.{Res}
 use Rattle.acb.specs.Reading.{Contents, acb}
 use Rattle.acb_read.specs.Table.{blank}
 use Rattle.acb_read.specs.Raw.{entriesOf, recordPlace, Accepted}

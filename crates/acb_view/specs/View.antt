@@ -5,9 +5,9 @@ use mathlib.Core.Bool.{Bool}
 use lib.Dec.{leb, ltb, eqb}
 use lib.IntN.{ℤ, pos}
 use lib.ListN.{length, getD, drop}
-use Rattle.fields.specs.Reader.{Res, ok, refuse, pick}
-use Rattle.fields.specs.Text.{Name, isEmpty}
-use Rattle.fields.specs.Store.{part}
+use Rattle.algebra.specs.Reader.{Res, ok, refuse, pick}
+use Rattle.algebra.specs.Text.{Name, isEmpty}
+use Rattle.algebra.specs.Store.{part}
 use Rattle.acb.specs.Reading.{Entry, componentsOf, Contents}
 use Rattle.acb_read.specs.Table.{blank}
 use Rattle.acb_show.specs.Texts.{shownText}

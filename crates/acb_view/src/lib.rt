@@ -4,7 +4,7 @@ ghost use mathlib.Core.List.{_++_};
 ghost use Prim.Native.Nat.{_+_, _-_, _*_, _≤_};
 ghost use lib.ListN.{length};
 ghost use lib.Seq.{sets};
-ghost use Rattle.fields.specs.Store.{part};
+ghost use Rattle.algebra.specs.Store.{part};
 ghost use Rattle.acb.specs.Reading.{acb, componentsOf};
 ghost use Rattle.acb_show.specs.Texts.{shownText};
 ghost use Rattle.acb_show.specs.Pages.{sampleFrom, dummies};

@@ -1,5 +1,5 @@
 -- Stores one after the other, on plain values. Assumes nothing.
-use Rattle.fields.proofs.Counted.{counted-end, counted-start, counted-turn, length-counted}
+use Rattle.algebra.proofs.Counted.{counted-end, counted-start, counted-turn, length-counted}
 use Prim.Native.Nat.{ℕ, zero, suc, _+_, _*_, _-_, _%_, _≤_, _<_}
 use mathlib.Core.Path.{_≡_, refl, sym, ap, ap₂, _∙_}
 use mathlib.Core.List.{List, [], _∷_, _++_, map}
@@ -9,11 +9,11 @@ use borrow.Author.Tests.{ne-eqb}
 use native.Mathlib.Omega.{arith}
 use native.Mathlib.Numerals.{unary-clauses}
 use native.Mathlib.Decide.{ℕ-discrete}
-use Rattle.fields.specs.Numbers.{counted, be, nums, joined, Bytes, All}
-use Rattle.fields.specs.Store.{stored, part}
-use Rattle.fields.proofs.Places.{length-be, length-bes, length-nums, part-nums}
-use Rattle.fields.proofs.Exact.{length-map}
-use Rattle.fields.proofs.Storing.{as-sets, peel, peel-be, length-kept}
+use Rattle.algebra.specs.Numbers.{counted, be, nums, joined, Bytes, All}
+use Rattle.algebra.specs.Store.{stored, part}
+use Rattle.algebra.proofs.Places.{length-be, length-bes, length-nums, part-nums}
+use Rattle.algebra.proofs.Exact.{length-map}
+use Rattle.algebra.proofs.Storing.{as-sets, peel, peel-be, length-kept}
 use Rattle.acb.specs.Grammar.{Tag, none, spot, process, Ending, tagged, other, stringBytes, colourBytes, tagBytes, endingBytes, headBytes, fileBytes}
 use Rattle.acb.specs.Reading.{componentsOf}
 use Rattle.acb_judge.specs.Answer.{Shown}

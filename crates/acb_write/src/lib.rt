@@ -4,7 +4,7 @@ ghost use mathlib.Core.List.{map};
 ghost use Prim.Native.Nat.{_+_, _*_, _≤_, _<_};
 ghost use lib.ListN.{length};
 ghost use lib.Seq.{sets};
-ghost use Rattle.fields.specs.Numbers.{be, joined};
+ghost use Rattle.algebra.specs.Numbers.{be, joined};
 ghost use Rattle.acb.specs.Grammar.{stringBytes, colourBytes, tagBytes, endingBytes, fileBytes};
 ghost use Rattle.acb.specs.Faults.{endingFault};
 ghost use Rattle.acb_judge.specs.Answer.{toldText, toldHeader, toldTag};

@@ -7,12 +7,12 @@ use lib.Dec.{leb}
 use lib.ListN.{length}
 use borrow.Author.Tests.{leb-true, le-leb}
 use native.Mathlib.Omega.{arith}
-use Rattle.fields.specs.Numbers.{All}
-use Rattle.fields.specs.Reader.{pick}
-use Rattle.fields.specs.Text.{anyZero, Named}
-use Rattle.fields.specs.Faults.{firstOf, faults, faultsFrom}
-use Rattle.fields.proofs.Exact.{all-map, all-both, any-none, none-any}
-use Rattle.fields.proofs.Tells.{first-none, first-inv, pick-none, pick-some, faults-inv, faults-none, faults-from}
+use Rattle.algebra.specs.Numbers.{All}
+use Rattle.algebra.specs.Reader.{pick}
+use Rattle.algebra.specs.Text.{anyZero, Named}
+use Rattle.algebra.specs.Faults.{firstOf, faults, faultsFrom}
+use Rattle.algebra.proofs.Exact.{all-map, all-both, any-none, none-any}
+use Rattle.algebra.proofs.Tells.{first-none, first-inv, pick-none, pick-some, faults-inv, faults-none, faults-from}
 use Rattle.colour.specs.Spaces.{uses, known, allowed}
 use Rattle.aco.specs.Grammar.{Swatch, Allowed, Palette}
 use Rattle.aco.specs.Faults.{spaceFault, sampleFault, fieldsFault, colourFault, nameFault, paletteFault, Fits}

@@ -4,8 +4,8 @@ use mathlib.Core.Path.{_≡_, refl}
 use mathlib.Core.Bool.{true}
 use lib.Dec.{leb, eqb}
 use borrow.Author.Tests.{le-leb, leb-true, eq-eqb, eqb-true}
-use Rattle.fields.specs.Reader.{fine}
-use Rattle.fields.proofs.Inverse.{unless-fine, pick-fine}
+use Rattle.algebra.specs.Reader.{fine}
+use Rattle.algebra.proofs.Inverse.{unless-fine, pick-fine}
 use Rattle.colour.specs.declared.space.Colour.{Colour}
 use Rattle.colour.specs.Spaces.{known, allowed}
 use Rattle.aco.specs.Reading.{space, sample, version, firstCount, fieldOf, compared, secondCount}

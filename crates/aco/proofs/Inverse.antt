@@ -9,10 +9,10 @@ use borrow.Author.Tests.{leb-true, eqb-true}
 use native.Mathlib.Numerals.{add-one}
 use native.Mathlib.Omega.{arith}
 use native.Mathlib.Nat.{add-zero}
-use Rattle.fields.specs.Numbers.{num, nums}
-use Rattle.fields.specs.Reader.{ok, pick, Judged, fine, judged, each}
-use Rattle.fields.specs.Text.{Name, name, front}
-use Rattle.fields.proofs.Inverse.{then-inv, pick-inv, judged-inv, name-inv, front-nums, ended-inv, each-none, each-inv, each-length, fields-inv, fields-fine, ok-value, ok-place}
+use Rattle.algebra.specs.Numbers.{num, nums}
+use Rattle.algebra.specs.Reader.{ok, pick, Judged, fine, judged, each}
+use Rattle.algebra.specs.Text.{Name, name, front}
+use Rattle.algebra.proofs.Inverse.{then-inv, pick-inv, judged-inv, name-inv, front-nums, ended-inv, each-none, each-inv, each-length, fields-inv, fields-fine, ok-value, ok-place}
 use Rattle.colour.specs.declared.space.Colour.{Colour}
 use Rattle.aco.specs.Reading.{colour, heading, fieldOf, twin, Entry, entry, Contents, black, second, unnamed, after, lists, aco, version, firstCount, compared, secondCount}
 use Rattle.aco.specs.Raw.{rawColours}

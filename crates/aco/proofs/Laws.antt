@@ -9,12 +9,12 @@ use lib.Seq.{ext-getD}
 use borrow.Author.Tests.{eqb-true, eq-eqb, ltb-true, ltb-false, le-ltb}
 use native.Mathlib.Omega.{arith}
 use native.Mathlib.Nat.{zero-add}
-use Rattle.fields.specs.Numbers.{be, joined, Bytes, All}
-use Rattle.fields.specs.Reader.{pick, Judged, fine, judged, give, _>>=_, each}
-use Rattle.fields.specs.Text.{Name, name, nameBytes, Named}
-use Rattle.fields.specs.Algebra.{Lawful, Exact}
-use Rattle.fields.proofs.Lawful.{judged-lawful, give-lawful, bind-lawful, each-lawful, name-lawful}
-use Rattle.fields.proofs.Exact.{all-map, all-from, all-at, all-by, map-id, judged-exact, same-exact, one-exact, give-exact, bind-exact, each-exact, name-exact}
+use Rattle.algebra.specs.Numbers.{be, joined, Bytes, All}
+use Rattle.algebra.specs.Reader.{pick, Judged, fine, judged, give, _>>=_, each}
+use Rattle.algebra.specs.Text.{Name, name, nameBytes, Named}
+use Rattle.algebra.specs.Algebra.{Lawful, Exact}
+use Rattle.algebra.proofs.Lawful.{judged-lawful, give-lawful, bind-lawful, each-lawful, name-lawful}
+use Rattle.algebra.proofs.Exact.{all-map, all-from, all-at, all-by, map-id, judged-exact, same-exact, one-exact, give-exact, bind-exact, each-exact, name-exact}
 use Rattle.colour.specs.declared.space.Colour.{Colour}
 use Rattle.colour.specs.Spaces.{uses, known, allowed}
 use Rattle.colour.proofs.Laws.{sample-by}

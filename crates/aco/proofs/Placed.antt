@@ -5,10 +5,10 @@ use mathlib.Core.List.{List}
 use lib.ListN.{length, getD}
 use lib.Dec.{leb, eqb}
 use native.Mathlib.Omega.{arith}
-use Rattle.fields.specs.Reader.{refuse, Judged, judged, each}
-use Rattle.fields.specs.Text.{name}
-use Rattle.fields.specs.Refusal.{Of, among, Placed, ends, Numbered}
-use Rattle.fields.proofs.Placed.{unless-numbered, differ-numbered, refusal-placed, placed-then, placed-pick, judged-placed, ended-placed, name-placed, each-placed, limited-placed}
+use Rattle.algebra.specs.Reader.{refuse, Judged, judged, each}
+use Rattle.algebra.specs.Text.{name}
+use Rattle.algebra.specs.Refusal.{Of, among, Placed, ends, Numbered}
+use Rattle.algebra.proofs.Placed.{unless-numbered, differ-numbered, refusal-placed, placed-then, placed-pick, judged-placed, ended-placed, name-placed, each-placed, limited-placed}
 use Rattle.colour.specs.declared.space.Colour.{Colour}
 use Rattle.colour.specs.Spaces.{known, allowed}
 use Rattle.aco.specs.Reading.{most, space, sample, samples, colour, heading, fieldOf, twin, entry, second, after, lists, aco, black, version, firstCount, compared, secondCount}

@@ -6,10 +6,10 @@ use mathlib.Core.Bool.{true}
 use lib.ListN.{length, getD}
 use native.Mathlib.Omega.{arith}
 use native.Mathlib.Nat.{add-zero}
-use Rattle.fields.specs.Numbers.{num, nums}
-use Rattle.fields.specs.Reader.{ok, fine, judged, each}
-use Rattle.fields.proofs.Places.{getD-nums}
-use Rattle.fields.proofs.Inverse.{then-inv, judged-inv, fields-inv, fields-fine, fields-inside, each-none, each-inv, each-moves, ok-value, ok-place}
+use Rattle.algebra.specs.Numbers.{num, nums}
+use Rattle.algebra.specs.Reader.{ok, fine, judged, each}
+use Rattle.algebra.proofs.Places.{getD-nums}
+use Rattle.algebra.proofs.Inverse.{then-inv, judged-inv, fields-inv, fields-fine, fields-inside, each-none, each-inv, each-moves, ok-value, ok-place}
 use Rattle.colour.specs.declared.space.Colour.{Colour}
 use Rattle.colour.specs.Spaces.{known, allowed}
 use Rattle.aco.specs.Reading.{space, sample, samples, colour, fieldOf, black}

@@ -8,12 +8,12 @@ use lib.Dec.{leb}
 use lib.ListN.{length, getD, List·getD-map}
 use native.Mathlib.Omega.{arith}
 use native.Mathlib.Nat.{zero-add}
-use Rattle.fields.specs.Numbers.{num, nums, Bytes, All}
-use Rattle.fields.specs.Reader.{Res, ok, refuse, pick, each, numberOf, limit}
-use Rattle.fields.proofs.Places.{length-nums, at-whole}
-use Rattle.fields.proofs.Inverse.{clash, each-length, ok-value}
-use Rattle.fields.proofs.Exact.{length-map}
-use Rattle.fields.proofs.Tells.{outcome-number}
+use Rattle.algebra.specs.Numbers.{num, nums, Bytes, All}
+use Rattle.algebra.specs.Reader.{Res, ok, refuse, pick, each, numberOf, limit}
+use Rattle.algebra.proofs.Places.{length-nums, at-whole}
+use Rattle.algebra.proofs.Inverse.{clash, each-length, ok-value}
+use Rattle.algebra.proofs.Exact.{length-map}
+use Rattle.algebra.proofs.Tells.{outcome-number}
 use Rattle.colour.specs.declared.space.Colour.{Colour}
 use Rattle.aco.specs.Grammar.{Swatch, File, plain, named, twoLists}
 use Rattle.aco.specs.Reading.{fieldOf, Entry, entry, Contents, black, unnamed, lists, aco, swatch, secondCount}

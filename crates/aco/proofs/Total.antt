@@ -8,12 +8,12 @@ use lib.ListN.{length, getD, take, length-append}
 use native.Mathlib.Omega.{arith}
 use native.Mathlib.Nat.{zero-add, lt-of-not-le}
 use native.Mathlib.Decide.{ℕ-discrete, decLe}
-use Rattle.fields.specs.Numbers.{be, joined, Bytes, All}
-use Rattle.fields.specs.Text.{nameBytes, Named}
-use Rattle.fields.proofs.Places.{length-be}
-use Rattle.fields.proofs.Exact.{all-from}
-use Rattle.fields.proofs.Begins.{First, fewer, number, first}
-use Rattle.fields.proofs.Names.{NameFirst, count-short, count-zero, units-short, units-open, name-whole, name-first}
+use Rattle.algebra.specs.Numbers.{be, joined, Bytes, All}
+use Rattle.algebra.specs.Text.{nameBytes, Named}
+use Rattle.algebra.proofs.Places.{length-be}
+use Rattle.algebra.proofs.Exact.{all-from}
+use Rattle.algebra.proofs.Begins.{First, fewer, number, first}
+use Rattle.algebra.proofs.Names.{NameFirst, count-short, count-zero, units-short, units-open, name-whole, name-first}
 use Rattle.colour.specs.Spaces.{known, uses}
 use Rattle.aco.specs.Grammar.{Swatch, Space, Sample, Allowed, Palette, colourBytes, entryBytes, listOne, listTwo, twoLists, File, plain, named}
 use Rattle.aco.specs.Damaged.{version-cut, wrong-version, colours-cut, DamagedColour, space-cut, wrong-space, sample-cut, wrong-sample, count-cut, no-units, units-cut, unclosed, fieldsOf, DamagedRecord, field-cut, difference, wrong-name, colouring, counting, recording, behind, swatchAt, Repeating, Damaged, first-heading, too-many, wrong-colour, second-heading, other-count, wrong-record, left-over}

@@ -8,13 +8,13 @@ use lib.Seq.{length-take-le, getD-take}
 use borrow.Author.Tests.{ne-eqb}
 use native.Mathlib.Omega.{arith}
 use native.Mathlib.Nat.{add-zero, zero-add}
-use Rattle.fields.specs.Numbers.{be, joined, Bytes, All}
-use Rattle.fields.specs.Reader.{ok, refuse, Judged, fine, fault, judged, each}
-use Rattle.fields.specs.Text.{name}
-use Rattle.fields.proofs.Places.{length-be, length-bes}
-use Rattle.fields.proofs.Exact.{all-map, all-from, all-at, all-by, judged-exact}
-use Rattle.fields.proofs.Stops.{judged-refuses, each-stops}
-use Rattle.fields.proofs.Tails.{Tail, tail-left, tail-after, judged-there, judged-wrong, judged-cut, name-cut, name-none, name-units-cut, name-open}
+use Rattle.algebra.specs.Numbers.{be, joined, Bytes, All}
+use Rattle.algebra.specs.Reader.{ok, refuse, Judged, fine, fault, judged, each}
+use Rattle.algebra.specs.Text.{name}
+use Rattle.algebra.proofs.Places.{length-be, length-bes}
+use Rattle.algebra.proofs.Exact.{all-map, all-from, all-at, all-by, judged-exact}
+use Rattle.algebra.proofs.Stops.{judged-refuses, each-stops}
+use Rattle.algebra.proofs.Tails.{Tail, tail-left, tail-after, judged-there, judged-wrong, judged-cut, name-cut, name-none, name-units-cut, name-open}
 use Rattle.colour.specs.declared.space.Colour.{Colour}
 use Rattle.colour.specs.Spaces.{known, uses, allowed}
 use Rattle.aco.specs.Grammar.{Swatch, Space, Sample, colourBytes}

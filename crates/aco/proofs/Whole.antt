@@ -7,12 +7,12 @@ use lib.Seq.{ext-getD}
 use borrow.Author.Tests.{le-leb, eq-eqb, ne-eqb}
 use native.Mathlib.Omega.{arith}
 use native.Mathlib.Nat.{zero-add}
-use Rattle.fields.specs.Numbers.{be, joined, At, Bytes, All}
-use Rattle.fields.specs.Reader.{ok, Judged, fine, each, ended}
-use Rattle.fields.specs.Text.{Named, nameBytes}
-use Rattle.fields.specs.Algebra.{Exact}
-use Rattle.fields.proofs.Places.{length-be, length-bes, joined-map, at-in, at-left, at-after, at-next, at-all, at-whole, bytes-append, bytes-be, bytes-joined}
-use Rattle.fields.proofs.Exact.{all-map, all-at, all-by, length-map, map-id, length-nameBytes, each-exact}
+use Rattle.algebra.specs.Numbers.{be, joined, At, Bytes, All}
+use Rattle.algebra.specs.Reader.{ok, Judged, fine, each, ended}
+use Rattle.algebra.specs.Text.{Named, nameBytes}
+use Rattle.algebra.specs.Algebra.{Exact}
+use Rattle.algebra.proofs.Places.{length-be, length-bes, joined-map, at-in, at-left, at-after, at-next, at-all, at-whole, bytes-append, bytes-be, bytes-joined}
+use Rattle.algebra.proofs.Exact.{all-map, all-at, all-by, length-map, map-id, length-nameBytes, each-exact}
 use Rattle.colour.specs.declared.space.Colour.{Colour}
 use Rattle.aco.specs.Grammar.{Swatch, rgb, Allowed, Palette, File, plain, named, colourBytes, entryBytes, listOne, listTwo, twoLists}
 use Rattle.aco.specs.Reading.{colour, heading, Entry, entry, Contents, black, second, unnamed, after, lists, aco, swatch, firstCount, secondCount}

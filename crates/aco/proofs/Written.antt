@@ -7,16 +7,16 @@ use lib.ListN.{length, getD, length-append}
 use borrow.Author.Tests.{eq-eqb, ne-eqb}
 use native.Mathlib.Omega.{arith}
 use native.Mathlib.Nat.{zero-add}
-use Rattle.fields.specs.Numbers.{num, nums, be, joined, At, Bytes, All}
-use Rattle.fields.specs.Reader.{ok, then, pick, rule, Judged, judged, give, _>>=_, each, ended}
-use Rattle.fields.specs.Text.{name, nameBytes}
-use Rattle.fields.specs.Faults.{firstOf, faults, faultsFrom}
-use Rattle.fields.specs.Algebra.{Tells}
-use Rattle.fields.proofs.Laws.{field-in, judged-ok}
-use Rattle.fields.proofs.Places.{length-be, length-bes, at-in, at-left, at-after, num-be, nums-bes}
-use Rattle.fields.proofs.Inverse.{rule-inv, ok-value}
-use Rattle.fields.proofs.Exact.{all-at, all-by, length-map, map-id}
-use Rattle.fields.proofs.Tells.{Outcome, good, outcome-fault, outcome-then, outcome-rule, outcome, same-tells, Gives, exact-tells, exact-gives, unless-tells, unless-found, unless-sure, judged-gives, give-tells, bind-tells, each-tells, each-gives, name-tells, name-gives, first-zero, first-none, faults-from, faults-map}
+use Rattle.algebra.specs.Numbers.{num, nums, be, joined, At, Bytes, All}
+use Rattle.algebra.specs.Reader.{ok, then, pick, rule, Judged, judged, give, _>>=_, each, ended}
+use Rattle.algebra.specs.Text.{name, nameBytes}
+use Rattle.algebra.specs.Faults.{firstOf, faults, faultsFrom}
+use Rattle.algebra.specs.Algebra.{Tells}
+use Rattle.algebra.proofs.Laws.{field-in, judged-ok}
+use Rattle.algebra.proofs.Places.{length-be, length-bes, at-in, at-left, at-after, num-be, nums-bes}
+use Rattle.algebra.proofs.Inverse.{rule-inv, ok-value}
+use Rattle.algebra.proofs.Exact.{all-at, all-by, length-map, map-id}
+use Rattle.algebra.proofs.Tells.{Outcome, good, outcome-fault, outcome-then, outcome-rule, outcome, same-tells, Gives, exact-tells, exact-gives, unless-tells, unless-found, unless-sure, judged-gives, give-tells, bind-tells, each-tells, each-gives, name-tells, name-gives, first-zero, first-none, faults-from, faults-map}
 use Rattle.colour.specs.declared.space.Colour.{Colour}
 use Rattle.colour.specs.Spaces.{known, allowed}
 use Rattle.aco.specs.Grammar.{Swatch, colourBytes, entryBytes, listOne, listTwo, twoLists}

@@ -4,9 +4,9 @@ use Prim.Native.Nat.{ℕ, _+_, _*_, _^_, _≤_, _<_}
 use mathlib.Core.Path.{_≡_}
 use mathlib.Core.List.{List, [], _∷_, _++_}
 use lib.ListN.{length, getD, take}
-use Rattle.fields.specs.Numbers.{be, joined, All}
-use Rattle.fields.specs.Text.{Named}
-use Rattle.fields.specs.Closing.{Open}
+use Rattle.algebra.specs.Numbers.{be, joined, All}
+use Rattle.algebra.specs.Text.{Named}
+use Rattle.algebra.specs.Closing.{Open}
 use Rattle.aco.specs.Grammar.{Swatch, Space, Sample, Allowed, Palette, colourBytes, entryBytes, listOne, twoLists}
 
 -- ---- parts of a file: the bytes from the part to the file's end, the number, the place counted from the part

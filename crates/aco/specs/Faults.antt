@@ -4,10 +4,10 @@ use mathlib.Core.Path.{_≡_}
 use mathlib.Core.List.{List}
 use lib.Dec.{leb}
 use lib.ListN.{length}
-use Rattle.fields.specs.Numbers.{All}
-use Rattle.fields.specs.Reader.{pick}
-use Rattle.fields.specs.Text.{anyZero}
-use Rattle.fields.specs.Faults.{firstOf, faults, faultsFrom}
+use Rattle.algebra.specs.Numbers.{All}
+use Rattle.algebra.specs.Reader.{pick}
+use Rattle.algebra.specs.Text.{anyZero}
+use Rattle.algebra.specs.Faults.{firstOf, faults, faultsFrom}
 use Rattle.colour.specs.Spaces.{known, allowed}
 use Rattle.aco.specs.Grammar.{Swatch}
 

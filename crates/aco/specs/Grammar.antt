@@ -4,8 +4,8 @@ use Prim.Native.Nat.{ℕ, _+_, _≤_}
 use mathlib.Core.Path.{_≡_}
 use mathlib.Core.List.{List, [], _++_}
 use lib.ListN.{length}
-use Rattle.fields.specs.Numbers.{be, joined, All}
-use Rattle.fields.specs.Text.{nameBytes, Named}
+use Rattle.algebra.specs.Numbers.{be, joined, All}
+use Rattle.algebra.specs.Text.{nameBytes, Named}
 
 -- a swatch: the number of its space, its samples, and the units of its name, none where it has no name
 pub record Swatch : Type 0 where

@@ -1,7 +1,7 @@
 -- Where the records of list 2 stand, said without the reader.
 use Prim.Native.Nat.{ℕ, zero, suc, _+_, _*_}
 use mathlib.Core.List.{List}
-use Rattle.fields.specs.Numbers.{num}
+use Rattle.algebra.specs.Numbers.{num}
 
 -- behind the record at e: ten bytes of colour, four of count, and the counted units
 abbrev pub nextEntry : List ℕ → ℕ → ℕ

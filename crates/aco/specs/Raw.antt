@@ -3,8 +3,8 @@ use Prim.Native.Nat.{ℕ, zero, suc, _+_, _*_, _≤_, _<_}
 use mathlib.Core.Path.{_≡_}
 use mathlib.Core.List.{List, [], _∷_}
 use lib.ListN.{length}
-use Rattle.fields.specs.Numbers.{num, nums}
-use Rattle.fields.specs.Reader.{Reader, ok, then, done, judged, field, each}
+use Rattle.algebra.specs.Numbers.{num, nums}
+use Rattle.algebra.specs.Reader.{Reader, ok, then, done, judged, field, each}
 use Rattle.colour.specs.declared.space.Colour.{Colour}
 use Rattle.aco.specs.Reading.{Contents, colour, after, version}
 

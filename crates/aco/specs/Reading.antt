@@ -3,8 +3,8 @@ use Prim.Native.Nat.{ℕ}
 use mathlib.Core.List.{List, [], _∷_, map}
 use lib.Dec.{leb, eqb}
 use lib.ListN.{length, getD}
-use Rattle.fields.specs.Reader.{Res, ok, refuse, Reader, pick, Judged, fine, fault, unless, judged, give, _>>=_, each, ended, limit}
-use Rattle.fields.specs.Text.{Name, name}
+use Rattle.algebra.specs.Reader.{Res, ok, refuse, Reader, pick, Judged, fine, fault, unless, judged, give, _>>=_, each, ended, limit}
+use Rattle.algebra.specs.Text.{Name, name}
 use Rattle.colour.specs.declared.space.Colour.{Colour}
 use Rattle.colour.specs.Spaces.{known, allowed}
 use Rattle.aco.specs.Grammar.{Swatch}

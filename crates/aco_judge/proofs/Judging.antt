@@ -8,12 +8,12 @@ use lib.Dec.{eqb}
 use borrow.Author.Tests.{le-leb, lt-leb, eq-eqb, ne-eqb}
 use native.Mathlib.Omega.{arith}
 use native.Mathlib.Nat.{add-zero}
-use Rattle.fields.specs.Numbers.{num}
-use Rattle.fields.specs.Reader.{Res, ok, refuse, Reader, then, pick, rule, field, done, orZero, each, judged, Judged, fine, fault, limit}
-use Rattle.fields.specs.Text.{Name, name, place}
-use Rattle.fields.proofs.Laws.{field-in, judged-short, judged-bad, judged-ok, then-ok, done-refuse, done-const, ended-done, each-turn, turn-ok, turn-end, inner-ok}
-use Rattle.fields.proofs.Texts.{done-place}
-use Rattle.fields.proofs.Inverse.{then-inv, field-inv, judged-inv, ended-inv, done-inv, each-length}
+use Rattle.algebra.specs.Numbers.{num}
+use Rattle.algebra.specs.Reader.{Res, ok, refuse, Reader, then, pick, rule, field, done, orZero, each, judged, Judged, fine, fault, limit}
+use Rattle.algebra.specs.Text.{Name, name, place}
+use Rattle.algebra.proofs.Laws.{field-in, judged-short, judged-bad, judged-ok, then-ok, done-refuse, done-const, ended-done, each-turn, turn-ok, turn-end, inner-ok}
+use Rattle.algebra.proofs.Texts.{done-place}
+use Rattle.algebra.proofs.Inverse.{then-inv, field-inv, judged-inv, ended-inv, done-inv, each-length}
 use Rattle.colour.specs.declared.space.Colour.{Colour}
 use Rattle.colour.specs.Spaces.{known, allowed, sound}
 use Rattle.colour.proofs.Laws.{sound-inv}

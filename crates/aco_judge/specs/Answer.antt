@@ -1,7 +1,7 @@
 -- What each answer of the code says.
 use Prim.Native.Nat.{ℕ}
 use lib.ListN.{length}
-use Rattle.fields.specs.Reader.{Res, ok, refuse}
+use Rattle.algebra.specs.Reader.{Res, ok, refuse}
 use Rattle.aco.specs.Reading.{Contents}
 use Rattle.aco_judge.specs.declared.Answer.{Answer}
 use Rattle.aco_judge.specs.declared.Answer.the-variants as va

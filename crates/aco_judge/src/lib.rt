@@ -3,16 +3,16 @@ ghost use mathlib.Core.Path.{_≡_};
 ghost use mathlib.Core.Bool.{true};
 ghost use Prim.Native.Nat.{_+_, _*_, _≤_};
 ghost use lib.ListN.{length, getD};
-ghost use Rattle.fields.specs.Reader.{done, each};
+ghost use Rattle.algebra.specs.Reader.{done, each};
 ghost use Rattle.fields.specs.Answer.{toldStep};
 ghost use Rattle.aco.specs.Reading.{samples, colour, entry, black, second, aco};
 ghost use Rattle.aco.specs.Raw.{rawColours, headed, afterHeading, SoundAt, SameAt};
 ghost use Rattle.aco_judge.specs.Answer.{told, toldHeading, toldWalk, verdict};
 use aco::LIMIT;
 use aco::MOST;
-use fields::NameAt;
 use fields::Number16;
 use fields::Step;
+use names::NameAt;
 
 // What a file is found to be. Differ is refusal 7, with the first differing record and in it the
 // first differing field.
@@ -173,7 +173,7 @@ fn entries_at(file: &[u8], at: usize, n: u16) -> Walk
             p = next;
             f += 1;
         }
-        match fields::name32_at(file, p) {
+        match names::name32_at(file, p) {
             NameAt::Is(_, _, next) => {
                 p = next;
             }

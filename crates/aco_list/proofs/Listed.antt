@@ -5,12 +5,12 @@ use mathlib.Core.List.{List, [], _∷_, _++_}
 use mathlib.Core.Bool.{Bool, true, false}
 use lib.ListN.{length}
 use native.Mathlib.Omega.{arith}
-use Rattle.fields.specs.Numbers.{be, joined, nums, Bytes}
-use Rattle.fields.specs.Reader.{Res, ok, refuse, then, pick}
-use Rattle.fields.specs.Store.{part}
-use Rattle.fields.specs.Text.{Name, name, front}
-use Rattle.fields.proofs.Inverse.{then-inv, name-inv, front-nums, ok-value}
-use Rattle.fields.proofs.Places.{at-take, bes-nums, length-bes, length-nums}
+use Rattle.algebra.specs.Numbers.{be, joined, nums, Bytes}
+use Rattle.algebra.specs.Reader.{Res, ok, refuse, then, pick}
+use Rattle.algebra.specs.Store.{part}
+use Rattle.algebra.specs.Text.{Name, name, front}
+use Rattle.algebra.proofs.Inverse.{then-inv, name-inv, front-nums, ok-value}
+use Rattle.algebra.proofs.Places.{at-take, bes-nums, length-bes, length-nums}
 use Rattle.colour.specs.declared.space.Colour.{Colour}
 use Rattle.aco.specs.Reading.{colour, Entry, Contents, unnamed, aco}
 use Rattle.aco_judge.specs.Answer.{accepted, refused as refusedFile, verdict}

@@ -2,9 +2,9 @@
 use Prim.Native.Nat.{ℕ}
 use mathlib.Core.Path.{_≡_, refl}
 use mathlib.Core.List.{List, [], _∷_}
-use Rattle.fields.specs.Numbers.{num, nums, be, joined}
-use Rattle.fields.specs.Reader.{field, body, each, ended}
-use Rattle.fields.specs.Text.{closed, front, name as text}
+use Rattle.algebra.specs.Numbers.{num, nums, be, joined}
+use Rattle.algebra.specs.Reader.{field, body, each, ended}
+use Rattle.algebra.specs.Text.{closed, front, name as text}
 use Rattle.colour.specs.Spaces.{uses, full, known, allowed}
 use Rattle.aco.specs.Reading.{samples, colour, heading, entry, second, after, lists, aco}
 use Rattle.listing.specs.Text.{ascii, digit, decimalIn, hex, name, lines}

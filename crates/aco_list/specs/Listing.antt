@@ -3,8 +3,8 @@ use Prim.Native.Nat.{ℕ, zero, suc}
 use mathlib.Core.List.{List, [], _∷_, _++_}
 use lib.ListN.{length}
 use lib.Dec.{eqb}
-use Rattle.fields.specs.Reader.{Res, ok, refuse, pick}
-use Rattle.fields.specs.Numbers.{be, joined}
+use Rattle.algebra.specs.Reader.{Res, ok, refuse, pick}
+use Rattle.algebra.specs.Numbers.{be, joined}
 use Rattle.colour.specs.declared.space.Colour.{Colour}
 use Rattle.aco.specs.Reading.{Entry, Contents}
 use Rattle.walk.specs.Walk.{Call, gives, over, refused, Step}

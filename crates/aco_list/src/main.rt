@@ -2,7 +2,7 @@
 ghost use mathlib.Core.Path.{_≡_};
 ghost use Prim.Native.Nat.{_≤_, _<_};
 ghost use lib.ListN.{length, take};
-ghost use Rattle.fields.specs.Numbers.{joined};
+ghost use Rattle.algebra.specs.Numbers.{joined};
 ghost use Rattle.aco.specs.Reading.{aco};
 ghost use Rattle.aco_walk.specs.Walking.{firstPlace, walk};
 ghost use Rattle.listing.specs.Buffer.{putAll};

@@ -9,8 +9,8 @@ use lib.Dec.{ltb}
 use borrow.Author.Tests.{le-leb, lt-leb, lt-ltb, le-ltb, ltb-true}
 use native.Mathlib.Omega.{arith}
 use native.Mathlib.Decide.{ℕ-discrete}
-use Rattle.fields.specs.Numbers.{joined}
-use Rattle.fields.specs.Reader.{Res, ok, refuse, pick}
+use Rattle.algebra.specs.Numbers.{joined}
+use Rattle.algebra.specs.Reader.{Res, ok, refuse, pick}
 use Rattle.colour.specs.declared.space.Colour.{Colour}
 use Rattle.aco.specs.Reading.{Entry, Contents, black, unnamed, aco}
 use Rattle.aco_judge.specs.Answer.{Verdict, accepted, refused, verdict}

@@ -6,9 +6,9 @@ use lib.ListN.{length, getD}
 use borrow.Author.Tests.{lt-ltb}
 use native.Mathlib.Omega.{arith}
 use native.Mathlib.Numerals.{add-one}
-use Rattle.fields.specs.Numbers.{num, nums}
-use Rattle.fields.specs.Reader.{field, orZero, limit}
-use Rattle.fields.proofs.Laws.{field-in}
+use Rattle.algebra.specs.Numbers.{num, nums}
+use Rattle.algebra.specs.Reader.{field, orZero, limit}
+use Rattle.algebra.proofs.Laws.{field-in}
 use Rattle.colour.specs.declared.space.Colour.{Colour}
 use Rattle.aco.specs.Reading.{Entry, black, unnamed, aco}
 use Rattle.aco.specs.Raw.{rawColour}

@@ -4,9 +4,9 @@ use mathlib.Core.Path.{_≡_}
 use mathlib.Core.List.{List, [], _∷_, _++_}
 use lib.ListN.{length, getD, drop}
 use lib.Dec.{leb, ltb}
-use Rattle.fields.specs.Numbers.{joined}
-use Rattle.fields.specs.Reader.{Res, ok, refuse, pick}
-use Rattle.fields.specs.Store.{part}
+use Rattle.algebra.specs.Numbers.{joined}
+use Rattle.algebra.specs.Reader.{Res, ok, refuse, pick}
+use Rattle.algebra.specs.Store.{part}
 use Rattle.colour.specs.declared.space.Colour.{Colour}
 use Rattle.aco.specs.Reading.{Entry, Contents, black, unnamed}
 use Rattle.aco_judge.specs.Answer.{Verdict, accepted, refused}

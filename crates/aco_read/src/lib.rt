@@ -3,7 +3,7 @@ ghost use mathlib.Core.Path.{_≡_};
 ghost use Prim.Native.Nat.{_+_, _*_, _≤_, _<_};
 ghost use lib.ListN.{length};
 ghost use lib.Seq.{sets};
-ghost use Rattle.fields.specs.Numbers.{num, joined};
+ghost use Rattle.algebra.specs.Numbers.{num, joined};
 ghost use Rattle.aco.specs.Reading.{aco};
 ghost use Rattle.aco.specs.Raw.{rawColour};
 ghost use Rattle.aco.specs.Places.{entryPlace};

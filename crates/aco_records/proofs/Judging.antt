@@ -1,6 +1,6 @@
 -- Which fault is found first, and how long the file is, on plain values. Assumes nothing.
-use Rattle.fields.proofs.Counted.{counted-end, counted-start, counted-turn, length-counted, faults-clear}
-use Rattle.fields.specs.Numbers.{counted}
+use Rattle.algebra.proofs.Counted.{counted-end, counted-start, counted-turn, length-counted, faults-clear}
+use Rattle.algebra.specs.Numbers.{counted}
 use Prim.Native.Nat.{ℕ, zero, suc, _+_, _*_, _-_, _≤_, _<_}
 use mathlib.Core.Path.{_≡_, sym, ap, subst}
 use mathlib.Core.List.{List, [], _∷_}
@@ -10,16 +10,16 @@ use borrow.Author.Tests.{eq-eqb, ne-eqb, le-leb, lt-leb}
 use native.Mathlib.Omega.{arith}
 use native.Mathlib.Nat.{lt-of-not-le}
 use native.Mathlib.Decide.{ℕ-discrete, decLe}
-use Rattle.fields.specs.Reader.{pick}
-use Rattle.fields.specs.Text.{text}
-use Rattle.fields.specs.Faults.{firstOf, faults, faultsFrom}
-use Rattle.fields.proofs.Tells.{first-zero}
-use Rattle.fields.proofs.Texts.{text-short}
+use Rattle.algebra.specs.Reader.{pick}
+use Rattle.algebra.specs.Text.{text}
+use Rattle.algebra.specs.Faults.{firstOf, faults, faultsFrom}
+use Rattle.algebra.proofs.Tells.{first-zero}
+use Rattle.algebra.proofs.Texts.{text-short}
 use Rattle.colour.specs.Spaces.{uses, known, allowed, sound}
 use Rattle.colour.proofs.Laws.{sound-inv}
 use Rattle.aco_records.specs.Writing.{Given, givenAt, givens, sizes, spaceFault, sampleFault, nameFault}
 use Rattle.aco_records.specs.Parts.{start, EntryFits, EntriesFit}
-use Rattle.fields.proofs.Firsts.{name-number}
+use Rattle.algebra.proofs.Firsts.{name-number}
 
 -- ---- the first of two faults
 

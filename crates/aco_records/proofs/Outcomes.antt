@@ -6,14 +6,14 @@ use lib.ListN.{length}
 use lib.Dec.{leb}
 use borrow.Author.Tests.{le-leb, lt-leb, leb-true}
 use native.Mathlib.Omega.{arith}
-use Rattle.fields.specs.Reader.{pick, limit}
-use Rattle.fields.specs.Faults.{firstOf, faults}
+use Rattle.algebra.specs.Reader.{pick, limit}
+use Rattle.algebra.specs.Faults.{firstOf, faults}
 use Rattle.aco.specs.Reading.{most}
 use Rattle.aco_records.specs.Writing.{Given, size, colourFault, nameFault, fault, needed}
-use Rattle.fields.specs.Writing.{bytes, refused}
-use Rattle.fields.proofs.Tells.{first-inv}
-use Rattle.fields.proofs.Writing.{needs-no, needs-all, needs-inv}
-use Rattle.fields.proofs.Firsts.{hit, pass, test-holds}
+use Rattle.algebra.specs.Writing.{bytes, refused}
+use Rattle.algebra.proofs.Tells.{first-inv}
+use Rattle.algebra.proofs.Writing.{needs-no, needs-all, needs-inv}
+use Rattle.algebra.proofs.Firsts.{hit, pass, test-holds}
 
 -- ---- the length that is needed, or the refusal
 

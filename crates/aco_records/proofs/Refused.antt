@@ -4,11 +4,11 @@ use mathlib.Core.Path.{_≡_, refl}
 use mathlib.Core.List.{List, map, [], _∷_}
 use lib.Dec.{leb}
 use lib.ListN.{length}
-use Rattle.fields.specs.Reader.{limit}
-use Rattle.fields.specs.Faults.{faults}
-use Rattle.fields.specs.Writing.{refused}
-use Rattle.fields.specs.Refusal.{Of, among}
-use Rattle.fields.proofs.Numbered.{Fault, no-fault, pick-fault, first-fault, faults-fault, from-fault, text-fault, needs-refused, writes-refused}
+use Rattle.algebra.specs.Reader.{limit}
+use Rattle.algebra.specs.Faults.{faults}
+use Rattle.algebra.specs.Writing.{refused}
+use Rattle.algebra.specs.Refusal.{Of, among}
+use Rattle.algebra.proofs.Numbered.{Fault, no-fault, pick-fault, first-fault, faults-fault, from-fault, text-fault, needs-refused, writes-refused}
 use Rattle.colour.specs.Spaces.{known, allowed}
 use Rattle.aco.specs.Grammar.{twoLists}
 use Rattle.aco.specs.Reading.{most}

@@ -4,8 +4,8 @@ use mathlib.Core.Path.{_≡_}
 use mathlib.Core.List.{List, [], map}
 use lib.Dec.{eqb}
 use lib.ListN.{length}
-use Rattle.fields.specs.Reader.{pick, limit}
-use Rattle.fields.specs.Faults.{faults}
+use Rattle.algebra.specs.Reader.{pick, limit}
+use Rattle.algebra.specs.Faults.{faults}
 use Rattle.colour.specs.declared.space.Colour.{Colour}
 use Rattle.aco.specs.Grammar.{Swatch}
 use Rattle.aco_records.specs.Writing.{Given, sizes, nameFault}

@@ -3,11 +3,11 @@ use Prim.Native.Nat.{ℕ, _+_, _*_, _/_}
 use mathlib.Core.List.{List, [], _∷_, map}
 use lib.ListN.{length, getD}
 use lib.Dec.{leb}
-use Rattle.fields.specs.Numbers.{counted, nums}
-use Rattle.fields.specs.Reader.{pick, numberOf, limit}
-use Rattle.fields.specs.Text.{text}
-use Rattle.fields.specs.Writing.{Outcome, needs, writes}
-use Rattle.fields.specs.Faults.{firstOf, faults, faultsFrom}
+use Rattle.algebra.specs.Numbers.{counted, nums}
+use Rattle.algebra.specs.Reader.{pick, numberOf, limit}
+use Rattle.algebra.specs.Text.{text}
+use Rattle.algebra.specs.Writing.{Outcome, needs, writes}
+use Rattle.algebra.specs.Faults.{firstOf, faults, faultsFrom}
 use Rattle.colour.specs.Spaces.{known, allowed}
 use Rattle.aco.specs.Grammar.{Swatch, twoLists}
 use Rattle.aco.specs.Reading.{most}

@@ -4,10 +4,10 @@ ghost use mathlib.Core.Bool.{true};
 ghost use Prim.Native.Nat.{_+_, _*_, _≤_, _<_};
 ghost use lib.Dec.{leb};
 ghost use lib.ListN.{length};
-ghost use Rattle.fields.specs.Reader.{pick, limit};
-ghost use Rattle.fields.specs.Faults.{faults};
+ghost use Rattle.algebra.specs.Reader.{pick, limit};
+ghost use Rattle.algebra.specs.Faults.{faults};
 ghost use Rattle.aco_records.specs.Writing.{givenAt, givens, given, size, sampleFault, spaceFault, colourFault, nameFault, needed};
-ghost use Rattle.fields.specs.Writing.{bytes, refused};
+ghost use Rattle.algebra.specs.Writing.{bytes, refused};
 ghost use Rattle.fields.specs.Answer.{toldWritten};
 use aco::WIDTH;
 use fields::Step;
@@ -126,7 +126,7 @@ fn name_fault(run: &[u32], text: &[u8], k: usize) -> u32
     requires { ⌜ 7 * k + 7 ≤ length (now run) ⌝ }
     ensures { λ r. ⌜ r ≡ nameFault (now (text .entry)) (givenAt (now (run .entry)) k) ⌝ }
 {
-    match fields::text_at(text, fields::wide(run[WIDTH * k + 5]), run[WIDTH * k + 6]) {
+    match names::text_at(text, fields::wide(run[WIDTH * k + 5]), run[WIDTH * k + 6]) {
         Step::Next(_) => 0,
         Step::Refused(x, _) => x,
     }

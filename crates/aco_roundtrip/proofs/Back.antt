@@ -7,9 +7,9 @@ use lib.Dec.{leb, eqb}
 use lib.ListN.{length, drop}
 use borrow.Author.Tests.{le-leb}
 use native.Mathlib.Omega.{arith}
-use Rattle.fields.specs.Numbers.{Bytes, All}
-use Rattle.fields.specs.Reader.{ok, pick, limit}
-use Rattle.fields.proofs.Exact.{length-map}
+use Rattle.algebra.specs.Numbers.{Bytes, All}
+use Rattle.algebra.specs.Reader.{ok, pick, limit}
+use Rattle.algebra.proofs.Exact.{length-map}
 use Rattle.aco.specs.Grammar.{Swatch, Palette, File, listOne, twoLists}
 use Rattle.aco.specs.Reading.{Contents, aco, swatch}
 use Rattle.aco.specs.Faults.{paletteFault}
@@ -17,8 +17,8 @@ use Rattle.aco.proofs.Inverse.{aco-inv}
 use Rattle.aco.proofs.Faultless.{allowed-faultless}
 use Rattle.aco.proofs.RoundTrip.{accepted-allowed, allowed-written}
 use Rattle.aco_records.specs.Writing.{Given, size, fault, needed, written}
-use Rattle.fields.specs.Writing.{bytes, refused}
-use Rattle.fields.proofs.Writing.{Wrote, writes-inv, writes-all}
+use Rattle.algebra.specs.Writing.{bytes, refused}
+use Rattle.algebra.proofs.Writing.{Wrote, writes-inv, writes-all}
 use Rattle.aco_roundtrip.specs.Tie.{made, tabled}
 use Rattle.aco_roundtrip.proofs.Fitting.{length-made, all-four, fault-same}
 use Rattle.aco_roundtrip.proofs.Records.{palette-of, bare-of, length-bare, given-swatches, given-fit}

@@ -9,14 +9,14 @@ use borrow.Author.Tests.{leb-true, ne-eqb}
 use native.Mathlib.Omega.{arith}
 use native.Mathlib.Nat.{lt-of-not-le}
 use native.Mathlib.Decide.{ℕ-discrete, decLe}
-use Rattle.fields.specs.Numbers.{counted, joined, Bytes, nums, All}
-use Rattle.fields.specs.Reader.{pick, numberOf, limit}
-use Rattle.fields.specs.Text.{anyZero, text}
-use Rattle.fields.specs.Faults.{firstOf, faults, faultsFrom}
-use Rattle.fields.proofs.Places.{length-nums, nums-lt}
-use Rattle.fields.proofs.Exact.{all-map, all-both, length-map}
-use Rattle.fields.proofs.Tells.{first-inv, faults-inv, faults-map, faults-from}
-use Rattle.fields.proofs.Texts.{text-zero, text-fine}
+use Rattle.algebra.specs.Numbers.{counted, joined, Bytes, nums, All}
+use Rattle.algebra.specs.Reader.{pick, numberOf, limit}
+use Rattle.algebra.specs.Text.{anyZero, text}
+use Rattle.algebra.specs.Faults.{firstOf, faults, faultsFrom}
+use Rattle.algebra.proofs.Places.{length-nums, nums-lt}
+use Rattle.algebra.proofs.Exact.{all-map, all-both, length-map}
+use Rattle.algebra.proofs.Tells.{first-inv, faults-inv, faults-map, faults-from}
+use Rattle.algebra.proofs.Texts.{text-zero, text-fine}
 use Rattle.colour.specs.Spaces.{known, allowed}
 use Rattle.aco.specs.Grammar.{Swatch, entryBytes, listOne, listTwo, twoLists}
 use Rattle.aco.specs.Reading.{most}
@@ -27,7 +27,7 @@ use Rattle.aco_records.specs.Writing.{Given, givens, swatchIn, sizes, size, spa
 use Rattle.aco_records.proofs.Judging.{space-is, space-small, sample-large, sample-is, name-inside}
 use Rattle.aco_write.proofs.Puts.{length-entry}
 use Rattle.aco_roundtrip.specs.Tie.{made, Fitting}
-use Rattle.fields.proofs.Firsts.{all-image, test-holds, name-number}
+use Rattle.algebra.proofs.Firsts.{all-image, test-holds, name-number}
 
 -- ---- values of a list
 

@@ -7,10 +7,10 @@ use lib.Seq.{getD-append-add}
 use native.Mathlib.Omega.{arith}
 use native.Mathlib.Nat.{add-zero}
 use native.Mathlib.Decide.{ℕ-discrete}
-use Rattle.fields.specs.Numbers.{counted, num, nums, joined, Bytes, All}
-use Rattle.fields.specs.Reader.{ok}
-use Rattle.fields.proofs.Exact.{all-map, all-both, all-by}
-use Rattle.fields.proofs.Rows.{rows-back, length-rows}
+use Rattle.algebra.specs.Numbers.{counted, num, nums, joined, Bytes, All}
+use Rattle.algebra.specs.Reader.{ok}
+use Rattle.algebra.proofs.Exact.{all-map, all-both, all-by}
+use Rattle.algebra.proofs.Rows.{rows-back, length-rows}
 use Rattle.aco.specs.Grammar.{Swatch, Allowed, Palette, File, plain, named, entryBytes, listOne, listTwo, twoLists}
 use Rattle.aco.specs.Reading.{Entry, Contents, black, unnamed, aco, swatch}
 use Rattle.aco.specs.Faults.{Fits}
@@ -21,7 +21,7 @@ use Rattle.aco_read.specs.Table.{row}
 use Rattle.aco_records.specs.Writing.{Given, givenAt, givens, given, swatchIn}
 use Rattle.aco_write.proofs.Puts.{four}
 use Rattle.aco_roundtrip.specs.Tie.{tabled, Fitting}
-use Rattle.fields.proofs.Firsts.{all-image, all-source}
+use Rattle.algebra.proofs.Firsts.{all-image, all-source}
 
 -- a record that was read, as it is given to a writer
 abbrev pub taken : Entry → Given

@@ -7,22 +7,22 @@ use lib.ListN.{length, take, drop, length-append, length-drop}
 use lib.Seq.{take-at, drop-at, ext-getD}
 use borrow.Author.Tests.{leb-true}
 use native.Mathlib.Omega.{arith}
-use Rattle.fields.specs.Numbers.{num, nums, be, joined, Bytes, All}
-use Rattle.fields.specs.Reader.{ok, numberOf, limit}
-use Rattle.fields.specs.Store.{part}
-use Rattle.fields.proofs.Places.{length-nums, getD-nums, part-nums}
-use Rattle.fields.proofs.Exact.{length-map}
+use Rattle.algebra.specs.Numbers.{num, nums, be, joined, Bytes, All}
+use Rattle.algebra.specs.Reader.{ok, numberOf, limit}
+use Rattle.algebra.specs.Store.{part}
+use Rattle.algebra.proofs.Places.{length-nums, getD-nums, part-nums}
+use Rattle.algebra.proofs.Exact.{length-map}
 use Rattle.aco.specs.Grammar.{Swatch, named, listOne, twoLists}
 use Rattle.aco.specs.Reading.{Contents, aco, swatch}
 use Rattle.aco.specs.Faults.{paletteFault}
 use Rattle.aco.specs.Places.{entryPlace}
 use Rattle.aco.proofs.RoundTrip.{allowed-reads, written-number, written-allowed, two-lists, lists-agree, records-place}
 use Rattle.aco_records.specs.Writing.{Given, given, swatchIn, size, fault, needed, written}
-use Rattle.fields.specs.Writing.{bytes}
+use Rattle.algebra.specs.Writing.{bytes}
 use Rattle.aco_roundtrip.specs.Tie.{Holds, made, tabled, Fitting}
 use Rattle.aco_roundtrip.proofs.Fitting.{length-made, all-four, all-fit, fault-same, faultless-fit, givens-four}
 use Rattle.aco_roundtrip.proofs.Back.{written-inv, needs, writes, itself, bare, palette, length-is, short}
-use Rattle.fields.proofs.Firsts.{test-holds}
+use Rattle.algebra.proofs.Firsts.{test-holds}
 
 -- ---- what is written reads back
 

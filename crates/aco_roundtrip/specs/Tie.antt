@@ -3,8 +3,8 @@ use Prim.Native.Nat.{ℕ, _+_, _*_, _^_, _≤_, _<_}
 use mathlib.Core.Path.{_≡_}
 use mathlib.Core.List.{List, map}
 use lib.ListN.{length}
-use Rattle.fields.specs.Numbers.{joined, All}
-use Rattle.fields.specs.Reader.{ok}
+use Rattle.algebra.specs.Numbers.{joined, All}
+use Rattle.algebra.specs.Reader.{ok}
 use Rattle.aco.specs.Grammar.{Swatch, twoLists}
 use Rattle.aco.specs.Reading.{Contents, aco, swatch}
 use Rattle.aco_read.specs.Table.{row}

@@ -7,10 +7,10 @@ use lib.Dec.{leb, eqb}
 use lib.ListN.{length}
 use borrow.Author.Tests.{le-leb, lt-leb}
 use native.Mathlib.Omega.{arith}
-use Rattle.fields.specs.Numbers.{num}
-use Rattle.fields.specs.Reader.{Res, ok, refuse, then, pick}
-use Rattle.fields.specs.Text.{Name, name, place}
-use Rattle.fields.proofs.Inverse.{clash, ok-value, ok-place, done-inv}
+use Rattle.algebra.specs.Numbers.{num}
+use Rattle.algebra.specs.Reader.{Res, ok, refuse, then, pick}
+use Rattle.algebra.specs.Text.{Name, name, place}
+use Rattle.algebra.proofs.Inverse.{clash, ok-value, ok-place, done-inv}
 use Rattle.colour.specs.declared.space.Colour.{Colour}
 use Rattle.colour.specs.Spaces.{known, allowed, sound}
 use Rattle.aco.specs.Reading.{colour, Entry, Contents, black, unnamed, aco}

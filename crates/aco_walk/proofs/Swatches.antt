@@ -9,12 +9,12 @@ use lib.Seq.{ext-getD}
 use borrow.Author.Tests.{le-leb, eq-eqb, ne-eqb, ltb-true, ltb-false}
 use native.Mathlib.Omega.{arith}
 use native.Mathlib.Nat.{add-zero}
-use Rattle.fields.specs.Numbers.{num, nums}
-use Rattle.fields.specs.Reader.{ok, then, pick, Judged, each}
-use Rattle.fields.specs.Text.{name}
-use Rattle.fields.proofs.Laws.{field-in}
-use Rattle.fields.proofs.Places.{length-nums, getD-nums}
-use Rattle.fields.proofs.Inverse.{then-inv, done-inv, fields-inv}
+use Rattle.algebra.specs.Numbers.{num, nums}
+use Rattle.algebra.specs.Reader.{ok, then, pick, Judged, each}
+use Rattle.algebra.specs.Text.{name}
+use Rattle.algebra.proofs.Laws.{field-in}
+use Rattle.algebra.proofs.Places.{length-nums, getD-nums}
+use Rattle.algebra.proofs.Inverse.{then-inv, done-inv, fields-inv}
 use Rattle.colour.specs.declared.space.Colour.{Colour}
 use Rattle.colour.specs.Spaces.{uses, full, known, allowed, allAllowed, sound}
 use Rattle.aco.specs.Reading.{colour, fieldOf, twin, Entry, entry, black, unnamed, compared}

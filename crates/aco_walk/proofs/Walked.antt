@@ -6,14 +6,14 @@ use mathlib.Core.Bool.{Bool, true, false}
 use lib.ListN.{length, getD}
 use denote.Ref.{now}
 use native.Mathlib.Omega.{arith}
-use Rattle.fields.specs.Numbers.{nums}
-use Rattle.fields.specs.Reader.{Res, ok, refuse, then, pick, field}
-use Rattle.fields.specs.Store.{part}
-use Rattle.fields.specs.Text.{Name, name}
-use Rattle.fields.proofs.Inverse.{then-inv, name-inv, ok-value, ok-place}
-use Rattle.fields.proofs.Exact.{map-id}
-use Rattle.fields.proofs.Places.{length-nums}
-use Rattle.fields.proofs.Texts.{length-front}
+use Rattle.algebra.specs.Numbers.{nums}
+use Rattle.algebra.specs.Reader.{Res, ok, refuse, then, pick, field}
+use Rattle.algebra.specs.Store.{part}
+use Rattle.algebra.specs.Text.{Name, name}
+use Rattle.algebra.proofs.Inverse.{then-inv, name-inv, ok-value, ok-place}
+use Rattle.algebra.proofs.Exact.{map-id}
+use Rattle.algebra.proofs.Places.{length-nums}
+use Rattle.algebra.proofs.Texts.{length-front}
 use Rattle.colour.specs.declared.space.Colour.{Colour}
 use Rattle.aco.specs.Reading.{colour, Entry, entry, Contents, black, unnamed, aco, secondCount}
 use Rattle.aco.proofs.Raw.{colour-inv}

@@ -2,7 +2,7 @@
 use Prim.Native.Nat.{ℕ}
 use mathlib.Core.Bool.{Bool, true, false}
 use lib.ListN.{length}
-use Rattle.fields.specs.Reader.{Res, ok, refuse}
+use Rattle.algebra.specs.Reader.{Res, ok, refuse}
 use Rattle.colour.specs.declared.space.Colour.{Colour}
 use Rattle.aco.specs.Reading.{Entry, black}
 use Rattle.walk.specs.Walk.{Call, gives, over, refused}

@@ -5,8 +5,8 @@ use mathlib.Core.Bool.{Bool}
 use lib.Dec.{leb, eqb}
 use lib.ListN.{length}
 use denote.Ref.{now}
-use Rattle.fields.specs.Reader.{Res, ok, refuse, Reader, then, pick, field, _>>=_, orZero}
-use Rattle.fields.specs.Text.{Name, name}
+use Rattle.algebra.specs.Reader.{Res, ok, refuse, Reader, then, pick, field, _>>=_, orZero}
+use Rattle.algebra.specs.Text.{Name, name}
 use Rattle.colour.specs.declared.space.Colour.{Colour}
 use Rattle.aco.specs.Reading.{colour, Entry, Contents, unnamed}
 use Rattle.walk.specs.Walk.{Call, Step, step}

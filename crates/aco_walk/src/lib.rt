@@ -2,14 +2,14 @@
 ghost use mathlib.Core.Path.{_≡_};
 ghost use lib.ListN.{length};
 ghost use Rattle.colour.specs.declared.space.Colour.{Colour};
-ghost use Rattle.fields.specs.Reader.{refuse};
+ghost use Rattle.algebra.specs.Reader.{refuse};
 ghost use Rattle.aco.specs.Reading.{colour, black, aco};
 ghost use Rattle.walk.specs.Walk.{answered, over, refused};
 ghost use Rattle.aco_walk.specs.Walking.{isPlain, firstPlace, labelled, walk, lentOf, startOf};
 ghost use Rattle.aco_walk.specs.Answer.{toldGiven, toldStep, handed, toldTurn, handedOn, toldStart, toldTested, tested};
 use aco_judge::Answer;
 use colour::Colour;
-use fields::NameAt;
+use names::NameAt;
 
 // What a call gives: a colour, whose name lies at a place and has a number of units; done; or a
 // refusal.
@@ -138,7 +138,7 @@ fn labelled_at(file: &[u8], at: usize, colour: Colour) -> Step
             next: at,
         };
     }
-    match fields::name32_at(file, at) {
+    match names::name32_at(file, at) {
         NameAt::Refused(_, _) => lost(file),
         NameAt::Is(place, units, next) => {
             let given = Given::Colour { place, units };

@@ -1,5 +1,5 @@
 -- Stores one after the other, on plain values. Assumes nothing.
-use Rattle.fields.proofs.Counted.{counted-end, counted-start, counted-turn, length-counted}
+use Rattle.algebra.proofs.Counted.{counted-end, counted-start, counted-turn, length-counted}
 use Prim.Native.Nat.{ℕ, zero, suc, _+_, _*_, _-_, _/_, _%_, _≤_, _<_}
 use mathlib.Core.Path.{_≡_, refl, sym, ap, ap₂, _∙_}
 use mathlib.Core.List.{List, [], _∷_, _++_, map, append-assoc, append-nil}
@@ -10,19 +10,19 @@ use borrow.Rule.Slice.PartMut.{putMid, post-is}
 use native.Mathlib.Omega.{arith}
 use native.Mathlib.Decide.{ℕ-discrete}
 use native.Mathlib.Numerals.{unary-clauses}
-use Rattle.fields.specs.Numbers.{counted, be, nums, joined, Bytes}
-use Rattle.fields.specs.Store.{stored, part}
-use Rattle.fields.specs.Text.{nameBytes, countedUnits}
-use Rattle.fields.proofs.Stores.{length-stored}
-use Rattle.fields.proofs.Places.{length-be, length-nums, length-part, part-nums}
-use Rattle.fields.proofs.Exact.{length-map, length-nameBytes}
+use Rattle.algebra.specs.Numbers.{counted, be, nums, joined, Bytes}
+use Rattle.algebra.specs.Store.{stored, part}
+use Rattle.algebra.specs.Text.{nameBytes, countedUnits}
+use Rattle.algebra.proofs.Stores.{length-stored}
+use Rattle.algebra.proofs.Places.{length-be, length-nums, length-part, part-nums}
+use Rattle.algebra.proofs.Exact.{length-map, length-nameBytes}
 use Rattle.colour.specs.declared.space.Colour.{Colour}
 use Rattle.aco.specs.Grammar.{Swatch, colourBytes, entryBytes, listOne, listTwo, twoLists}
 use Rattle.aco.proofs.Whole.{length-colour}
 use Rattle.aco_records.specs.Writing.{Given, givenAt, givens, swatchIn, sizes, size, nameFault}
 use Rattle.aco_records.specs.Parts.{colourIn, plain, start}
 use Rattle.aco_records.proofs.Judging.{name-inside}
-use Rattle.fields.proofs.Storing.{as-sets, peel}
+use Rattle.algebra.proofs.Storing.{as-sets, peel}
 
 -- ---- one store
 

@@ -4,9 +4,9 @@ use mathlib.Core.Path.{_≡_, refl}
 use mathlib.Core.List.{List, [], _∷_, map}
 use mathlib.Core.Bool.{Bool, false}
 use lib.IntN.{ℤ, pos, negsuc}
-use Rattle.fields.specs.Numbers.{num, nums, be}
-use Rattle.fields.specs.Reader.{Res, ok, refuse, field, body, each, stateAfter, chain, ended}
-use Rattle.fields.specs.Text.{anyZero, closed, front, name}
+use Rattle.algebra.specs.Numbers.{num, nums, be}
+use Rattle.algebra.specs.Reader.{Res, ok, refuse, field, body, each, stateAfter, chain, ended}
+use Rattle.algebra.specs.Text.{anyZero, closed, front, name}
 use Rattle.colour.specs.Spaces.{uses, full, known, allowed}
 use Rattle.colour.specs.Models.{modelOf, isModel, channelsOf}
 use Rattle.colour.specs.Channels.{inUnit, allowsBits}

@@ -4,14 +4,14 @@ use mathlib.Core.Path.{_≡_, refl, sym, ap, _∙_}
 use mathlib.Core.List.{List, [], _∷_, _++_, map, append-assoc}
 use lib.ListN.{length, length-append}
 use native.Mathlib.Omega.{arith}
-use Rattle.fields.specs.Numbers.{be, joined, Bytes, All, AllIn}
-use Rattle.fields.specs.Reader.{stateAfter, chain}
-use Rattle.fields.specs.Text.{nameBytes}
-use Rattle.fields.specs.Algebra.{Exact}
-use Rattle.fields.proofs.Places.{length-be, bytes-nil, bytes-append, bytes-be, bytes-joined}
-use Rattle.fields.proofs.Exact.{all-map}
-use Rattle.fields.proofs.Sequence.{field-exact, mark-exact}
-use Rattle.fields.proofs.Chain.{in-both, all-in, chain-exact}
+use Rattle.algebra.specs.Numbers.{be, joined, Bytes, All, AllIn}
+use Rattle.algebra.specs.Reader.{stateAfter, chain}
+use Rattle.algebra.specs.Text.{nameBytes}
+use Rattle.algebra.specs.Algebra.{Exact}
+use Rattle.algebra.proofs.Places.{length-be, bytes-nil, bytes-append, bytes-be, bytes-joined}
+use Rattle.algebra.proofs.Exact.{all-map}
+use Rattle.algebra.proofs.Sequence.{field-exact, mark-exact}
+use Rattle.algebra.proofs.Chain.{in-both, all-in, chain-exact}
 use Rattle.ase.specs.Grammar.{Block, start, stop, colour, other, typeOf, payload, blockBytes, fileBytes, Allowed, Nested}
 use Rattle.ase.specs.Reading.{blockOf, block, standing, standingAfter, heading}
 use Rattle.ase.proofs.Laws.{Steps, Sound, length-block, block-exact}

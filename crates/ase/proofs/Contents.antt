@@ -8,16 +8,16 @@ use lib.ListN.{length}
 use native.Mathlib.Omega.{arith}
 use native.Mathlib.Nat.{lt-of-not-le}
 use native.Mathlib.Decide.{decLe}
-use Rattle.fields.specs.Numbers.{be, joined, Bytes, All}
-use Rattle.fields.specs.Text.{nameBytes, Named}
-use Rattle.fields.proofs.Exact.{all-from}
+use Rattle.algebra.specs.Numbers.{be, joined, Bytes, All}
+use Rattle.algebra.specs.Text.{nameBytes, Named}
+use Rattle.algebra.proofs.Exact.{all-from}
 use Rattle.colour.specs.Models.{isModel, channelsOf}
 use Rattle.colour.specs.Channels.{allowsBits}
 use Rattle.ase.specs.Grammar.{colour, payload, Model, Channel, Colour}
 use Rattle.ase.specs.Damaged.{DamagedName, count-cut, no-units, units-cut, unclosed, DamagedGroup, group-name, group-left, DamagedColour, colour-name, model-cut, wrong-model, channel-cut, wrong-channel, type-cut, wrong-type, colour-left, modelAt, channelAt}
 use Rattle.ase.proofs.Tables.{model-known, known-model, channel-allowed, allowed-channel}
-use Rattle.fields.proofs.Begins.{First, fewer, number, first}
-use Rattle.fields.proofs.Names.{NameFirst, count-short, count-zero, units-short, units-open, name-whole, name-first}
+use Rattle.algebra.proofs.Begins.{First, fewer, number, first}
+use Rattle.algebra.proofs.Names.{NameFirst, count-short, count-zero, units-short, units-open, name-whole, name-first}
 
 -- ---- a name
 

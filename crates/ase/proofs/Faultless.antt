@@ -6,13 +6,13 @@ use mathlib.Core.Bool.{Bool, true}
 use lib.Dec.{leb, ltb, eqb}
 use borrow.Author.Tests.{eqb-true, leb-true, le-leb, ltb-true, lt-ltb, eq-eqb}
 use native.Mathlib.Omega.{arith}
-use Rattle.fields.specs.Numbers.{All, AllIn}
-use Rattle.fields.specs.Reader.{pick, stateAfter}
-use Rattle.fields.specs.Text.{anyZero, Named}
-use Rattle.fields.specs.Faults.{firstOf, faultsFrom, faultsIn}
-use Rattle.fields.proofs.Exact.{all-map, all-both, any-none, none-any}
-use Rattle.fields.proofs.Tells.{first-none, first-inv, pick-none, pick-some, faults-inv, faults-none}
-use Rattle.fields.proofs.Chain.{in-map, in-both, all-in, in-all, in-inv, in-none}
+use Rattle.algebra.specs.Numbers.{All, AllIn}
+use Rattle.algebra.specs.Reader.{pick, stateAfter}
+use Rattle.algebra.specs.Text.{anyZero, Named}
+use Rattle.algebra.specs.Faults.{firstOf, faultsFrom, faultsIn}
+use Rattle.algebra.proofs.Exact.{all-map, all-both, any-none, none-any}
+use Rattle.algebra.proofs.Tells.{first-none, first-inv, pick-none, pick-some, faults-inv, faults-none}
+use Rattle.algebra.proofs.Chain.{in-map, in-both, all-in, in-all, in-inv, in-none}
 use Rattle.colour.specs.Models.{isModel, channelsOf}
 use Rattle.colour.specs.Channels.{allowsBits}
 use Rattle.ase.specs.Grammar.{Block, start, stop, colour, other, Channel, Colour, Allowed, Nested}

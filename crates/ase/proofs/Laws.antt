@@ -8,16 +8,16 @@ use lib.ListN.{length, length-append, take}
 use borrow.Author.Tests.{eqb-true, ltb-true, lt-ltb, leb-true, le-leb}
 use native.Mathlib.Omega.{arith}
 use native.Mathlib.Nat.{add-zero}
-use Rattle.fields.specs.Numbers.{num, be, joined, At, Bytes, All}
-use Rattle.fields.specs.Reader.{Res, ok, pick, rule, field, fine, unless, judged, each}
-use Rattle.fields.specs.Text.{Name, name, nameBytes, Named}
-use Rattle.fields.specs.Algebra.{Same, Lawful, Exact}
-use Rattle.fields.proofs.Laws.{field-in}
-use Rattle.fields.proofs.Cuts.{bytes-take}
-use Rattle.fields.proofs.Places.{length-be, at-in, at-next, at-left, at-right, at-after, num-be, be-num, num-lt}
-use Rattle.fields.proofs.Inverse.{then-inv, rule-inv, pick-inv, unless-fine, field-inv, ok-value, ok-place}
-use Rattle.fields.proofs.Lawful.{same-num, judged-lawful, name-lawful, give-lawful, bind-lawful, each-lawful}
-use Rattle.fields.proofs.Exact.{all-map, map-id, judged-exact, name-exact}
+use Rattle.algebra.specs.Numbers.{num, be, joined, At, Bytes, All}
+use Rattle.algebra.specs.Reader.{Res, ok, pick, rule, field, fine, unless, judged, each}
+use Rattle.algebra.specs.Text.{Name, name, nameBytes, Named}
+use Rattle.algebra.specs.Algebra.{Same, Lawful, Exact}
+use Rattle.algebra.proofs.Laws.{field-in}
+use Rattle.algebra.proofs.Cuts.{bytes-take}
+use Rattle.algebra.proofs.Places.{length-be, at-in, at-next, at-left, at-right, at-after, num-be, be-num, num-lt}
+use Rattle.algebra.proofs.Inverse.{then-inv, rule-inv, pick-inv, unless-fine, field-inv, ok-value, ok-place}
+use Rattle.algebra.proofs.Lawful.{same-num, judged-lawful, name-lawful, give-lawful, bind-lawful, each-lawful}
+use Rattle.algebra.proofs.Exact.{all-map, map-id, judged-exact, name-exact}
 use Rattle.colour.specs.Models.{isModel, channelsOf}
 use Rattle.colour.specs.Channels.{allowsBits}
 use Rattle.ase.specs.Grammar.{Block, start, stop, colour, other, typeOf, payload, blockBytes, Channel, Colour, Allowed}

@@ -8,10 +8,10 @@ use lib.ListN.{length, take}
 use lib.Seq.{length-take-le, getD-take}
 use borrow.Author.Tests.{eq-eqb, eqb-true}
 use native.Mathlib.Omega.{arith}
-use Rattle.fields.specs.Numbers.{At}
-use Rattle.fields.specs.Reader.{Res, Reader, ok, refuse, pick}
-use Rattle.fields.specs.Algebra.{Same, Lawful, Exact}
-use Rattle.fields.proofs.Inverse.{clash, pick-inv, ok-place}
+use Rattle.algebra.specs.Numbers.{At}
+use Rattle.algebra.specs.Reader.{Res, Reader, ok, refuse, pick}
+use Rattle.algebra.specs.Algebra.{Same, Lawful, Exact}
+use Rattle.algebra.proofs.Inverse.{clash, pick-inv, ok-place}
 use Rattle.ase.specs.Reading.{inside, within}
 
 -- ---- a file that is cut

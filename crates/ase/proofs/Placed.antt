@@ -8,11 +8,11 @@ use lib.Seq.{length-take-le}
 use lib.Dec.{leb, ltb, eqb}
 use borrow.Author.Tests.{leb-true}
 use native.Mathlib.Omega.{arith}
-use Rattle.fields.specs.Reader.{Res, Reader, ok, refuse, pick, field, Judged, unless, judged, each, stateAfter, chain}
-use Rattle.fields.specs.Text.{name}
-use Rattle.fields.specs.Refusal.{Of, among, Placed, ends, fails, Places}
-use Rattle.fields.proofs.Inverse.{field-inv}
-use Rattle.fields.proofs.Placed.{unless-numbered, refusal-placed, placed-then, placed-from, placed-pick, placed-rule, field-placed, judged-placed, ended-placed, name-placed, each-placed, chain-placed, limited-placed}
+use Rattle.algebra.specs.Reader.{Res, Reader, ok, refuse, pick, field, Judged, unless, judged, each, stateAfter, chain}
+use Rattle.algebra.specs.Text.{name}
+use Rattle.algebra.specs.Refusal.{Of, among, Placed, ends, fails, Places}
+use Rattle.algebra.proofs.Inverse.{field-inv}
+use Rattle.algebra.proofs.Placed.{unless-numbered, refusal-placed, placed-then, placed-from, placed-pick, placed-rule, field-placed, judged-placed, ended-placed, name-placed, each-placed, chain-placed, limited-placed}
 use Rattle.colour.specs.Models.{isModel, channelsOf}
 use Rattle.colour.specs.Channels.{allowsBits}
 use Rattle.ase.specs.Reading.{group, model, channel, type, shade, inside, within, deepest, isType, content, block, standingAfter, heading, blocks, palette, ase}

@@ -7,12 +7,12 @@ use mathlib.Core.Bool.{Bool, true, false}
 use lib.Dec.{leb}
 use lib.ListN.{length}
 use borrow.Author.Tests.{leb-true}
-use Rattle.fields.specs.Numbers.{At, Bytes, All}
-use Rattle.fields.specs.Reader.{ok, refuse, pick, numberOf, limit}
-use Rattle.fields.proofs.Places.{at-whole}
-use Rattle.fields.proofs.Inverse.{clash, ok-value}
-use Rattle.fields.proofs.Exact.{all-both}
-use Rattle.fields.proofs.Tells.{outcome-number}
+use Rattle.algebra.specs.Numbers.{At, Bytes, All}
+use Rattle.algebra.specs.Reader.{ok, refuse, pick, numberOf, limit}
+use Rattle.algebra.proofs.Places.{at-whole}
+use Rattle.algebra.proofs.Inverse.{clash, ok-value}
+use Rattle.algebra.proofs.Exact.{all-both}
+use Rattle.algebra.proofs.Tells.{outcome-number}
 use Rattle.ase.specs.Grammar.{Block, payload, fileBytes, File, file}
 use Rattle.ase.specs.Reading.{Entry, blockOf, palette, ase}
 use Rattle.ase.specs.Faults.{paletteFault, BlockFits}

@@ -12,9 +12,9 @@ use Rattle.colour.specs.declared.model.Model.the-variants as vm
 use Rattle.colour.specs.Models.{modelOf, isKnown, countIn, isModel, channelsOf}
 use Rattle.colour.specs.Channels.{allowsBits}
 use Rattle.colour.proofs.Models.{Tagged, of, none, model-tagged, allows-unit, allows-minus, allows-lab, allows-inv}
-use Rattle.fields.specs.Numbers.{All}
-use Rattle.fields.specs.Reader.{fine}
-use Rattle.fields.proofs.Exact.{all-map}
+use Rattle.algebra.specs.Numbers.{All}
+use Rattle.algebra.specs.Reader.{fine}
+use Rattle.algebra.proofs.Exact.{all-map}
 use Rattle.ase.specs.Reading.{channel, isType}
 use Rattle.ase.specs.Grammar.{Known, starts, stops, colours, Unknown, Model, rgb, cmyk, lab, gray, Channel, unit, minus, finite}
 

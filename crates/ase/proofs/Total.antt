@@ -7,14 +7,14 @@ use lib.ListN.{length}
 use native.Mathlib.Omega.{arith}
 use native.Mathlib.Nat.{lt-of-not-le}
 use native.Mathlib.Decide.{ℕ-discrete, decLe}
-use Rattle.fields.specs.Numbers.{be, joined, Bytes, All}
-use Rattle.fields.specs.Text.{nameBytes}
-use Rattle.fields.proofs.Exact.{all-from}
+use Rattle.algebra.specs.Numbers.{be, joined, Bytes, All}
+use Rattle.algebra.specs.Text.{nameBytes}
+use Rattle.algebra.proofs.Exact.{all-from}
 use Rattle.ase.specs.Grammar.{Block, start, stop, colour, other, typeOf, payload, blockBytes, fileBytes, Known, starts, stops, colours, Unknown, Allowed, Nested, File, file}
 use Rattle.ase.specs.Damaged.{signature-cut, wrong-signature, major-cut, wrong-major, minor-cut, wrong-minor, blocks-cut, framed, loaded, DamagedBlock, block-cut, length-cut, unknown, payload-cut, too-deep, wrong-group, end-with-payload, end-without-group, wrong-colour, followed, behind, Damaged, wrong-heading, wrong-block, left-open, left-over}
 use Rattle.ase.specs.Reading.{standing}
 use Rattle.ase.proofs.Laws.{Steps}
-use Rattle.fields.proofs.Begins.{First, fewer, number, first, Split, short, split, part-first}
+use Rattle.algebra.proofs.Begins.{First, fewer, number, first, Split, short, split, part-first}
 use Rattle.ase.proofs.Contents.{name-or, GroupOr, bad-group, good-group, group-by, ColourOr, bad-colour, good-colour, colour-by}
 
 -- ---- a block, where d groups stand open

@@ -7,15 +7,15 @@ use lib.Seq.{length-take-le}
 use borrow.Author.Tests.{le-leb, lt-leb, le-ltb, lt-ltb, eq-eqb, ne-eqb}
 use native.Mathlib.Omega.{arith}
 use native.Mathlib.Nat.{add-zero}
-use Rattle.fields.specs.Numbers.{be, joined, At, Bytes, All}
-use Rattle.fields.specs.Reader.{Res, ok, refuse, Reader, then, field, fine, judged, each, stateAfter, chain}
-use Rattle.fields.specs.Text.{Name, name, nameBytes, Named}
-use Rattle.fields.specs.Algebra.{Exact}
-use Rattle.fields.proofs.Cuts.{bytes-take}
-use Rattle.fields.proofs.Places.{length-be, length-bes, at-in, at-left, at-after}
-use Rattle.fields.proofs.Exact.{length-nameBytes, map-id, judged-exact, each-exact, name-exact}
-use Rattle.fields.proofs.Stops.{ended-left, each-stops}
-use Rattle.fields.proofs.Tails.{Tail, tail-left, tail-after, field-there, field-cut, judged-there, judged-wrong, judged-cut, name-cut, name-none, name-units-cut, name-open}
+use Rattle.algebra.specs.Numbers.{be, joined, At, Bytes, All}
+use Rattle.algebra.specs.Reader.{Res, ok, refuse, Reader, then, field, fine, judged, each, stateAfter, chain}
+use Rattle.algebra.specs.Text.{Name, name, nameBytes, Named}
+use Rattle.algebra.specs.Algebra.{Exact}
+use Rattle.algebra.proofs.Cuts.{bytes-take}
+use Rattle.algebra.proofs.Places.{length-be, length-bes, at-in, at-left, at-after}
+use Rattle.algebra.proofs.Exact.{length-nameBytes, map-id, judged-exact, each-exact, name-exact}
+use Rattle.algebra.proofs.Stops.{ended-left, each-stops}
+use Rattle.algebra.proofs.Tails.{Tail, tail-left, tail-after, field-there, field-cut, judged-there, judged-wrong, judged-cut, name-cut, name-none, name-units-cut, name-open}
 use Rattle.colour.specs.Models.{channelsOf}
 use Rattle.ase.specs.Grammar.{colour, payload, Known, starts, stops, colours, Unknown, Model, Channel}
 use Rattle.ase.specs.Reading.{Entry, coloured, group, model, channel, type, shade, inside, within, content, block, standingAfter, marked, heading, blocks, palette}

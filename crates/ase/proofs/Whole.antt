@@ -6,11 +6,11 @@ use lib.Dec.{leb, eqb}
 use lib.ListN.{length, length-append}
 use borrow.Author.Tests.{eqb-true, eq-eqb, le-leb, leb-true}
 use native.Mathlib.Omega.{arith}
-use Rattle.fields.specs.Numbers.{joined, At, Bytes, All}
-use Rattle.fields.specs.Reader.{ok, unless, judged, stateAfter, chain, ended}
-use Rattle.fields.proofs.Places.{at-in, at-next, at-left, at-after, at-all, at-whole}
-use Rattle.fields.proofs.Inverse.{then-inv, rule-inv, pick-inv, unless-fine, field-inv, judged-inv, ended-inv, ok-value, ok-place}
-use Rattle.fields.proofs.Chain.{in-map, in-all, state-map}
+use Rattle.algebra.specs.Numbers.{joined, At, Bytes, All}
+use Rattle.algebra.specs.Reader.{ok, unless, judged, stateAfter, chain, ended}
+use Rattle.algebra.proofs.Places.{at-in, at-next, at-left, at-after, at-all, at-whole}
+use Rattle.algebra.proofs.Inverse.{then-inv, rule-inv, pick-inv, unless-fine, field-inv, judged-inv, ended-inv, ok-value, ok-place}
+use Rattle.algebra.proofs.Chain.{in-map, in-all, state-map}
 use Rattle.ase.specs.Grammar.{Block, blockBytes, fileBytes, Allowed, Nested, File, file}
 use Rattle.ase.specs.Reading.{Entry, blockOf, block, standing, standingAfter, marked, heading, blocks, palette, ase}
 use Rattle.ase.proofs.Laws.{Steps, Sound}

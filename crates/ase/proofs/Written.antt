@@ -8,15 +8,15 @@ use lib.ListN.{length, length-append, take}
 use borrow.Author.Tests.{eq-eqb, ne-eqb}
 use native.Mathlib.Omega.{arith}
 use native.Mathlib.Nat.{add-zero}
-use Rattle.fields.specs.Numbers.{be, joined, At, Bytes, All, AllIn}
-use Rattle.fields.specs.Reader.{Res, ok, refuse, then, pick, rule, unless, judged, each, numberOf, stateAfter, chain, ended}
-use Rattle.fields.specs.Text.{anyZero, name, nameBytes}
-use Rattle.fields.specs.Faults.{firstOf, faultsFrom, faultsIn}
-use Rattle.fields.specs.Algebra.{Tells}
-use Rattle.fields.proofs.Places.{at-in, at-left, at-right, at-after}
-use Rattle.fields.proofs.Inverse.{ok-value, ok-place}
-use Rattle.fields.proofs.Tells.{Outcome, good, bad, outcome-fault, outcome-then, outcome-rule, tells, outcome, Gives, unless-tells, unless-found, unless-sure, judged-gives, each-tells, each-gives, name-tells, first-zero, first-some}
-use Rattle.fields.proofs.Chain.{state-map, all-in, chain-tells, chain-gives}
+use Rattle.algebra.specs.Numbers.{be, joined, At, Bytes, All, AllIn}
+use Rattle.algebra.specs.Reader.{Res, ok, refuse, then, pick, rule, unless, judged, each, numberOf, stateAfter, chain, ended}
+use Rattle.algebra.specs.Text.{anyZero, name, nameBytes}
+use Rattle.algebra.specs.Faults.{firstOf, faultsFrom, faultsIn}
+use Rattle.algebra.specs.Algebra.{Tells}
+use Rattle.algebra.proofs.Places.{at-in, at-left, at-right, at-after}
+use Rattle.algebra.proofs.Inverse.{ok-value, ok-place}
+use Rattle.algebra.proofs.Tells.{Outcome, good, bad, outcome-fault, outcome-then, outcome-rule, tells, outcome, Gives, unless-tells, unless-found, unless-sure, judged-gives, each-tells, each-gives, name-tells, first-zero, first-some}
+use Rattle.algebra.proofs.Chain.{state-map, all-in, chain-tells, chain-gives}
 use Rattle.colour.specs.Models.{isModel, channelsOf}
 use Rattle.colour.specs.Channels.{allowsBits}
 use Rattle.ase.specs.Grammar.{Block, start, stop, colour, other, typeOf, payload, blockBytes}

@@ -4,10 +4,10 @@ use mathlib.Core.Path.{_≡_}
 use mathlib.Core.List.{List}
 use lib.Dec.{leb, ltb, eqb}
 use lib.ListN.{length}
-use Rattle.fields.specs.Numbers.{All}
-use Rattle.fields.specs.Reader.{pick, stateAfter}
-use Rattle.fields.specs.Text.{anyZero}
-use Rattle.fields.specs.Faults.{firstOf, faultsFrom, faultsIn}
+use Rattle.algebra.specs.Numbers.{All}
+use Rattle.algebra.specs.Reader.{pick, stateAfter}
+use Rattle.algebra.specs.Text.{anyZero}
+use Rattle.algebra.specs.Faults.{firstOf, faultsFrom, faultsIn}
 use Rattle.colour.specs.Models.{isModel, channelsOf}
 use Rattle.colour.specs.Channels.{allowsBits}
 use Rattle.ase.specs.Grammar.{Block, start, stop, colour, other, Unknown}

@@ -4,8 +4,8 @@ use Prim.Native.Nat.{ℕ, _+_, _-_, _%_, _^_, _≤_, _<_}
 use mathlib.Core.Path.{_≡_}
 use mathlib.Core.List.{List, [], _∷_, _++_}
 use lib.ListN.{length}
-use Rattle.fields.specs.Numbers.{be, joined, All}
-use Rattle.fields.specs.Text.{nameBytes, Named}
+use Rattle.algebra.specs.Numbers.{be, joined, All}
+use Rattle.algebra.specs.Text.{nameBytes, Named}
 
 -- a block: the start of a group with the units of its name; the end of a group;
 -- a colour: the units of its name, the tag of its model, the bits of its channels, and its type;

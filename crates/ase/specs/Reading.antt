@@ -4,8 +4,8 @@ use mathlib.Core.List.{List}
 use mathlib.Core.Bool.{Bool, true}
 use lib.Dec.{leb, ltb, eqb}
 use lib.ListN.{length, take}
-use Rattle.fields.specs.Reader.{Res, ok, refuse, Reader, then, pick, field, rule, Judged, unless, judged, give, _>>=_, each, stateAfter, chain, ended, limit}
-use Rattle.fields.specs.Text.{Name, name}
+use Rattle.algebra.specs.Reader.{Res, ok, refuse, Reader, then, pick, field, rule, Judged, unless, judged, give, _>>=_, each, stateAfter, chain, ended, limit}
+use Rattle.algebra.specs.Text.{Name, name}
 use Rattle.colour.specs.Models.{isModel, channelsOf}
 use Rattle.colour.specs.Channels.{allowsBits}
 use Rattle.ase.specs.Grammar.{Block, start, stop, colour, other}

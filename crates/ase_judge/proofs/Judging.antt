@@ -8,11 +8,11 @@ use lib.Dec.{leb, ltb, eqb}
 use borrow.Author.Tests.{le-leb, lt-leb, lt-ltb, le-ltb, eq-eqb, ne-eqb, eqb-true, eqb-false}
 use native.Mathlib.Omega.{arith}
 use native.Mathlib.Nat.{zero-add, add-assoc}
-use Rattle.fields.specs.Reader.{Res, ok, refuse, Reader, then, pick, rule, field, done, mapRes, each, stateAfter, chain, ended, Judged, judged, unless, limit}
-use Rattle.fields.specs.Text.{Name, name, place}
-use Rattle.fields.proofs.Laws.{field-next, judged-short, judged-bad, judged-ok, then-ok}
-use Rattle.fields.proofs.Texts.{done-place}
-use Rattle.fields.proofs.Inverse.{then-inv, ok-value, clash}
+use Rattle.algebra.specs.Reader.{Res, ok, refuse, Reader, then, pick, rule, field, done, mapRes, each, stateAfter, chain, ended, Judged, judged, unless, limit}
+use Rattle.algebra.specs.Text.{Name, name, place}
+use Rattle.algebra.proofs.Laws.{field-next, judged-short, judged-bad, judged-ok, then-ok}
+use Rattle.algebra.proofs.Texts.{done-place}
+use Rattle.algebra.proofs.Inverse.{then-inv, ok-value, clash}
 use Rattle.colour.specs.Models.{traitsOf, modelOf, channelsOf}
 use Rattle.colour.proofs.Models.{tag-known, tag-channels, model-bad, model-good}
 use Rattle.colour.specs.declared.model.Model.{Model}

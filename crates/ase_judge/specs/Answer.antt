@@ -2,7 +2,7 @@
 use Prim.Native.Nat.{ℕ, _+_}
 use mathlib.Core.List.{List, [], _∷_}
 use lib.ListN.{length}
-use Rattle.fields.specs.Reader.{Res, ok, refuse, stateAfter}
+use Rattle.algebra.specs.Reader.{Res, ok, refuse, stateAfter}
 use Rattle.ase.specs.Reading.{Entry, started, stopped, coloured, standingAfter}
 use Rattle.ase_judge.specs.declared.Answer.{Answer}
 use Rattle.ase_judge.specs.declared.Answer.the-variants as va

@@ -4,7 +4,7 @@ use mathlib.Core.List.{List}
 use mathlib.Core.Bool.{Bool}
 use lib.Dec.{ltb, eqb}
 use lib.ListN.{take}
-use Rattle.fields.specs.Reader.{Res, ok, Reader, then, pick, rule, Judged, unless, judged, each, ended}
+use Rattle.algebra.specs.Reader.{Res, ok, Reader, then, pick, rule, Judged, unless, judged, each, ended}
 use lib.Ieee.{binary32, ofBits}
 use lib.Ieee.Scale.{finite}
 use Rattle.colour.specs.Models.{channelsOf}

@@ -2,7 +2,7 @@
 ghost use mathlib.Core.Path.{_≡_};
 ghost use Prim.Native.Nat.{_+_, _-_, _≤_, _<_};
 ghost use lib.ListN.{length};
-ghost use Rattle.fields.specs.Reader.{done, each, judged, mapRes, chain};
+ghost use Rattle.algebra.specs.Reader.{done, each, judged, mapRes, chain};
 ghost use Rattle.fields.specs.Answer.{toldStep};
 ghost use Rattle.ase.specs.Reading.{type, shade, group, inside, isType, content, block, standingAfter, heading, ase};
 ghost use Rattle.ase_judge.specs.Parts.{channelIn, paint, startOf, stopOf, colourOf, whole};
@@ -15,10 +15,10 @@ use ase::START;
 use ase::STOP;
 use colour::Known;
 use colour::Model;
-use fields::NameAt;
 use fields::Number16;
 use fields::Number32;
 use fields::Step;
+use names::NameAt;
 
 // How many blocks a file has, and how many of them are colours; or a refusal.
 pub enum Answer {
@@ -100,7 +100,7 @@ fn type_at(file: &[u8], at: usize) -> Step
 fn shade_at(file: &[u8], at: usize) -> Step
     ensures { λ r. ⌜ toldStep r ≡ done (shade (now (file .entry)) at) ⌝ }
 {
-    match fields::name16_at(file, at) {
+    match names::name16_at(file, at) {
         NameAt::Refused(x, p) => Step::Refused(x, p),
         NameAt::Is(_, _, next) => paint_at(file, next),
     }
@@ -110,7 +110,7 @@ fn shade_at(file: &[u8], at: usize) -> Step
 fn group_at(file: &[u8], at: usize) -> Step
     ensures { λ r. ⌜ toldStep r ≡ done (group (now (file .entry)) at) ⌝ }
 {
-    match fields::name16_at(file, at) {
+    match names::name16_at(file, at) {
         NameAt::Refused(x, p) => Step::Refused(x, p),
         NameAt::Is(_, _, next) => Step::Next(next),
     }

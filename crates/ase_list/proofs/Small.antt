@@ -3,9 +3,9 @@ use Prim.Native.Nat.{ℕ}
 use mathlib.Core.Path.{_≡_, refl}
 use mathlib.Core.List.{List, [], _∷_, _++_}
 use lib.Ieee.{ofBits, le, lt, eq}
-use Rattle.fields.specs.Numbers.{num, nums, be, joined}
-use Rattle.fields.specs.Reader.{field, body, each, stateAfter, chain, ended}
-use Rattle.fields.specs.Text.{closed, front, name as text}
+use Rattle.algebra.specs.Numbers.{num, nums, be, joined}
+use Rattle.algebra.specs.Reader.{field, body, each, stateAfter, chain, ended}
+use Rattle.algebra.specs.Text.{closed, front, name as text}
 use Rattle.colour.specs.Models.{modelOf, isModel, channelsOf}
 use Rattle.colour.specs.Channels.{inUnit, allowsBits}
 use Rattle.ase.specs.Reading.{group, shade, content, block, heading, blocks, palette, ase}

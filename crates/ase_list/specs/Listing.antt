@@ -3,8 +3,8 @@ use Prim.Native.Nat.{ℕ, zero, suc}
 use mathlib.Core.List.{List, [], _∷_, _++_}
 use lib.ListN.{length, take}
 use lib.Dec.{eqb}
-use Rattle.fields.specs.Reader.{Res, ok, refuse, pick}
-use Rattle.fields.specs.Numbers.{joined}
+use Rattle.algebra.specs.Reader.{Res, ok, refuse, pick}
+use Rattle.algebra.specs.Numbers.{joined}
 use Rattle.colour.specs.Models.{traitsOf, modelOf, channelsOf}
 use Rattle.colour.specs.Channels.{bitsOf, modelIn}
 use Rattle.colour.specs.declared.model.Model.{Model}

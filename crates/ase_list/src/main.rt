@@ -2,7 +2,7 @@
 ghost use mathlib.Core.Path.{_≡_};
 ghost use Prim.Native.Nat.{_≤_, _<_};
 ghost use lib.ListN.{length, take};
-ghost use Rattle.fields.specs.Numbers.{joined};
+ghost use Rattle.algebra.specs.Numbers.{joined};
 ghost use Rattle.ase.specs.Reading.{ase};
 ghost use Rattle.ase_walk.specs.Walking.{firstPlace, blockWalk};
 ghost use Rattle.ase_walk.specs.Answer.{toldBlock};

@@ -8,10 +8,10 @@ use lib.Seq.{sets, sets-eq}
 use lib.Dec.{ltb}
 use borrow.Author.Tests.{le-leb, lt-leb, lt-ltb, le-ltb, ltb-true}
 use native.Mathlib.Omega.{arith}
-use Rattle.fields.specs.Numbers.{joined}
-use Rattle.fields.specs.Reader.{Res, ok, refuse, pick}
-use Rattle.fields.specs.Text.{Name}
-use Rattle.fields.proofs.Places.{length-joined}
+use Rattle.algebra.specs.Numbers.{joined}
+use Rattle.algebra.specs.Reader.{Res, ok, refuse, pick}
+use Rattle.algebra.specs.Text.{Name}
+use Rattle.algebra.proofs.Places.{length-joined}
 use Rattle.colour.specs.Models.{traitsOf, modelOf, isKnown, countIn, isModel, channelsOf}
 use Rattle.colour.specs.Channels.{allowsIn, allowsBits, made, madeIn, bitsOf, modelIn, channel}
 use Rattle.colour.specs.declared.model.Model.{Model}

@@ -8,13 +8,13 @@ use lib.ListN.{length, getD, take, List·getD-eq-default}
 use lib.Seq.{length-take-le, getD-take}
 use borrow.Author.Tests.{leb-true, ltb-true, ltb-false, eqb-true, ne-eqb, eq-eqb}
 use native.Mathlib.Omega.{arith}
-use Rattle.fields.specs.Numbers.{num, nums}
-use Rattle.fields.specs.Reader.{Reader, ok, pick, rule, unless, fine, judged, each}
-use Rattle.fields.specs.Text.{Name, name, anyZero, closed}
-use Rattle.fields.proofs.Laws.{field-in, field-short, num-split}
-use Rattle.fields.proofs.Places.{length-nums, num-cong, getD-nums}
-use Rattle.fields.proofs.Inverse.{ok-value, ok-place, then-inv, rule-inv, unless-fine, judged-inv, Name-read, name-inv, fields-inv, fields-fine}
-use Rattle.fields.proofs.Texts.{closed-last, length-front}
+use Rattle.algebra.specs.Numbers.{num, nums}
+use Rattle.algebra.specs.Reader.{Reader, ok, pick, rule, unless, fine, judged, each}
+use Rattle.algebra.specs.Text.{Name, name, anyZero, closed}
+use Rattle.algebra.proofs.Laws.{field-in, field-short, num-split}
+use Rattle.algebra.proofs.Places.{length-nums, num-cong, getD-nums}
+use Rattle.algebra.proofs.Inverse.{ok-value, ok-place, then-inv, rule-inv, unless-fine, judged-inv, Name-read, name-inv, fields-inv, fields-fine}
+use Rattle.algebra.proofs.Texts.{closed-last, length-front}
 use Rattle.colour.specs.Models.{isModel, channelsOf}
 use Rattle.colour.specs.Channels.{allowsBits}
 use Rattle.ase.specs.Reading.{Entry, started, stopped, coloured, group, model, channel, type, shade, inside, within, deepest, isType, content, block}

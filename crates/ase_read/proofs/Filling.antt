@@ -9,9 +9,9 @@ use borrow.Author.Tests.{leb-true}
 use native.Mathlib.Omega.{arith}
 use native.Mathlib.Numerals.{add-one}
 use native.Mathlib.Nat.{add-zero}
-use Rattle.fields.specs.Reader.{ok, pick, unless, chain, stateAfter, limit}
-use Rattle.fields.proofs.Inverse.{ok-value, then-inv, rule-inv, pick-inv, ended-inv}
-use Rattle.fields.proofs.Chain.{chain-inv, chain-length}
+use Rattle.algebra.specs.Reader.{ok, pick, unless, chain, stateAfter, limit}
+use Rattle.algebra.proofs.Inverse.{ok-value, then-inv, rule-inv, pick-inv, ended-inv}
+use Rattle.algebra.proofs.Chain.{chain-inv, chain-length}
 use Rattle.ase.proofs.Whole.{heading-inv}
 use Rattle.ase.specs.Reading.{Entry, stopped, block, standingAfter, heading, blocks, palette, ase}
 use Rattle.ase_read.specs.Table.{row}

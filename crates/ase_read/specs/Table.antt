@@ -3,9 +3,9 @@ use Prim.Native.Nat.{ℕ, _+_, _*_}
 use mathlib.Core.List.{List, [], _∷_, _++_}
 use lib.ListN.{length, getD, drop}
 use lib.Dec.{leb, ltb}
-use Rattle.fields.specs.Numbers.{joined}
-use Rattle.fields.specs.Reader.{Res, ok, refuse, pick}
-use Rattle.fields.specs.Store.{part}
+use Rattle.algebra.specs.Numbers.{joined}
+use Rattle.algebra.specs.Reader.{Res, ok, refuse, pick}
+use Rattle.algebra.specs.Store.{part}
 use Rattle.ase.specs.Reading.{Entry, started, stopped, coloured}
 use Rattle.ase_judge.specs.Answer.{Verdict, accepted, refused, colours}
 

@@ -1,5 +1,5 @@
 -- Which fault is found first, and how long the file is, on plain values. Assumes nothing.
-use Rattle.fields.proofs.Counted.{counted-end, counted-start, counted-turn}
+use Rattle.algebra.proofs.Counted.{counted-end, counted-start, counted-turn}
 use Prim.Native.Nat.{ℕ, zero, suc, _+_, _*_, _-_, _/_, _≤_, _<_}
 use mathlib.Core.Path.{_≡_, refl, sym, ap, _∙_, subst}
 use mathlib.Core.List.{List, [], _∷_}
@@ -11,11 +11,11 @@ use borrow.Author.Tests.{eq-eqb, ne-eqb, le-leb, lt-leb, leb-true, ltb-true, lt-
 use native.Mathlib.Omega.{arith}
 use native.Mathlib.Nat.{lt-of-not-le}
 use native.Mathlib.Decide.{ℕ-discrete, decLe}
-use Rattle.fields.specs.Reader.{Res, pick, done, numberOf, stateAfter}
-use Rattle.fields.specs.Text.{text}
-use Rattle.fields.specs.Faults.{firstOf, faults, faultsFrom, faultsIn}
-use Rattle.fields.proofs.Tells.{first-none, first-zero, first-inv, pick-none}
-use Rattle.fields.proofs.Texts.{text-short}
+use Rattle.algebra.specs.Reader.{Res, pick, done, numberOf, stateAfter}
+use Rattle.algebra.specs.Text.{text}
+use Rattle.algebra.specs.Faults.{firstOf, faults, faultsFrom, faultsIn}
+use Rattle.algebra.proofs.Tells.{first-none, first-zero, first-inv, pick-none}
+use Rattle.algebra.proofs.Texts.{text-short}
 use Rattle.colour.specs.Models.{modelOf, countIn, isModel, channelsOf}
 use Rattle.colour.specs.Channels.{allows, allowsBits, allowsAll}
 use Rattle.colour.specs.declared.model.Known.{Known}
@@ -25,7 +25,7 @@ use Rattle.colour.specs.declared.model.Model.the-variants.{Rgb, Cmyk, Lab, Gray
 use Rattle.ase.specs.Reading.{deepest}
 use Rattle.ase_records.specs.Writing.{Given, givenAt, givens, channelsIn, sizeIn, sizes, nameFault, blockFault, standingIn}
 use Rattle.ase_records.specs.Parts.{noRecord, recordIn, headFault, depthAfter, channelsFault, shadeFault, blocksFault, start, ownFault, RecordFits, RecordsFit}
-use Rattle.fields.proofs.Firsts.{first-found, hit, pass, test-holds, name-number}
+use Rattle.algebra.proofs.Firsts.{first-found, hit, pass, test-holds, name-number}
 
 -- ---- a record of a run
 

@@ -5,15 +5,15 @@ use mathlib.Core.List.{List}
 use lib.Dec.{leb, eqb}
 use borrow.Author.Tests.{le-leb, lt-leb, leb-true}
 use native.Mathlib.Omega.{arith}
-use Rattle.fields.specs.Reader.{pick, stateAfter, limit}
-use Rattle.fields.specs.Faults.{faults, faultsIn}
-use Rattle.fields.specs.Writing.{bytes, refused}
-use Rattle.fields.proofs.Tells.{first-inv}
-use Rattle.fields.proofs.Writing.{needs-no, needs-all, needs-inv}
+use Rattle.algebra.specs.Reader.{pick, stateAfter, limit}
+use Rattle.algebra.specs.Faults.{faults, faultsIn}
+use Rattle.algebra.specs.Writing.{bytes, refused}
+use Rattle.algebra.proofs.Tells.{first-inv}
+use Rattle.algebra.proofs.Writing.{needs-no, needs-all, needs-inv}
 use Rattle.ase_records.specs.Writing.{Given, size, blockFault, standingIn, fault, needed}
 use Rattle.ase_records.specs.Parts.{blocksFault, ownFault}
 use Rattle.ase_records.proofs.Judging.{all-own}
-use Rattle.fields.proofs.Firsts.{test-holds}
+use Rattle.algebra.proofs.Firsts.{test-holds}
 
 -- ---- the length that is needed, or the refusal
 

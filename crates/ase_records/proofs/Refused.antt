@@ -3,11 +3,11 @@ use Prim.Native.Nat.{ℕ, _+_}
 use mathlib.Core.Path.{_≡_, refl}
 use mathlib.Core.List.{List, map, [], _∷_}
 use lib.Dec.{leb, ltb, eqb}
-use Rattle.fields.specs.Reader.{limit, stateAfter}
-use Rattle.fields.specs.Faults.{faultsIn}
-use Rattle.fields.specs.Writing.{refused}
-use Rattle.fields.specs.Refusal.{Of, among}
-use Rattle.fields.proofs.Numbered.{Fault, no-fault, pick-fault, first-fault, from-fault, in-fault, text-fault, needs-refused, writes-refused}
+use Rattle.algebra.specs.Reader.{limit, stateAfter}
+use Rattle.algebra.specs.Faults.{faultsIn}
+use Rattle.algebra.specs.Writing.{refused}
+use Rattle.algebra.specs.Refusal.{Of, among}
+use Rattle.algebra.proofs.Numbered.{Fault, no-fault, pick-fault, first-fault, from-fault, in-fault, text-fault, needs-refused, writes-refused}
 use Rattle.colour.specs.Models.{isModel}
 use Rattle.colour.specs.Channels.{allowsBits}
 use Rattle.ase.specs.Grammar.{fileBytes}

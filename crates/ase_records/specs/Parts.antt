@@ -5,9 +5,9 @@ use mathlib.Core.List.{List, [], _∷_, _++_}
 use lib.Dec.{leb, ltb, eqb}
 use lib.ListN.{length, take}
 use lib.Ieee.{binary32, ofBits}
-use Rattle.fields.specs.Numbers.{be, joined}
-use Rattle.fields.specs.Reader.{pick, stateAfter, limit}
-use Rattle.fields.specs.Faults.{firstOf, faults, faultsFrom, faultsIn}
+use Rattle.algebra.specs.Numbers.{be, joined}
+use Rattle.algebra.specs.Reader.{pick, stateAfter, limit}
+use Rattle.algebra.specs.Faults.{firstOf, faults, faultsFrom, faultsIn}
 use Rattle.colour.specs.Models.{traitsOf, isModel}
 use Rattle.colour.specs.Channels.{allows, allowsBits}
 use Rattle.colour.specs.declared.model.Model.{Model}

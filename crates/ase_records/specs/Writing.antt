@@ -3,11 +3,11 @@ use Prim.Native.Nat.{ℕ, _+_, _*_, _/_}
 use mathlib.Core.List.{List, [], _∷_, map}
 use lib.ListN.{length, getD, take}
 use lib.Dec.{leb, ltb, eqb}
-use Rattle.fields.specs.Numbers.{counted, nums}
-use Rattle.fields.specs.Reader.{pick, numberOf, stateAfter, limit}
-use Rattle.fields.specs.Text.{text}
-use Rattle.fields.specs.Faults.{firstOf, faultsFrom, faultsIn}
-use Rattle.fields.specs.Writing.{Outcome, needs, writes}
+use Rattle.algebra.specs.Numbers.{counted, nums}
+use Rattle.algebra.specs.Reader.{pick, numberOf, stateAfter, limit}
+use Rattle.algebra.specs.Text.{text}
+use Rattle.algebra.specs.Faults.{firstOf, faultsFrom, faultsIn}
+use Rattle.algebra.specs.Writing.{Outcome, needs, writes}
 use Rattle.colour.specs.Models.{isModel, channelsOf}
 use Rattle.colour.specs.Channels.{allowsBits}
 use Rattle.ase.specs.Grammar.{Block, start, stop, colour, other, fileBytes}

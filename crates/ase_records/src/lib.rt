@@ -3,8 +3,8 @@ ghost use mathlib.Core.Path.{_≡_};
 ghost use Prim.Native.Nat.{_+_, _*_, _≤_, _<_};
 ghost use lib.Dec.{leb};
 ghost use lib.ListN.{length};
-ghost use Rattle.fields.specs.Reader.{pick, limit};
-ghost use Rattle.fields.specs.Writing.{bytes, refused};
+ghost use Rattle.algebra.specs.Reader.{pick, limit};
+ghost use Rattle.algebra.specs.Writing.{bytes, refused};
 ghost use Rattle.colour.specs.Models.{channelsOf};
 ghost use Rattle.ase.specs.Reading.{deepest};
 ghost use Rattle.ase_records.specs.Writing.{givenAt, givens, given, sizeIn, size, nameFault, blockFault, needed};
@@ -135,7 +135,7 @@ fn name_fault(text: &[u8], given: Record) -> u32
     if 65534 < given.units {
         return 5;
     }
-    match fields::text_at(text, fields::wide(given.first), given.units) {
+    match names::text_at(text, fields::wide(given.first), given.units) {
         Step::Next(_) => 0,
         Step::Refused(x, _) => x,
     }

@@ -6,14 +6,14 @@ use mathlib.Core.Bool.{Bool}
 use lib.Dec.{leb}
 use lib.ListN.{length, drop}
 use borrow.Author.Tests.{le-leb}
-use Rattle.fields.specs.Numbers.{Bytes}
-use Rattle.fields.specs.Reader.{ok, pick, limit}
-use Rattle.fields.specs.Writing.{bytes, refused, needs, writes}
+use Rattle.algebra.specs.Numbers.{Bytes}
+use Rattle.algebra.specs.Reader.{ok, pick, limit}
+use Rattle.algebra.specs.Writing.{bytes, refused, needs, writes}
 use Rattle.ase.specs.Grammar.{Block, fileBytes, File, file}
 use Rattle.ase.specs.Reading.{Entry, blockOf, ase}
 use Rattle.ase.specs.Faults.{paletteFault}
 use Rattle.ase.proofs.RoundTrip.{accepted-allowed, allowed-written}
-use Rattle.fields.proofs.Writing.{Wrote, writes-inv}
+use Rattle.algebra.proofs.Writing.{Wrote, writes-inv}
 use Rattle.ase_records.specs.Writing.{Given, size, fault, needed, written}
 use Rattle.ase_roundtrip.specs.Tie.{made, tabled}
 use Rattle.ase_roundtrip.proofs.Fitting.{length-made, fault-same}

@@ -10,15 +10,15 @@ use borrow.Author.Tests.{leb-true, le-leb, eqb-true}
 use native.Mathlib.Omega.{arith}
 use native.Mathlib.Nat.{lt-of-not-le}
 use native.Mathlib.Decide.{ℕ-discrete, decLe}
-use Rattle.fields.specs.Numbers.{counted, be, joined, Bytes, nums, All}
-use Rattle.fields.specs.Reader.{Res, ok, refuse, pick, numberOf, done, stateAfter, limit}
-use Rattle.fields.specs.Text.{anyZero, text, nameBytes}
-use Rattle.fields.specs.Faults.{firstOf, faultsFrom, faultsIn}
-use Rattle.fields.proofs.Places.{length-be, length-bes, length-nums, nums-lt}
-use Rattle.fields.proofs.Exact.{all-map, length-nameBytes}
-use Rattle.fields.proofs.Tells.{first-inv, pick-none}
-use Rattle.fields.proofs.Texts.{text-short, text-zero, text-fine}
-use Rattle.fields.proofs.Chain.{in-map, in-both, all-in, in-all, in-inv, state-map}
+use Rattle.algebra.specs.Numbers.{counted, be, joined, Bytes, nums, All}
+use Rattle.algebra.specs.Reader.{Res, ok, refuse, pick, numberOf, done, stateAfter, limit}
+use Rattle.algebra.specs.Text.{anyZero, text, nameBytes}
+use Rattle.algebra.specs.Faults.{firstOf, faultsFrom, faultsIn}
+use Rattle.algebra.proofs.Places.{length-be, length-bes, length-nums, nums-lt}
+use Rattle.algebra.proofs.Exact.{all-map, length-nameBytes}
+use Rattle.algebra.proofs.Tells.{first-inv, pick-none}
+use Rattle.algebra.proofs.Texts.{text-short, text-zero, text-fine}
+use Rattle.algebra.proofs.Chain.{in-map, in-both, all-in, in-all, in-inv, state-map}
 use Rattle.colour.specs.Models.{isModel, channelsOf}
 use Rattle.colour.specs.Channels.{allowsBits}
 use Rattle.ase.specs.Grammar.{Block, start, stop, colour, other, payload, blockBytes, Unknown}
@@ -30,7 +30,7 @@ use Rattle.ase.proofs.Laws.{length-block}
 use Rattle.ase.proofs.Blocks.{length-file}
 use Rattle.ase_records.specs.Writing.{Given, givens, unitsIn, channelsIn, blockIn, sizeIn, sizes, size, nameFault, colourFault, blockFault, standingIn, fault}
 use Rattle.ase_roundtrip.specs.Tie.{Words, made, NameFitting, ColourFitting, Fitting, a-start, an-end, a-colour, another}
-use Rattle.fields.proofs.Firsts.{test-holds, all-image}
+use Rattle.algebra.proofs.Firsts.{test-holds, all-image}
 use Rattle.ase_records.proofs.Judging.{channels-few}
 
 -- ---- values of a list

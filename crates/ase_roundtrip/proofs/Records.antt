@@ -8,15 +8,15 @@ use lib.ListN.{length, getD, take}
 use lib.Seq.{getD-append-add, length-take-le, getD-take}
 use native.Mathlib.Omega.{arith}
 use native.Mathlib.Nat.{add-zero}
-use Rattle.fields.specs.Numbers.{counted, nums, joined, Bytes, All}
-use Rattle.fields.specs.Reader.{ok, pick, rule, unless, judged, each, chain, stateAfter, limit}
-use Rattle.fields.specs.Text.{Name, name, front}
-use Rattle.fields.proofs.Places.{length-nums, nums-cong}
-use Rattle.fields.proofs.Inverse.{then-inv, rule-inv, pick-inv, ok-value, Name-read, name-inv, front-nums, ended-inv}
-use Rattle.fields.proofs.Exact.{all-map, all-both}
-use Rattle.fields.proofs.Chain.{chain-none, chain-inv}
+use Rattle.algebra.specs.Numbers.{counted, nums, joined, Bytes, All}
+use Rattle.algebra.specs.Reader.{ok, pick, rule, unless, judged, each, chain, stateAfter, limit}
+use Rattle.algebra.specs.Text.{Name, name, front}
+use Rattle.algebra.proofs.Places.{length-nums, nums-cong}
+use Rattle.algebra.proofs.Inverse.{then-inv, rule-inv, pick-inv, ok-value, Name-read, name-inv, front-nums, ended-inv}
+use Rattle.algebra.proofs.Exact.{all-map, all-both}
+use Rattle.algebra.proofs.Chain.{chain-none, chain-inv}
 use Rattle.colour.specs.Models.{channelsOf}
-use Rattle.fields.proofs.Rows.{rows-back, length-rows, all-fit}
+use Rattle.algebra.proofs.Rows.{rows-back, length-rows, all-fit}
 use Rattle.ase.specs.Grammar.{Block, start, colour, Allowed, File, file}
 use Rattle.ase.specs.Reading.{Entry, started, stopped, coloured, blockOf, group, model, channel, type, shade, within, deepest, content, block, standingAfter, heading, blocks, palette, ase}
 use Rattle.ase.specs.Faults.{BlockFits}
@@ -27,7 +27,7 @@ use Rattle.ase.proofs.RoundTrip.{accepted-allowed}
 use Rattle.ase_read.specs.Table.{fourOf, row}
 use Rattle.ase_records.specs.Writing.{givenAt, givens, given, blockIn}
 use Rattle.ase_roundtrip.specs.Tie.{taken, tabled, Fitting, a-start, an-end, a-colour}
-use Rattle.fields.proofs.Firsts.{all-image, all-source}
+use Rattle.algebra.proofs.Firsts.{all-image, all-source}
 use Rattle.ase_read.proofs.Answers.{row-length}
 use Rattle.ase_records.proofs.Judging.{channels-few}
 

@@ -7,9 +7,9 @@ use lib.ListN.{length, take, drop, length-append, length-drop}
 use lib.Seq.{take-at, drop-at}
 use borrow.Author.Tests.{leb-true}
 use native.Mathlib.Omega.{arith}
-use Rattle.fields.specs.Numbers.{joined, Bytes, All}
-use Rattle.fields.specs.Reader.{ok, numberOf, limit}
-use Rattle.fields.specs.Writing.{bytes}
+use Rattle.algebra.specs.Numbers.{joined, Bytes, All}
+use Rattle.algebra.specs.Reader.{ok, numberOf, limit}
+use Rattle.algebra.specs.Writing.{bytes}
 use Rattle.ase.specs.Grammar.{Block, fileBytes}
 use Rattle.ase.specs.Reading.{Entry, ase}
 use Rattle.ase.specs.Faults.{paletteFault}
@@ -21,7 +21,7 @@ use Rattle.ase_roundtrip.proofs.Fitting.{length-made, all-fit, fault-sa
 use Rattle.ase_roundtrip.proofs.Records.{given-rows}
 use Rattle.ase_roundtrip.proofs.Back.{written-inv, needs-all, writes-all}
 use Rattle.ase_roundtrip.proofs.Spare.{block-alike, fault-alike, size-alike, needed-alike, written-alike}
-use Rattle.fields.proofs.Firsts.{test-holds}
+use Rattle.algebra.proofs.Firsts.{test-holds}
 
 -- ---- what is written reads back
 

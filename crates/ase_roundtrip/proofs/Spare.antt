@@ -3,11 +3,11 @@ use Prim.Native.Nat.{ℕ, _+_, _*_}
 use mathlib.Core.Path.{_≡_, refl, ap, ap₂, _∙_}
 use mathlib.Core.List.{List, [], _∷_, map}
 use lib.Dec.{leb, ltb, eqb}
-use Rattle.fields.specs.Numbers.{nums}
-use Rattle.fields.specs.Reader.{pick, numberOf, stateAfter, limit}
-use Rattle.fields.specs.Text.{text}
-use Rattle.fields.specs.Faults.{firstOf, faultsFrom, faultsIn}
-use Rattle.fields.specs.Writing.{needs, writes}
+use Rattle.algebra.specs.Numbers.{nums}
+use Rattle.algebra.specs.Reader.{pick, numberOf, stateAfter, limit}
+use Rattle.algebra.specs.Text.{text}
+use Rattle.algebra.specs.Faults.{firstOf, faultsFrom, faultsIn}
+use Rattle.algebra.specs.Writing.{needs, writes}
 use Rattle.colour.specs.Models.{isModel, channelsOf}
 use Rattle.colour.specs.Channels.{allowsBits}
 use Rattle.ase.specs.Grammar.{Block, start, stop, colour, other, fileBytes}

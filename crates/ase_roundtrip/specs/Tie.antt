@@ -3,8 +3,8 @@ use Prim.Native.Nat.{ℕ, _+_, _*_, _^_, _≤_, _<_}
 use mathlib.Core.Path.{_≡_}
 use mathlib.Core.List.{List, [], _∷_, map}
 use lib.ListN.{length, getD}
-use Rattle.fields.specs.Numbers.{All}
-use Rattle.fields.specs.Reader.{ok}
+use Rattle.algebra.specs.Numbers.{All}
+use Rattle.algebra.specs.Reader.{ok}
 use Rattle.ase.specs.Grammar.{Block, fileBytes, Unknown}
 use Rattle.ase.specs.Reading.{Entry, started, stopped, coloured, blockOf, ase}
 use Rattle.ase_read.specs.Table.{fourOf}

@@ -6,9 +6,9 @@ use mathlib.Core.Bool.{Bool, true, false}
 use lib.Dec.{leb, ltb, eqb}
 use lib.ListN.{length}
 use native.Mathlib.Omega.{arith}
-use Rattle.fields.specs.Numbers.{num}
-use Rattle.fields.specs.Reader.{Res, ok, pick, rule, unless, chain, stateAfter, limit}
-use Rattle.fields.proofs.Inverse.{then-inv, rule-inv, pick-inv, ended-inv}
+use Rattle.algebra.specs.Numbers.{num}
+use Rattle.algebra.specs.Reader.{Res, ok, pick, rule, unless, chain, stateAfter, limit}
+use Rattle.algebra.proofs.Inverse.{then-inv, rule-inv, pick-inv, ended-inv}
 use Rattle.ase.proofs.Whole.{heading-inv}
 use Rattle.ase.specs.Reading.{Entry, stopped, group, shade, within, deepest, content, block, standingAfter, heading, blocks, palette, ase}
 use Rattle.ase.proofs.Laws.{block-in, block-inv}

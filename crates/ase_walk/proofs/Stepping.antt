@@ -7,7 +7,7 @@ use lib.ListN.{length, take}
 use lib.Seq.{length-take-le}
 use borrow.Author.Tests.{le-leb, lt-leb}
 use native.Mathlib.Omega.{arith}
-use Rattle.fields.specs.Reader.{Res, ok, refuse, pick, mapRes}
+use Rattle.algebra.specs.Reader.{Res, ok, refuse, pick, mapRes}
 use Rattle.ase.specs.Reading.{Entry, started, stopped, coloured}
 use Rattle.ase_judge.specs.Answer.{accepted, refused, verdict, passed}
 use Rattle.ase_judge.proofs.Judging.{map-inv, map-refuse}

@@ -9,10 +9,10 @@ use denote.Ref.{now}
 use lib.Seq.{length-take-le}
 use borrow.Author.Tests.{le-leb}
 use native.Mathlib.Omega.{arith}
-use Rattle.fields.specs.Reader.{Res, ok, refuse, pick}
-use Rattle.fields.specs.Store.{part}
-use Rattle.fields.specs.Text.{Name}
-use Rattle.fields.proofs.Exact.{map-id}
+use Rattle.algebra.specs.Reader.{Res, ok, refuse, pick}
+use Rattle.algebra.specs.Store.{part}
+use Rattle.algebra.specs.Text.{Name}
+use Rattle.algebra.proofs.Exact.{map-id}
 use Rattle.ase.specs.Reading.{Entry, started, stopped, coloured, block, standingAfter, ase}
 use Rattle.ase_judge.specs.Answer.{colours}
 use Rattle.ase_read.specs.Raw.{entriesOf}

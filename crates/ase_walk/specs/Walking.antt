@@ -6,7 +6,7 @@ use mathlib.Core.Bool.{Bool, true, false}
 use lib.Dec.{leb}
 use lib.ListN.{length}
 use denote.Ref.{now}
-use Rattle.fields.specs.Reader.{Res, ok, refuse, Reader, pick}
+use Rattle.algebra.specs.Reader.{Res, ok, refuse, Reader, pick}
 use Rattle.ase.specs.Reading.{Entry, started, stopped, coloured, block}
 use Rattle.walk.specs.Walk.{Call, Step, step, seek}
 use Rattle.ase_walk.specs.declared.Walker.{Walker}

@@ -6,7 +6,7 @@ ghost use mathlib.Core.List.{_∷_, []};
 ghost use Prim.Native.Nat.{_+_, _-_, _^_, _≤_, _<_};
 ghost use lib.Dec.{eqb};
 ghost use lib.ListN.{length};
-ghost use Rattle.fields.specs.Reader.{pick, refuse};
+ghost use Rattle.algebra.specs.Reader.{pick, refuse};
 ghost use Rattle.ase.specs.Reading.{ase};
 ghost use Rattle.ase_read.specs.Answer.{colour, IsColour};
 ghost use Rattle.walk.specs.Walk.{gives, answered};

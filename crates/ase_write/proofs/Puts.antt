@@ -1,5 +1,5 @@
 -- Stores one after the other, on plain values. Assumes nothing.
-use Rattle.fields.proofs.Counted.{counted-end, counted-start, counted-turn, length-counted}
+use Rattle.algebra.proofs.Counted.{counted-end, counted-start, counted-turn, length-counted}
 use Prim.Native.Nat.{ℕ, zero, suc, _+_, _*_, _-_, _≤_, _<_}
 use mathlib.Core.Path.{_≡_, refl, sym, ap, ap₂, _∙_}
 use mathlib.Core.List.{List, [], _∷_, _++_, map}
@@ -9,13 +9,13 @@ use lib.Seq.{sets, sets-eq}
 use borrow.Author.Tests.{ne-eqb}
 use native.Mathlib.Omega.{arith}
 use native.Mathlib.Decide.{ℕ-discrete}
-use Rattle.fields.specs.Numbers.{counted, be, nums, joined, Bytes}
-use Rattle.fields.specs.Store.{stored, part}
-use Rattle.fields.specs.Text.{nameBytes, countedUnits}
-use Rattle.fields.specs.Faults.{faults}
-use Rattle.fields.proofs.Places.{length-be, length-bes, length-nums, part-nums}
-use Rattle.fields.proofs.Exact.{length-map, length-nameBytes}
-use Rattle.fields.proofs.Tells.{first-inv}
+use Rattle.algebra.specs.Numbers.{counted, be, nums, joined, Bytes}
+use Rattle.algebra.specs.Store.{stored, part}
+use Rattle.algebra.specs.Text.{nameBytes, countedUnits}
+use Rattle.algebra.specs.Faults.{faults}
+use Rattle.algebra.proofs.Places.{length-be, length-bes, length-nums, part-nums}
+use Rattle.algebra.proofs.Exact.{length-map, length-nameBytes}
+use Rattle.algebra.proofs.Tells.{first-inv}
 use Rattle.colour.specs.Models.{modelOf, isKnown, countIn, isModel, channelsOf}
 use Rattle.colour.specs.declared.model.Known.{Known}
 use Rattle.colour.specs.declared.model.Known.the-variants.{Is, Unknown}
@@ -25,7 +25,7 @@ use Rattle.ase_records.specs.Writing.{Given, givenAt, givens, unitsIn, channels
 use Rattle.ase_records.specs.Parts.{shadeBytes, ownFault}
 use Rattle.ase_records.specs.Parts as parts
 use Rattle.ase_records.proofs.Judging.{Sort, is-start, is-stop, is-colour, head-fine, block-head, channels-few, size-start, size-stop, size-colour, name-inside}
-use Rattle.fields.proofs.Storing.{as-sets, peel, peel-be, length-kept}
+use Rattle.algebra.proofs.Storing.{as-sets, peel, peel-be, length-kept}
 
 -- ---- one store
 

@@ -8,8 +8,8 @@ use lib.Ieee.{Float, nan, inf, fin, binary32, ofBits, toBits, isNan, eq, ne}
 use lib.Ieee.Compare.{differs-from-itself}
 use lib.Ieee.Bits.{nanBits-is, toBits-ofBits}
 use lib.Ieee.Scale.{finite}
-use Rattle.fields.specs.Reader.{pick}
-use Rattle.fields.proofs.Floats.{no-nan}
+use Rattle.algebra.specs.Reader.{pick}
+use Rattle.algebra.proofs.Floats.{no-nan}
 use Rattle.colour.specs.Channels.{inUnit, allows, channel, ofAll, allowsAll, colourOf, made, bitsOf, used, modelIn}
 use Rattle.colour.specs.declared.model.Model.{Model}
 use Rattle.colour.specs.declared.model.Model.the-variants as model

@@ -9,8 +9,8 @@ use lib.Dec.{eqb}
 use lib.Ieee.{binary32, ofBits}
 use lib.Ieee.Scale.{finite}
 use borrow.Author.Tests.{lt-ltb, le-leb, ltb-true, leb-true, eqb-true}
-use Rattle.fields.specs.Reader.{pick}
-use Rattle.fields.proofs.Floats.{finite-bits}
+use Rattle.algebra.specs.Reader.{pick}
+use Rattle.algebra.proofs.Floats.{finite-bits}
 use Rattle.colour.specs.declared.model.Model.{Model}
 use Rattle.colour.specs.declared.model.Model.the-variants.{Rgb, Cmyk, Lab, Gray}
 use Rattle.colour.specs.declared.model.Known.{Known}

@@ -11,7 +11,7 @@ use lib.Ieee.Exact.{HasValue}
 use lib.Ieee.Positive.{num, den}
 use Rattle.colour.specs.Channels.{nearestUp, sampleOf}
 use Rattle.colour.proofs.Return.{nearestUp-same, sample-of-value}
-use Rattle.fields.proofs.Floats.{lead, value, bits-value}
+use Rattle.algebra.proofs.Floats.{lead, value, bits-value}
 
 -- size, exponent and digits of the bits b, as the function names them
 abbrev pub U : ℕ → ℕ

@@ -9,7 +9,7 @@ use native.Mathlib.Decide.{ℕ-discrete, decLe}
 use native.Mathlib.Nat.{lt-of-not-le}
 use lib.Ieee.{Float, binary32, ofBits}
 use lib.Ieee.Scale.{finite}
-use Rattle.fields.proofs.Floats.{finite-bits}
+use Rattle.algebra.proofs.Floats.{finite-bits}
 use Rattle.colour.specs.declared.model.Model.the-variants as model
 use Rattle.colour.specs.Models.{modelOf}
 use Rattle.colour.specs.Spaces.{uses, known}

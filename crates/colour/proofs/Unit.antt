@@ -17,7 +17,7 @@ use lib.Ieee.Exact.{HasValue}
 use lib.Ieee.Positive.{num, den, den-pos}
 use lib.Ieee.Scale.{finite}
 use Rattle.colour.specs.Channels.{inUnit}
-use Rattle.fields.proofs.Floats.{lead, value, bits-value, finite-bits}
+use Rattle.algebra.proofs.Floats.{lead, value, bits-value, finite-bits}
 use Rattle.colour.proofs.Nearest.{U, E, cross, lead-lt, digit-lt, below-ones}
 
 or-split : (a b : Bool) → T (a || b) → T a ⊎ T b

@@ -6,7 +6,7 @@ use lib.IntN.{pos}
 use lib.Ieee.{Float, fin, binary32, div, ofInt, le, ofBits, toBits}
 use lib.Ieee.Positive.{num, den}
 use lib.Ieee.Scale.{finite}
-use Rattle.fields.specs.Reader.{pick}
+use Rattle.algebra.specs.Reader.{pick}
 use Rattle.colour.specs.Models.{modelOf}
 use Rattle.colour.specs.declared.model.Known.{Known}
 use Rattle.colour.specs.declared.model.Known.the-variants.{Is, Unknown}

@@ -3,7 +3,7 @@ use Prim.Native.Nat.{ℕ, _-_}
 use mathlib.Core.Bool.{Bool}
 use lib.Dec.{eqb}
 use lib.Ieee.{Float, binary32, ofBits, toBits}
-use Rattle.fields.specs.Reader.{pick}
+use Rattle.algebra.specs.Reader.{pick}
 use Rattle.colour.specs.Models.{traitsOf, modelOf}
 use Rattle.colour.specs.Spaces.{rgb, cmyk, gray, full, known}
 use Rattle.colour.specs.Channels.{allows, channelOf, sampleOf}

@@ -3,7 +3,7 @@ ghost use mathlib.Core.Path.{_≡_};
 ghost use Prim.Native.Nat.{_%_, _≤_};
 ghost use lib.Ieee.{binary32, ofBits, toBits};
 ghost use lib.Ieee.Scale.{finite};
-ghost use Rattle.fields.specs.Reader.{pick};
+ghost use Rattle.algebra.specs.Reader.{pick};
 ghost use Rattle.colour.specs.Models.{modelOf};
 ghost use Rattle.colour.specs.Channels.{inUnit, channelOf, sampleOf, made, madeIn, bitsOf, modelIn};
 use crate::model::Known;

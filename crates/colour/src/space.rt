@@ -3,7 +3,7 @@ ghost use mathlib.Core.Path.{_≡_};
 ghost use mathlib.Core.Bool.{true};
 ghost use mathlib.Core.List.{_∷_, []};
 ghost use lib.Dec.{ltb, eqb};
-ghost use Rattle.fields.specs.Reader.{pick};
+ghost use Rattle.algebra.specs.Reader.{pick};
 ghost use Rattle.colour.specs.Spaces.{uses, full, known, allowed, sound};
 use crate::model::Model;
 

@@ -7,8 +7,8 @@ use lib.Dec.{eqb}
 use lib.ListN.{length}
 use borrow.Author.Tests.{eqb-false}
 use native.Mathlib.Omega.{arith}
-use Rattle.fields.specs.Reader.{Res, ok, refuse, Reader, then, pick, field, body, rule, Judged, fine, fault, judged, each, done}
-use Rattle.fields.proofs.Inverse.{field-inv, body-inv, judged-inv, clash, ok-value, ok-place, each-none, each-inv}
+use Rattle.algebra.specs.Reader.{Res, ok, refuse, Reader, then, pick, field, body, rule, Judged, fine, fault, judged, each, done}
+use Rattle.algebra.proofs.Inverse.{field-inv, body-inv, judged-inv, clash, ok-value, ok-place, each-none, each-inv}
 use Rattle.descriptor.specs.Reading.{is, unknown, beside, skip, id, shut, closing, unicode, class, boolean, flag, bits, double, enumerated, run, unit, arrayUnit, unitDouble, Sort, leaf, list, object, reference, array, types, sortOf, forms, formOf, refValue, doubles, column}
 
 -- what an answer that accepts says

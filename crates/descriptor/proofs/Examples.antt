@@ -2,8 +2,8 @@
 use Prim.Native.Nat.{ℕ}
 use mathlib.Core.Path.{_≡_, refl}
 use mathlib.Core.List.{[], _∷_}
-use Rattle.fields.specs.Numbers.{num, nums}
-use Rattle.fields.specs.Reader.{ok, field, body, ended}
+use Rattle.algebra.specs.Numbers.{num, nums}
+use Rattle.algebra.specs.Reader.{ok, field, body, ended}
 use Rattle.descriptor.specs.Reading.{Row, descriptor, whole, root, objectOf, children, siblings, keyed, item, sortOf, class, unicode, shut, id, flag}
 
 abbrev row : ℕ → ℕ → ℕ → ℕ → ℕ → ℕ → Row

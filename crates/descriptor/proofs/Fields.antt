@@ -8,9 +8,9 @@ use lib.ListN.{length}
 use borrow.Author.Tests.{eq-eqb, ne-eqb}
 use native.Mathlib.Omega.{arith}
 use native.Mathlib.Nat.{add-zero}
-use Rattle.fields.specs.Numbers.{num, nums}
-use Rattle.fields.specs.Reader.{Res, ok, refuse, field, body, then, pick, rule, unless, judged, done, orZero}
-use Rattle.fields.proofs.Laws.{field-in, body-in, body-short, judged-short, judged-bad, judged-ok}
+use Rattle.algebra.specs.Numbers.{num, nums}
+use Rattle.algebra.specs.Reader.{Res, ok, refuse, field, body, then, pick, rule, unless, judged, done, orZero}
+use Rattle.algebra.proofs.Laws.{field-in, body-in, body-short, judged-short, judged-bad, judged-ok}
 use Rattle.descriptor.specs.Reading.{skip, shut, closing, unicode, boolean, flag, bits, double}
 
 -- ---- a step and then another

@@ -7,9 +7,9 @@ use mathlib.Core.Logic.{inl, inr, ⊎-elim}
 use lib.Dec.{T, leb, eqb}
 use borrow.Author.Tests.{eq-eqb, eqb-true, ne-eqb}
 use types.Run.{OneOf}
-use Rattle.fields.specs.Reader.{pick}
-use Rattle.fields.specs.Refusal.{oneOf}
-use Rattle.fields.proofs.Placed.{allOf, all-one}
+use Rattle.algebra.specs.Reader.{pick}
+use Rattle.algebra.specs.Refusal.{oneOf}
+use Rattle.algebra.proofs.Placed.{allOf, all-one}
 use Rattle.descriptor.specs.Reading.{unknown, beside}
 
 -- `g` has the value v at each of the keys

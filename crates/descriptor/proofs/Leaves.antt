@@ -7,8 +7,8 @@ use lib.Dec.{eqb}
 use lib.ListN.{length}
 use borrow.Author.Tests.{eqb-true}
 use native.Mathlib.Omega.{arith}
-use Rattle.fields.specs.Reader.{Res, ok, refuse, Reader, then, pick, field, judged}
-use Rattle.fields.proofs.Inverse.{then-inv, judged-inv, unless-fine}
+use Rattle.algebra.specs.Reader.{Res, ok, refuse, Reader, then, pick, field, judged}
+use Rattle.algebra.proofs.Inverse.{then-inv, judged-inv, unless-fine}
 use Rattle.descriptor.specs.Reading.{Known, is, unknown, known, beside, Sort, leaf, list, object, reference, array, sortOf, forms, formOf, id, class, Row, headed, plain, siblings, children, refValue, refItem, column, columnType, arrayPair, arrayOf, keyed, listOf, objectOf, valueOf, item, version, root, descriptor}
 use Rattle.descriptor.specs.Leaves.{Leafed}
 use Rattle.descriptor.proofs.Ends.{Accepts, yes, no, accepted, accepts, accepts-then}

@@ -7,9 +7,9 @@ use lib.Dec.{leb, eqb}
 use lib.Ieee.{binary64, ofBits}
 use lib.Ieee.Scale.{finite}
 use native.Mathlib.Omega.{arith}
-use Rattle.fields.specs.Reader.{Res, Reader, refuse, pick, field, body, judged, each}
-use Rattle.fields.specs.Refusal.{Of, among, Placed, ends, fails, Places}
-use Rattle.fields.proofs.Placed.{unless-numbered, refusal-placed, placed-then, placed-rule, placed-done, field-placed, body-placed, judged-placed, ended-placed, each-placed, limited-placed}
+use Rattle.algebra.specs.Reader.{Res, Reader, refuse, pick, field, body, judged, each}
+use Rattle.algebra.specs.Refusal.{Of, among, Placed, ends, fails, Places}
+use Rattle.algebra.proofs.Placed.{unless-numbered, refusal-placed, placed-then, placed-rule, placed-done, field-placed, body-placed, judged-placed, ended-placed, each-placed, limited-placed}
 use Rattle.descriptor.specs.Reading.{Known, is, unknown, known, skip, id, shut, closing, unicode, class, boolean, flag, bits, double, enumerated, run, isUnit, isArrayUnit, unit, arrayUnit, unitDouble, Sort, leaf, list, object, reference, array, types, sortOf, forms, formOf, Row, headed, plain, siblings, children, refValue, refItem, doubles, column, columnType, arrayPair, arrayOf, keyed, objectOf, valueOf, item, version, root, whole, descriptor}
 use Rattle.descriptor.specs.Refusals.{refusals}
 use Rattle.descriptor.proofs.Ends.{of-table as in-table}

@@ -7,11 +7,11 @@ use lib.ListN.{length}
 use lib.Ieee.{binary64}
 use borrow.Author.Tests.{lt-leb, le-ltb, ne-eqb}
 use native.Mathlib.Omega.{arith}
-use Rattle.fields.specs.Numbers.{num, nums, be, At}
-use Rattle.fields.specs.Reader.{Reader, ok, refuse, field, Judged, fault, unless, judged}
-use Rattle.fields.proofs.Laws.{field-in, body-in, judged-bad, judged-ok}
-use Rattle.fields.proofs.Places.{length-be, at-in, num-be}
-use Rattle.fields.proofs.Floats.{finite-bits}
+use Rattle.algebra.specs.Numbers.{num, nums, be, At}
+use Rattle.algebra.specs.Reader.{Reader, ok, refuse, field, Judged, fault, unless, judged}
+use Rattle.algebra.proofs.Laws.{field-in, body-in, judged-bad, judged-ok}
+use Rattle.algebra.proofs.Places.{length-be, at-in, num-be}
+use Rattle.algebra.proofs.Floats.{finite-bits}
 use Rattle.descriptor.specs.Reading.{unknown, id, shut, unicode, boolean, flag, bits, double, isUnit, isArrayUnit, unit, arrayUnit, unitDouble, sortOf, formOf, Row, refItem, doubles, column, columnType, arrayPair, keyed, item, version, root}
 use Rattle.descriptor.proofs.Fields.{shut-nums}
 

@@ -6,8 +6,8 @@ use lib.Dec.{leb}
 use lib.ListN.{length}
 use borrow.Author.Tests.{leb-true}
 use native.Mathlib.Omega.{arith}
-use Rattle.fields.specs.Reader.{ok, limit}
-use Rattle.fields.proofs.Inverse.{then-inv, pick-inv, ended-inv}
+use Rattle.algebra.specs.Reader.{ok, limit}
+use Rattle.algebra.proofs.Inverse.{then-inv, pick-inv, ended-inv}
 use Rattle.descriptor.specs.Reading.{Row, root, whole, descriptor}
 use Rattle.descriptor.specs.Tiles.{Tiled, Laid}
 use Rattle.descriptor.proofs.Ends.{accepted}

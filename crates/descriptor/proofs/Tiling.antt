@@ -4,7 +4,7 @@ use mathlib.Core.Path.{_≡_, refl, sym, subst}
 use mathlib.Core.List.{List, [], _∷_, _++_, append-nil, append-assoc}
 use lib.ListN.{length, length-append}
 use native.Mathlib.Omega.{arith}
-use Rattle.fields.specs.Reader.{Res, Reader, field, judged}
+use Rattle.algebra.specs.Reader.{Res, Reader, field, judged}
 use Rattle.descriptor.specs.Reading.{Known, is, unknown, known, Sort, leaf, list, object, reference, array, sortOf, formOf, id, class, Row, headed, plain, siblings, children, refValue, refItem, referenceOf, column, columnType, arrayPair, arrayOf, keyed, listOf, objectOf, valueOf, item, version, root}
 use Rattle.descriptor.specs.Tiles.{Tiled, none, one, heads, sum, Fives, Ascending}
 use Rattle.descriptor.proofs.Ends.{Accepts, yes, no, accepts-then, weaker, Past, field-past, judged-past, id-past, class-past, column-past, leaf-takes, form-takes, ref-past}

@@ -1,7 +1,7 @@
 -- What each answer of the code says, and parts of the reading that the code goes by.
 use Prim.Native.Nat.{ℕ}
 use mathlib.Core.List.{List}
-use Rattle.fields.specs.Reader.{Res, ok, refuse, Reader, judged, _>>=_, each}
+use Rattle.algebra.specs.Reader.{Res, ok, refuse, Reader, judged, _>>=_, each}
 use Rattle.descriptor.specs.Reading.{Known, is, unknown, Sort, leaf, list, object, reference, array, passing, skip, id, unicode, enumerated, double, doubles}
 use Rattle.descriptor.specs.declared.Value.{Value}
 use Rattle.descriptor.specs.declared.Value.the-variants as vv

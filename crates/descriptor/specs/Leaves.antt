@@ -2,7 +2,7 @@
 use Prim.Native.Nat.{ℕ}
 use mathlib.Core.Path.{_≡_}
 use mathlib.Core.List.{List}
-use Rattle.fields.specs.Reader.{ok, Reader}
+use Rattle.algebra.specs.Reader.{ok, Reader}
 use Rattle.descriptor.specs.Reading.{is, leaf, sortOf}
 
 -- the value at v of a row of kind t: where the kind is a type with no member, its fields stand there

@@ -6,8 +6,8 @@ use lib.Dec.{leb, eqb}
 use lib.ListN.{length}
 use lib.Ieee.{binary64, ofBits}
 use lib.Ieee.Scale.{finite}
-use Rattle.fields.specs.Reader.{Res, ok, refuse, Reader, then, pick, field, body, rule, Judged, unless, judged, give, _>>=_, each, ended, done, limit}
-use Rattle.fields.specs.Refusal.{oneOf}
+use Rattle.algebra.specs.Reader.{Res, ok, refuse, Reader, then, pick, field, body, rule, Judged, unless, judged, give, _>>=_, each, ended, done, limit}
+use Rattle.algebra.specs.Refusal.{oneOf}
 
 -- ---- tables by a tag
 

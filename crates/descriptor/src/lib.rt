@@ -4,11 +4,11 @@
 ghost use mathlib.Core.Path.{_≡_};
 ghost use Prim.Native.Nat.{_+_, _*_, _<_};
 ghost use lib.ListN.{length};
-ghost use Rattle.fields.specs.Numbers.{num};
+ghost use Rattle.algebra.specs.Numbers.{num};
 ghost use Rattle.fields.specs.Answer.{toldStep};
 ghost use lib.Ieee.{binary64, ofBits};
 ghost use lib.Ieee.Scale.{finite};
-ghost use Rattle.fields.specs.Reader.{done, each};
+ghost use Rattle.algebra.specs.Reader.{done, each};
 ghost use Rattle.descriptor.specs.Reading.{id, unicode, class, flag, double, enumerated, run, isUnit, isArrayUnit, unitDouble, sortOf, formOf, refValue, column};
 ghost use Rattle.descriptor.specs.Answer.{endOf, begun, known, readerOf, counted};
 use fields::Number8;

@@ -9,9 +9,9 @@ use lib.Dec.{leb}
 use borrow.Author.Tests.{eq-eqb, ne-eqb, le-leb}
 use native.Mathlib.Omega.{arith}
 use native.Mathlib.Numerals.{add-one}
-use Rattle.fields.specs.Numbers.{joined}
-use Rattle.fields.specs.Reader.{Res, ok, refuse, pick}
-use Rattle.fields.proofs.Places.{length-joined}
+use Rattle.algebra.specs.Numbers.{joined}
+use Rattle.algebra.specs.Reader.{Res, ok, refuse, pick}
+use Rattle.algebra.proofs.Places.{length-joined}
 use Rattle.descriptor.specs.Reading.{Row, descriptor}
 use Rattle.descriptor.proofs.Tiling.{five-each}
 use Rattle.descriptor.proofs.Rows.{rows-laid}

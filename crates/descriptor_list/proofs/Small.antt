@@ -2,8 +2,8 @@
 use Prim.Native.Nat.{ℕ}
 use mathlib.Core.Path.{_≡_, refl}
 use mathlib.Core.List.{List, [], _∷_}
-use Rattle.fields.specs.Numbers.{num, nums, be, joined}
-use Rattle.fields.specs.Reader.{field, body, each, ended}
+use Rattle.algebra.specs.Numbers.{num, nums, be, joined}
+use Rattle.algebra.specs.Reader.{field, body, each, ended}
 use Rattle.descriptor.specs.Reading as d
 use Rattle.descriptor.specs.Reading.{descriptor}
 use Rattle.listing.specs.Text.{ascii, digit, decimalIn, lines}

@@ -3,7 +3,7 @@ ghost use mathlib.Core.Path.{_≡_};
 ghost use mathlib.Core.List.{List, _++_};
 ghost use Prim.Native.Nat.{ℕ, _≤_, _<_};
 ghost use lib.ListN.{length, take, drop};
-ghost use Rattle.fields.specs.Numbers.{joined};
+ghost use Rattle.algebra.specs.Numbers.{joined};
 ghost use Rattle.descriptor.specs.Reading.{Row, descriptor};
 ghost use Rattle.descriptor_read.specs.Table.{numbers};
 ghost use Rattle.listing.specs.Buffer.{putAll};

@@ -6,9 +6,9 @@ use mathlib.Core.Bool.{Bool, true, false}
 use lib.ListN.{length}
 use borrow.Author.Tests.{lt-ltb, le-ltb}
 use native.Mathlib.Omega.{arith}
-use Rattle.fields.specs.Reader.{Res, ok, refuse}
-use Rattle.fields.specs.Refusal.{Of, Placed, ends, fails}
-use Rattle.fields.proofs.Placed.{of-each, refusal-placed}
+use Rattle.algebra.specs.Reader.{Res, ok, refuse}
+use Rattle.algebra.specs.Refusal.{Of, Placed, ends, fails}
+use Rattle.algebra.proofs.Placed.{of-each, refusal-placed}
 use Rattle.descriptor.specs.Reading.{Row, item, refItem}
 use Rattle.descriptor.specs.Refusals.{refusals}
 use Rattle.descriptor.proofs.Ends.{Accepts, yes}

@@ -9,8 +9,8 @@ use borrow.Rule.Slice.PartMut.{midOf, putMid, mid-len, put-same}
 use lib.Dec.{leb}
 use lib.ListN.{length, take, drop, set, length-append, take-append-drop}
 use lib.Seq.{sets, sets-eq, drop-set-lt, take-at, length-take-le}
-use Rattle.fields.specs.Numbers.{joined}
-use Rattle.fields.specs.Reader.{Res}
+use Rattle.algebra.specs.Numbers.{joined}
+use Rattle.algebra.specs.Reader.{Res}
 use Rattle.descriptor.specs.Reading.{Row, root, descriptor}
 use Rattle.descriptor.proofs.Rows.{of-root, rows-laid}
 use Rattle.descriptor_read.specs.declared.Walk.{Walk}

@@ -5,8 +5,8 @@ use mathlib.Core.List.{List, [], _∷_, _++_, append-nil, append-assoc}
 use native.Mathlib.Omega.{arith}
 use native.Mathlib.Nat.{add-zero}
 use lib.ListN.{length, length-append}
-use Rattle.fields.specs.Reader.{Res, ok, refuse, Reader, then}
-use Rattle.fields.proofs.Inverse.{clash, ok-value}
+use Rattle.algebra.specs.Reader.{Res, ok, refuse, Reader, then}
+use Rattle.algebra.proofs.Inverse.{clash, ok-value}
 use Rattle.descriptor.specs.Reading.{Row, headed, siblings}
 use Rattle.descriptor.proofs.Ends.{Accepts, accepted, Past}
 use Rattle.descriptor.proofs.Tiling.{Reach}

@@ -6,9 +6,9 @@ use mathlib.Core.Bool.{Bool, true, false}
 use lib.ListN.{length}
 use borrow.Author.Tests.{eq-eqb, ne-eqb}
 use native.Mathlib.Omega.{arith}
-use Rattle.fields.specs.Reader.{Res, ok, refuse, Reader, then, field, unless, judged}
-use Rattle.fields.proofs.Laws.{judged-short, judged-bad, judged-ok}
-use Rattle.fields.proofs.Inverse.{clash}
+use Rattle.algebra.specs.Reader.{Res, ok, refuse, Reader, then, field, unless, judged}
+use Rattle.algebra.proofs.Laws.{judged-short, judged-bad, judged-ok}
+use Rattle.algebra.proofs.Inverse.{clash}
 use Rattle.descriptor.specs.declared.Value.{Value}
 use Rattle.descriptor.specs.declared.Value.the-variants as vv
 use Rattle.descriptor.specs.Reading.{Known, is, unknown, known, Sort, leaf, list, object, reference, array, sortOf, formOf, id, class, Row, headed, plain, siblings, children, refValue, refItem, column, columnType, arrayPair, arrayOf, keyed, objectOf, valueOf, item, pair, version, root}

@@ -10,7 +10,7 @@ use borrow.Author.Tests.{le-leb, lt-leb, leb-true, leb-false, lt-ltb, le-ltb, lt
 use lib.ListN.{length, set}
 use lib.Seq.{sets, length-sets, set-comm}
 use lib.Dec.{leb, ltb, eqb}
-use Rattle.fields.specs.Reader.{pick}
+use Rattle.algebra.specs.Reader.{pick}
 use Rattle.descriptor.specs.Reading.{Row}
 use Rattle.descriptor_read.specs.Table.{numbers, extent, putRow, putRows}
 

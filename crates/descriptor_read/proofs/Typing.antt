@@ -9,10 +9,10 @@ use lib.Ieee.{Float, binary64, ofBits}
 use lib.Ieee.Scale.{finite}
 use native.Mathlib.Omega.{arith}
 use borrow.Author.Tests.{ne-eqb}
-use Rattle.fields.specs.Numbers.{num}
-use Rattle.fields.specs.Reader.{Res, ok, refuse, Reader, field, body, judged, orZero, limit}
-use Rattle.fields.proofs.Laws.{field-in}
-use Rattle.fields.proofs.Inverse.{then-inv, judged-inv, body-inv, done-inv, unless-fine}
+use Rattle.algebra.specs.Numbers.{num}
+use Rattle.algebra.specs.Reader.{Res, ok, refuse, Reader, field, body, judged, orZero, limit}
+use Rattle.algebra.proofs.Laws.{field-in}
+use Rattle.algebra.proofs.Inverse.{then-inv, judged-inv, body-inv, done-inv, unless-fine}
 use Rattle.descriptor.specs.Reading.{Row, is, leaf, sortOf, skip, boolean, flag, bits, double, unit, unitDouble, descriptor}
 use Rattle.descriptor.specs.Leaves.{Leafed}
 use Rattle.descriptor.proofs.Leaves.{AllLeafed, rows-leafed}

@@ -4,8 +4,8 @@ use mathlib.Core.Path.{_≡_, refl, sym, ap, _∙_, subst}
 use mathlib.Core.List.{List, [], _∷_, _++_}
 use lib.ListN.{length, getD}
 use native.Mathlib.Omega.{arith}
-use Rattle.fields.specs.Reader.{Res, ok, refuse, limit}
-use Rattle.fields.specs.Store.{part}
+use Rattle.algebra.specs.Reader.{Res, ok, refuse, limit}
+use Rattle.algebra.specs.Store.{part}
 use Rattle.descriptor.specs.Reading.{Row, root, descriptor}
 use Rattle.descriptor.specs.Tiles.{Tiled, none, one}
 use Rattle.descriptor.proofs.Tiling.{five-each}

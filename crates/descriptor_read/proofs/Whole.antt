@@ -7,7 +7,7 @@ use lib.Dec.{eqb}
 use lib.ListN.{length}
 use borrow.Author.Tests.{le-leb, lt-leb}
 use native.Mathlib.Omega.{arith}
-use Rattle.fields.specs.Reader.{Res, ok, refuse, then, pick, ended, limit}
+use Rattle.algebra.specs.Reader.{Res, ok, refuse, then, pick, ended, limit}
 use Rattle.descriptor.specs.Reading.{Row, root, whole, descriptor}
 use Rattle.descriptor_read.specs.declared.Walk.{Walk}
 use Rattle.descriptor_read.specs.declared.Walk.the-variants as vw

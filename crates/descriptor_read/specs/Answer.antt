@@ -3,7 +3,7 @@ use Prim.Native.Nat.{ℕ}
 use mathlib.Core.List.{List}
 use lib.Dec.{eqb}
 use lib.ListN.{length}
-use Rattle.fields.specs.Reader.{Res, ok, refuse, pick}
+use Rattle.algebra.specs.Reader.{Res, ok, refuse, pick}
 use Rattle.descriptor.specs.Reading.{Row}
 use Rattle.descriptor_read.specs.declared.Answer.{Answer}
 use Rattle.descriptor_read.specs.declared.Answer.the-variants as va

@@ -1,7 +1,7 @@
 -- An answer of the readers of members in one number, which a call hands back in a register.
 use Prim.Native.Nat.{ℕ, _-_, _/_, _%_, _<_}
 use lib.Dec.{ltb}
-use Rattle.fields.specs.Reader.{pick}
+use Rattle.algebra.specs.Reader.{pick}
 use Rattle.descriptor_read.specs.declared.Walk.{Walk}
 use Rattle.descriptor_read.specs.declared.Walk.the-variants as vw
 

@@ -2,7 +2,7 @@
 use Prim.Native.Nat.{ℕ, _-_}
 use mathlib.Core.List.{List}
 use mathlib.Core.Bool.{Bool, true, false}
-use Rattle.fields.specs.Reader.{ok, Reader}
+use Rattle.algebra.specs.Reader.{ok, Reader}
 use Rattle.descriptor.specs.Reading.{Row, known, sortOf, valueOf, item, pair, listOf, objectOf, referenceOf, arrayOf}
 
 -- a field that is there, or none

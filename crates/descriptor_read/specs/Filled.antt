@@ -3,8 +3,8 @@ use Prim.Native.Nat.{ℕ, _*_}
 use mathlib.Core.List.{List, _++_}
 use lib.ListN.{length, drop}
 use lib.Dec.{leb}
-use Rattle.fields.specs.Numbers.{joined}
-use Rattle.fields.specs.Reader.{Res, ok, refuse, pick}
+use Rattle.algebra.specs.Numbers.{joined}
+use Rattle.algebra.specs.Reader.{Res, ok, refuse, pick}
 use Rattle.descriptor.specs.Reading.{Row}
 use Rattle.descriptor_read.specs.Table.{numbers}
 use Rattle.descriptor_read.specs.Answer.{Verdict, accepted, refused}

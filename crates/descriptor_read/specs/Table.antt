@@ -5,7 +5,7 @@ use mathlib.Core.List.{List, [], _∷_}
 use lib.ListN.{length}
 use lib.Seq.{sets}
 use lib.Dec.{leb, ltb, eqb}
-use Rattle.fields.specs.Reader.{Res, ok, refuse, pick}
+use Rattle.algebra.specs.Reader.{Res, ok, refuse, pick}
 use Rattle.descriptor.specs.Reading.{Row}
 use Rattle.descriptor_read.specs.declared.Walk.{Walk}
 use Rattle.descriptor_read.specs.declared.Walk.the-variants as vw

@@ -3,8 +3,8 @@ use Prim.Native.Nat.{ℕ, _+_}
 use mathlib.Core.List.{List}
 use lib.Dec.{eqb}
 use lib.Ieee.{binary64, ofBits}
-use Rattle.fields.specs.Numbers.{num}
-use Rattle.fields.specs.Reader.{pick}
+use Rattle.algebra.specs.Numbers.{num}
+use Rattle.algebra.specs.Reader.{pick}
 use Rattle.descriptor_read.specs.Values.{Found, found, missing}
 use Rattle.descriptor_read.specs.declared.Typed.{Typed}
 use Rattle.descriptor_read.specs.declared.Typed.the-variants as vt

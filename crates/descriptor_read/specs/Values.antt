@@ -1,8 +1,8 @@
 -- A row by its number, and its value.
 use Prim.Native.Nat.{ℕ, zero, suc, _+_, _-_}
 use mathlib.Core.List.{List, [], _∷_}
-use Rattle.fields.specs.Reader.{Res, ok, refuse}
-use Rattle.fields.specs.Store.{part}
+use Rattle.algebra.specs.Reader.{Res, ok, refuse}
+use Rattle.algebra.specs.Store.{part}
 use Rattle.descriptor.specs.Reading.{Row}
 use Rattle.descriptor_read.specs.declared.Extent.{Extent}
 use Rattle.descriptor_read.specs.declared.Extent.the-variants as ve

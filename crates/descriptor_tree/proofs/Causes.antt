@@ -11,14 +11,14 @@ use lib.Ieee.Scale.{finite}
 use borrow.Author.Tests.{leb-false, le-leb, lt-ltb, eq-eqb, eqb-false, ne-eqb}
 use native.Mathlib.Omega.{arith}
 use native.Mathlib.Nat.{add-zero, mul-one}
-use Rattle.fields.specs.Numbers.{num, nums, be, At, Bytes}
-use Rattle.fields.specs.Reader.{Res, Reader, ok, refuse, then, pick, field, body, rule, unless, judged, _>>=_, each, done}
-use Rattle.fields.specs.Store.{part}
-use Rattle.fields.specs.Sets.{Field, Number, number, seq, Run}
-use Rattle.fields.proofs.Places.{length-be, at-in, at-next, at-part, length-part, num-lt, num-be, be-num}
-use Rattle.fields.proofs.Floats.{finite-bits}
-use Rattle.fields.proofs.Inverse.{clash, body-inv}
-use Rattle.fields.proofs.Sets.{Reads, Stands, field-numbers, number-sound}
+use Rattle.algebra.specs.Numbers.{num, nums, be, At, Bytes}
+use Rattle.algebra.specs.Reader.{Res, Reader, ok, refuse, then, pick, field, body, rule, unless, judged, _>>=_, each, done}
+use Rattle.algebra.specs.Store.{part}
+use Rattle.algebra.specs.Sets.{Field, Number, number, seq, Run}
+use Rattle.algebra.proofs.Places.{length-be, at-in, at-next, at-part, length-part, num-lt, num-be, be-num}
+use Rattle.algebra.proofs.Floats.{finite-bits}
+use Rattle.algebra.proofs.Inverse.{clash, body-inv}
+use Rattle.algebra.proofs.Sets.{Reads, Stands, field-numbers, number-sound}
 use Rattle.descriptor.specs.Reading.{passing, skip, id, shut, closing, unicode, class, boolean, flag, bits, double, enumerated, run, isUnit, isArrayUnit, unit, arrayUnit, unitDouble, is, Sort, leaf, list, object, reference, array, types, sortOf, forms, formOf, doubles, column}
 use Rattle.descriptor.proofs.Fields.{shut-nums}
 use Rattle.descriptor_tree.specs.Grammar.{Boolean, Double, Measure, ArrayMeasure}

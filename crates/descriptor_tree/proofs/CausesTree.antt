@@ -9,12 +9,12 @@ use lib.ListN.{length, length-append}
 use borrow.Author.Tests.{eq-eqb}
 use native.Mathlib.Omega.{arith}
 use native.Mathlib.Nat.{add-zero}
-use Rattle.fields.specs.Numbers.{be, At, Bytes}
-use Rattle.fields.specs.Reader.{Res, Reader, ok, refuse, then, field, judged, _>>=_}
-use Rattle.fields.specs.Sets.{Number}
-use Rattle.fields.proofs.Places.{length-be, at-in, at-next}
-use Rattle.fields.proofs.Inverse.{clash}
-use Rattle.fields.proofs.Sets.{number-sound}
+use Rattle.algebra.specs.Numbers.{be, At, Bytes}
+use Rattle.algebra.specs.Reader.{Res, Reader, ok, refuse, then, field, judged, _>>=_}
+use Rattle.algebra.specs.Sets.{Number}
+use Rattle.algebra.proofs.Places.{length-be, at-in, at-next}
+use Rattle.algebra.proofs.Inverse.{clash}
+use Rattle.algebra.proofs.Sets.{number-sound}
 use Rattle.descriptor.specs.Reading.{Known, is, unknown, known, id, class, Sort, leaf, list, object, reference, array, sortOf, forms, formOf, Row, headed, plain, siblings, children, refValue, refItem, column, columnType, arrayPair, arrayOf, keyed, objectOf, valueOf, item, version, root}
 use Rattle.descriptor_tree.specs.Grammar.{Id, Class, Leaf, Form}
 use Rattle.descriptor_tree.specs.Tree.{count, head, Place, Item, Member}

@@ -3,10 +3,10 @@ use Prim.Native.Nat.{ℕ, zero, suc, _<_}
 use mathlib.Core.Path.{_≡_, refl}
 use mathlib.Core.List.{List, [], _∷_, _++_}
 use native.Mathlib.Omega.{arith}
-use Rattle.fields.specs.Numbers.{be, Bytes}
-use Rattle.fields.specs.Refusal.{among}
-use Rattle.fields.specs.Sets.{Number, Seq, Counted}
-use Rattle.fields.proofs.Places.{length-be, bytes-append}
+use Rattle.algebra.specs.Numbers.{be, Bytes}
+use Rattle.algebra.specs.Refusal.{among}
+use Rattle.algebra.specs.Sets.{Number, Seq, Counted}
+use Rattle.algebra.proofs.Places.{length-be, bytes-append}
 use Rattle.descriptor.specs.Reading.{Row}
 use Rattle.descriptor_tree.specs.Grammar.{IdBody, Id, Units, Class, Leaf, Form, UnitDoubles}
 use Rattle.descriptor_tree.specs.Tree.{Members, none, one, Descriptor, bytes, rootHead, fileBytes, memberHeads, fileHeads, rows, fileRows, Place, Item, Member, Allowed, File, file}

@@ -9,21 +9,21 @@ use lib.Ieee.{binary64, ofBits}
 use lib.Ieee.Scale.{finite}
 use borrow.Author.Tests.{leb-true, le-leb, ltb-true, lt-ltb, eqb-true, eq-eqb, ne-eqb}
 use native.Mathlib.Omega.{arith}
-use Rattle.fields.specs.Numbers.{num, nums, At, Bytes}
-use Rattle.fields.specs.Reader.{Reader, ok, then, pick, rule, body}
-use Rattle.fields.specs.Store.{part}
-use Rattle.fields.proofs.Laws.{body-in, num-2}
-use Rattle.fields.proofs.Places.{at-in, at-right, at-next, at-part, length-part}
-use Rattle.fields.proofs.Inverse.{then-inv, rule-inv, unless-fine, body-inv, ok-place}
-use Rattle.fields.proofs.Floats.{finite-bits}
-use Rattle.fields.specs.Refusal.{among}
-use Rattle.fields.proofs.Placed.{all-one, of-all}
+use Rattle.algebra.specs.Numbers.{num, nums, At, Bytes}
+use Rattle.algebra.specs.Reader.{Reader, ok, then, pick, rule, body}
+use Rattle.algebra.specs.Store.{part}
+use Rattle.algebra.proofs.Laws.{body-in, num-2}
+use Rattle.algebra.proofs.Places.{at-in, at-right, at-next, at-part, length-part}
+use Rattle.algebra.proofs.Inverse.{then-inv, rule-inv, unless-fine, body-inv, ok-place}
+use Rattle.algebra.proofs.Floats.{finite-bits}
+use Rattle.algebra.specs.Refusal.{among}
+use Rattle.algebra.proofs.Placed.{all-one, of-all}
 use Rattle.descriptor.specs.Reading.{is, beside, skip, id, shut, closing, unicode, class, flag, double, enumerated, run, units, arrayUnits, isUnit, isArrayUnit, unitDouble, column}
-use Rattle.fields.specs.Sets.{Size}
+use Rattle.algebra.specs.Sets.{Size}
 use Rattle.descriptor_tree.specs.Grammar.{IdBody, Id, Units, Text, Class, Enumerated, Raw, Boolean, Double, measures, Measure, UnitDouble, arrayMeasures, ArrayMeasure, UnitDoubles}
 use Rattle.descriptor_tree.specs.Grammar.IdBody.{char, string}
 use Rattle.descriptor_tree.specs.Grammar.Units.{none, closed}
-use Rattle.fields.proofs.Sets.{Reads, same-reads, done-reads, size-reads, tested-numbers, tag-numbers, number-reads, when-reads, counted-reads, seq-reads, run-reads}
+use Rattle.algebra.proofs.Sets.{Reads, same-reads, done-reads, size-reads, tested-numbers, tag-numbers, number-reads, when-reads, counted-reads, seq-reads, run-reads}
 use Rattle.descriptor.proofs.Fields.{shut-nums}
 
 -- ---- tables by a tag

@@ -5,17 +5,17 @@ use mathlib.Core.List.{List, [], _∷_, _++_}
 use mathlib.Core.Logic.{_⊎_, inl, inr}
 use lib.ListN.{length, length-append}
 use native.Mathlib.Omega.{arith}
-use Rattle.fields.specs.Numbers.{be, At, Bytes}
-use Rattle.fields.specs.Reader.{Res, Reader, ok, refuse, then, field, _>>=_}
-use Rattle.fields.proofs.Places.{length-be, at-in, at-left, at-right, at-next}
-use Rattle.fields.proofs.Inverse.{clash, then-inv, ok-value, ok-place}
+use Rattle.algebra.specs.Numbers.{be, At, Bytes}
+use Rattle.algebra.specs.Reader.{Res, Reader, ok, refuse, then, field, _>>=_}
+use Rattle.algebra.proofs.Places.{length-be, at-in, at-left, at-right, at-next}
+use Rattle.algebra.proofs.Inverse.{clash, then-inv, ok-value, ok-place}
 use Rattle.descriptor.specs.Reading.{Known, is, unknown, known, id, class, flag, double, enumerated, run, unicode, unitDouble, skip, Sort, leaf, list, object, reference, array, types, sortOf, forms, formOf, Row, headed, plain, siblings, children, refValue, refItem, arrayPair, item, pair, beside}
-use Rattle.fields.specs.Refusal.{among}
-use Rattle.fields.specs.Sets.{Size, Seq, number, counted}
+use Rattle.algebra.specs.Refusal.{among}
+use Rattle.algebra.specs.Sets.{Size, Seq, number, counted}
 use Rattle.descriptor_tree.specs.Grammar.{Class, Leaf, Form, IdBody, Id, Units, Text, Raw, Double}
-use Rattle.fields.specs.Sets.Seq.{seq}
+use Rattle.algebra.specs.Sets.Seq.{seq}
 use Rattle.descriptor_tree.specs.Tree.{Place, Item}
-use Rattle.fields.proofs.Sets.{Sound, sound-in, Stands, field-numbers, number-whole, number-sound}
+use Rattle.algebra.proofs.Sets.{Sound, sound-in, Stands, field-numbers, number-whole, number-sound}
 use Rattle.descriptor_tree.proofs.Fields.{beside-each, skip-reads, id-reads, text-reads, class-reads, enumerated-reads, raw-reads, boolean-reads, double-reads, unit-reads, Each}
 use Rattle.descriptor_tree.specs.Damaged.{ItemType, ItemForm}
 

@@ -5,13 +5,13 @@ use mathlib.Core.List.{List, [], _∷_, _++_}
 use mathlib.Core.Logic.{⊎-elim}
 use lib.ListN.{length, length-append}
 use native.Mathlib.Omega.{arith}
-use Rattle.fields.specs.Numbers.{be, At, Bytes}
-use Rattle.fields.specs.Reader.{Res, Reader, ok, then, field, judged, _>>=_}
-use Rattle.fields.proofs.Places.{length-be, at-in, at-left, at-right, at-after, at-next}
-use Rattle.fields.proofs.Inverse.{clash, then-inv}
+use Rattle.algebra.specs.Numbers.{be, At, Bytes}
+use Rattle.algebra.specs.Reader.{Res, Reader, ok, then, field, judged, _>>=_}
+use Rattle.algebra.proofs.Places.{length-be, at-in, at-left, at-right, at-after, at-next}
+use Rattle.algebra.proofs.Inverse.{clash, then-inv}
 use Rattle.descriptor.specs.Reading.{is, id, class, Sort, leaf, list, object, reference, array, sortOf, formOf, Row, headed, plain, siblings, children, refValue, refItem, column, columnType, arrayPair, arrayOf, keyed, objectOf, valueOf, item}
 use Rattle.descriptor_tree.specs.Tree.{Place, Item, Member, head}
-use Rattle.fields.proofs.Sets.{field-numbers, tag-numbers, number-whole, number-sound}
+use Rattle.algebra.proofs.Sets.{field-numbers, tag-numbers, number-whole, number-sound}
 use Rattle.descriptor_tree.proofs.Fields.{id-reads, column-reads}
 use Rattle.descriptor_tree.proofs.Sizes.{length-head}
 use Rattle.descriptor_tree.proofs.Heads.{reader, rowOf, item-small, ref-small, leaf-whole, Sorted, sorted, ref-whole, ref-sound, known-inv, headed-inv, plain-inv, children-at, class-at, children-inv, class-inv}

@@ -9,13 +9,13 @@ use lib.Seq.{length-take-le, take-append-seam}
 use borrow.Author.Tests.{le-leb, lt-leb, leb-true, leb-false, eqb-false}
 use native.Mathlib.Omega.{arith}
 use native.Mathlib.Nat.{zero-add}
-use Rattle.fields.specs.Numbers.{be, At, Bytes}
-use Rattle.fields.specs.Reader.{ok, refuse, pick, ended}
-use Rattle.fields.specs.Cut.{notWhole, Stub}
-use Rattle.fields.proofs.Places.{at-left, at-whole, at-drop, bytes-append}
-use Rattle.fields.proofs.Inverse.{clash}
-use Rattle.fields.proofs.Stops.{ended-left}
-use Rattle.fields.proofs.Cuts.{stub-take, bytes-take}
+use Rattle.algebra.specs.Numbers.{be, At, Bytes}
+use Rattle.algebra.specs.Reader.{ok, refuse, pick, ended}
+use Rattle.algebra.specs.Cut.{notWhole, Stub}
+use Rattle.algebra.proofs.Places.{at-left, at-whole, at-drop, bytes-append}
+use Rattle.algebra.proofs.Inverse.{clash}
+use Rattle.algebra.proofs.Stops.{ended-left}
+use Rattle.algebra.proofs.Cuts.{stub-take, bytes-take}
 use Rattle.descriptor.specs.Reading.{Row, root, whole, descriptor}
 use Rattle.descriptor_tree.specs.Tree.{Descriptor, count, rootHead, fileBytes, Place, File, file}
 use Rattle.descriptor_tree.specs.Tree as tree

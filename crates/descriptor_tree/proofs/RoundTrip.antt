@@ -3,9 +3,9 @@ use Prim.Native.Nat.{ℕ}
 use mathlib.Core.Path.{_≡_, sym, _∙_}
 use mathlib.Core.List.{List}
 use lib.ListN.{length}
-use Rattle.fields.specs.Numbers.{Bytes}
-use Rattle.fields.specs.Reader.{ok, refuse}
-use Rattle.fields.proofs.Inverse.{clash}
+use Rattle.algebra.specs.Numbers.{Bytes}
+use Rattle.algebra.specs.Reader.{ok, refuse}
+use Rattle.algebra.proofs.Inverse.{clash}
 use Rattle.descriptor.specs.Reading.{Row, descriptor}
 use Rattle.descriptor_tree.specs.Tree.{Descriptor, fileRows, File}
 use Rattle.descriptor_tree.proofs.Whole.{file-inv, is-file, file-reads, file-sound}

@@ -6,11 +6,11 @@ use lib.ListN.{length, drop, length-append}
 use lib.Seq.{drop-append-seam}
 use borrow.Author.Tests.{le-leb, lt-leb}
 use native.Mathlib.Omega.{arith}
-use Rattle.fields.specs.Numbers.{be, joined}
-use Rattle.fields.specs.Reader.{Res, ok}
-use Rattle.fields.specs.Store.{part}
-use Rattle.fields.proofs.Places.{length-joined}
-use Rattle.fields.proofs.Joined.{part-joined}
+use Rattle.algebra.specs.Numbers.{be, joined}
+use Rattle.algebra.specs.Reader.{Res, ok}
+use Rattle.algebra.specs.Store.{part}
+use Rattle.algebra.proofs.Places.{length-joined}
+use Rattle.algebra.proofs.Joined.{part-joined}
 use Rattle.descriptor.specs.Reading.{Row, descriptor}
 use Rattle.descriptor.proofs.Tiling.{heads-sum, heads-length, five-each, five-heads, in-order}
 use Rattle.descriptor_read.specs.Answer.{Verdict, accepted, refused, verdict}

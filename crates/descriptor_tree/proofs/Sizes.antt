@@ -4,13 +4,13 @@ use mathlib.Core.Path.{_≡_}
 use mathlib.Core.List.{List, [], _++_}
 use lib.ListN.{length, length-append}
 use native.Mathlib.Omega.{arith}
-use Rattle.fields.specs.Numbers.{be}
-use Rattle.fields.proofs.Places.{length-be}
-use Rattle.fields.specs.Sets.{Field, Number, Counted}
+use Rattle.algebra.specs.Numbers.{be}
+use Rattle.algebra.proofs.Places.{length-be}
+use Rattle.algebra.specs.Sets.{Field, Number, Counted}
 use Rattle.descriptor_tree.specs.Grammar.{IdBody, Id, Class, Leaf}
-use Rattle.fields.specs.Sets.Number.{number}
-use Rattle.fields.specs.Sets.Seq.{seq}
-use Rattle.fields.specs.Sets.Counted.{counted}
+use Rattle.algebra.specs.Sets.Number.{number}
+use Rattle.algebra.specs.Sets.Seq.{seq}
+use Rattle.algebra.specs.Sets.Counted.{counted}
 use Rattle.descriptor_tree.specs.Grammar.IdBody.{char, string}
 use Rattle.descriptor_tree.specs.Tree.{Place, Item, Member, head}
 

@@ -5,10 +5,10 @@ use mathlib.Core.List.{List, [], _∷_, _++_, append-assoc}
 use lib.ListN.{length, length-append}
 use native.Mathlib.Omega.{arith}
 use native.Mathlib.Nat.{zero-add}
-use Rattle.fields.specs.Numbers.{be, Bytes}
-use Rattle.fields.specs.Reader.{Res, Reader, ok, refuse, then, judged, _>>=_}
-use Rattle.fields.proofs.Places.{length-be, at-left}
-use Rattle.fields.proofs.Sets.{Numbers, tag-numbers}
+use Rattle.algebra.specs.Numbers.{be, Bytes}
+use Rattle.algebra.specs.Reader.{Res, Reader, ok, refuse, then, judged, _>>=_}
+use Rattle.algebra.proofs.Places.{length-be, at-left}
+use Rattle.algebra.proofs.Sets.{Numbers, tag-numbers}
 use Rattle.descriptor.specs.Reading.{id, class, sortOf, Row, headed, siblings, children, refValue, refItem, columnType, arrayPair, arrayOf, keyed, objectOf, item, version, root}
 use Rattle.descriptor.proofs.Fields.{then-to}
 use Rattle.descriptor.proofs.Refused.{type-refused, form-refused, column-type-refused, version-refused}

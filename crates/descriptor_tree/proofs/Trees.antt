@@ -5,10 +5,10 @@ use mathlib.Core.List.{List, [], _∷_, _++_}
 use lib.ListN.{length}
 use native.Mathlib.Omega.{arith}
 use native.Mathlib.Nat.{add-zero}
-use Rattle.fields.specs.Numbers.{At, Bytes}
-use Rattle.fields.specs.Reader.{Reader, ok, refuse}
-use Rattle.fields.proofs.Places.{at-in, at-left, at-right, at-next}
-use Rattle.fields.proofs.Inverse.{clash, then-inv, ok-value, ok-place}
+use Rattle.algebra.specs.Numbers.{At, Bytes}
+use Rattle.algebra.specs.Reader.{Reader, ok, refuse}
+use Rattle.algebra.proofs.Places.{at-in, at-left, at-right, at-next}
+use Rattle.algebra.proofs.Inverse.{clash, then-inv, ok-value, ok-place}
 use Rattle.descriptor.specs.Reading.{Row, siblings, item}
 use Rattle.descriptor.proofs.Refused.{deep-item-refused, deep-pair-refused, deep-form-refused, deep-column-refused}
 use Rattle.descriptor_tree.specs.Tree.{Members, none, one, count, head, bytes, rows, Place, Member, Allowed}

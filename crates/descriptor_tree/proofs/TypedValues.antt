@@ -6,10 +6,10 @@ use lib.Dec.{eqb}
 use lib.ListN.{length, getD}
 use lib.Ieee.{binary64, ofBits}
 use native.Mathlib.Omega.{arith}
-use Rattle.fields.specs.Numbers.{num, be, At, Bytes}
-use Rattle.fields.specs.Reader.{Res}
-use Rattle.fields.specs.Sets.{Size, number, seq, counted}
-use Rattle.fields.proofs.Places.{length-be, at-in, at-left, at-after, at-same, num-lt, be-num, num-be}
+use Rattle.algebra.specs.Numbers.{num, be, At, Bytes}
+use Rattle.algebra.specs.Reader.{Res}
+use Rattle.algebra.specs.Sets.{Size, number, seq, counted}
+use Rattle.algebra.proofs.Places.{length-be, at-in, at-left, at-after, at-same, num-lt, be-num, num-be}
 use Rattle.descriptor.specs.Reading.{Row, descriptor}
 use Rattle.descriptor_read.specs.declared.Typed.the-variants as vt
 use Rattle.descriptor_read.specs.Values.{rowAt, rowIn}

@@ -4,15 +4,15 @@ use mathlib.Core.Path.{_≡_, refl, sym, ap, ap₂, _∙_, subst}
 use mathlib.Core.List.{List, [], _++_}
 use lib.ListN.{length, length-append}
 use native.Mathlib.Omega.{arith}
-use Rattle.fields.specs.Numbers.{be, At, Bytes}
-use Rattle.fields.specs.Reader.{Res, Reader, ok, refuse, field, orZero}
-use Rattle.fields.proofs.Places.{length-be, at-left, at-right, at-after, at-same, num-be}
-use Rattle.fields.proofs.Inverse.{ok-place}
+use Rattle.algebra.specs.Numbers.{be, At, Bytes}
+use Rattle.algebra.specs.Reader.{Res, Reader, ok, refuse, field, orZero}
+use Rattle.algebra.proofs.Places.{length-be, at-left, at-right, at-after, at-same, num-be}
+use Rattle.algebra.proofs.Inverse.{ok-place}
 use Rattle.descriptor.specs.Reading.{Known, is, unknown, class, Sort, leaf, list, object, reference, array, sortOf, refValue}
-use Rattle.fields.specs.Sets.{Seq}
+use Rattle.algebra.specs.Sets.{Seq}
 use Rattle.descriptor_tree.specs.Grammar.{Class, Form}
 use Rattle.descriptor_tree.specs.Tree.{Members, none, one, Descriptor, head, bytes, count, rootHead, Place, Item, Member, Allowed}
-use Rattle.fields.proofs.Sets.{reads-same, field-numbers, number-whole}
+use Rattle.algebra.proofs.Sets.{reads-same, field-numbers, number-whole}
 use Rattle.descriptor_tree.proofs.Fields.{id-reads, class-reads, column-reads}
 use Rattle.descriptor_tree.proofs.Heads.{item-small, ref-small, leaf-whole, ref-whole}
 use Rattle.descriptor_tree.proofs.Whole.{Is-file, file-parts, length-root}

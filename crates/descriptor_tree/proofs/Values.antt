@@ -4,10 +4,10 @@ use mathlib.Core.Path.{_≡_, refl, sym, ap, _∙_}
 use mathlib.Core.List.{List, [], _∷_, _++_}
 use lib.ListN.{length, getD, length-append}
 use native.Mathlib.Omega.{arith}
-use Rattle.fields.specs.Numbers.{be, At}
-use Rattle.fields.specs.Reader.{Res}
-use Rattle.fields.specs.Store.{part}
-use Rattle.fields.proofs.Places.{length-be, at-left, at-right, at-after, at-next, at-take}
+use Rattle.algebra.specs.Numbers.{be, At}
+use Rattle.algebra.specs.Reader.{Res}
+use Rattle.algebra.specs.Store.{part}
+use Rattle.algebra.proofs.Places.{length-be, at-left, at-right, at-after, at-next, at-take}
 use Rattle.descriptor.specs.Reading.{Row, descriptor}
 use Rattle.descriptor_read.specs.Values.{missing, rowAt, rowIn, valueIn}
 use Rattle.descriptor_tree.specs.Tree.{Members, none, one, Descriptor, count, head, bytes, rows, memberValues, rootHead, fileBytes, fileRows, rowCount, fileValues, File}

@@ -7,11 +7,11 @@ use lib.ListN.{length, length-append}
 use borrow.Author.Tests.{leb-true, le-leb, eq-eqb}
 use native.Mathlib.Omega.{arith}
 use native.Mathlib.Nat.{zero-add}
-use Rattle.fields.specs.Numbers.{be, At, Bytes}
-use Rattle.fields.specs.Reader.{Res, ok, then, judged, ended, limit}
-use Rattle.fields.proofs.Places.{length-be, at-in, at-left, at-after, at-next, at-all, at-whole}
-use Rattle.fields.proofs.Inverse.{then-inv, pick-inv, ended-inv}
-use Rattle.fields.proofs.Sets.{tag-numbers, number-whole, number-sound}
+use Rattle.algebra.specs.Numbers.{be, At, Bytes}
+use Rattle.algebra.specs.Reader.{Res, ok, then, judged, ended, limit}
+use Rattle.algebra.proofs.Places.{length-be, at-in, at-left, at-after, at-next, at-all, at-whole}
+use Rattle.algebra.proofs.Inverse.{then-inv, pick-inv, ended-inv}
+use Rattle.algebra.proofs.Sets.{tag-numbers, number-whole, number-sound}
 use Rattle.descriptor.specs.Reading.{Row, headed, siblings, objectOf, item, version, root, whole, descriptor}
 use Rattle.descriptor_tree.specs.Grammar.{Class}
 use Rattle.descriptor_tree.specs.Tree.{Descriptor, count, bytes, rows, rootHead, fileBytes, fileRows, Place, Allowed, File, file}

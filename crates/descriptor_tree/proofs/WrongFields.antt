@@ -8,12 +8,12 @@ use lib.ListN.{length, length-append}
 use borrow.Author.Tests.{ne-eqb}
 use native.Mathlib.Omega.{arith}
 use native.Mathlib.Nat.{add-zero, mul-one, lt-of-not-le}
-use Rattle.fields.specs.Numbers.{num, be, At, Bytes}
-use Rattle.fields.specs.Reader.{Res, Reader, ok, refuse, then, pick, field, Judged, judged, each, done}
-use Rattle.fields.specs.Sets.{Field, Size, Number, number, seq, Run}
-use Rattle.fields.proofs.Laws.{field-short, body-short, judged-short}
-use Rattle.fields.proofs.Places.{length-be, at-in, at-left, at-right, at-after, at-same, num-lt, be-num}
-use Rattle.fields.proofs.Sets.{Reads, Numbers, field-numbers, tested-numbers, tag-numbers, number-whole}
+use Rattle.algebra.specs.Numbers.{num, be, At, Bytes}
+use Rattle.algebra.specs.Reader.{Res, Reader, ok, refuse, then, pick, field, Judged, judged, each, done}
+use Rattle.algebra.specs.Sets.{Field, Size, Number, number, seq, Run}
+use Rattle.algebra.proofs.Laws.{field-short, body-short, judged-short}
+use Rattle.algebra.proofs.Places.{length-be, at-in, at-left, at-right, at-after, at-same, num-lt, be-num}
+use Rattle.algebra.proofs.Sets.{Reads, Numbers, field-numbers, tested-numbers, tag-numbers, number-whole}
 use Rattle.descriptor.specs.Reading.{is, passing, skip, id, unicode, class, boolean, flag, bits, double, enumerated, run, isUnit, isArrayUnit, unit, arrayUnit, unitDouble, leaf, sortOf, formOf, doubles, column}
 use Rattle.descriptor.proofs.Fields.{then-to}
 use Rattle.descriptor.proofs.Refused.{bool-refused, double-refused, unit-refused, text-refused, array-unit-refused, count-refused}

@@ -4,8 +4,8 @@ use Prim.Native.Nat.{ℕ, suc, _+_, _*_, _^_, _≤_, _<_}
 use mathlib.Core.Path.{_≡_}
 use mathlib.Core.List.{List, [], _++_}
 use lib.ListN.{length}
-use Rattle.fields.specs.Numbers.{be}
-use Rattle.fields.specs.Sets.{Field, Size, Number, Run}
+use Rattle.algebra.specs.Numbers.{be}
+use Rattle.algebra.specs.Sets.{Field, Size, Number, Run}
 use Rattle.descriptor_tree.specs.Grammar.{Id, Text, Class, Boolean, Double, Measure, ArrayMeasure, Form}
 use Rattle.descriptor_tree.specs.Tree.{Members, Descriptor, count, head, bytes, Place, Item, Member, Allowed, File}
 

@@ -4,8 +4,8 @@ use Prim.Native.Nat.{ℕ, suc, _*_, _%_, _≤_, _<_}
 use mathlib.Core.Path.{_≡_}
 use mathlib.Core.List.{List, [], _∷_, _++_}
 use lib.ListN.{length}
-use Rattle.fields.specs.Refusal.{Of}
-use Rattle.fields.specs.Sets.{Field, Size, Number, Seq, Counted, When, Run}
+use Rattle.algebra.specs.Refusal.{Of}
+use Rattle.algebra.specs.Sets.{Field, Size, Number, Seq, Counted, When, Run}
 
 -- ---- primitives
 

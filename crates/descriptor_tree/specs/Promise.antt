@@ -3,8 +3,8 @@ use Prim.Native.Nat.{ℕ, _*_, _/_, _≤_, _<_}
 use mathlib.Core.Path.{_≡_}
 use mathlib.Core.List.{List}
 use lib.ListN.{length, getD, drop}
-use Rattle.fields.specs.Reader.{ok}
-use Rattle.fields.specs.Store.{part}
+use Rattle.algebra.specs.Reader.{ok}
+use Rattle.algebra.specs.Store.{part}
 use Rattle.descriptor.specs.Reading.{Row, descriptor}
 use Rattle.descriptor.specs.Tiles.{heads, Laid}
 use Rattle.descriptor_read.specs.Answer.{Verdict, accepted, refused}

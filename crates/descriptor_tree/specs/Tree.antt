@@ -2,9 +2,9 @@
 use Prim.Native.Nat.{ℕ, suc, _+_, _^_, _≤_, _<_}
 use mathlib.Core.List.{List, [], _∷_, _++_}
 use lib.ListN.{length}
-use Rattle.fields.specs.Numbers.{be, Bytes}
+use Rattle.algebra.specs.Numbers.{be, Bytes}
 use Rattle.descriptor.specs.Reading.{Row}
-use Rattle.fields.specs.Sets.{Seq}
+use Rattle.algebra.specs.Sets.{Seq}
 use Rattle.descriptor_tree.specs.Grammar.{Id, Class, Leaf, Form, UnitDoubles}
 
 -- ---- trees

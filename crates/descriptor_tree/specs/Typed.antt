@@ -4,8 +4,8 @@ use mathlib.Core.Path.{_≡_}
 use mathlib.Core.Bool.{true, false}
 use mathlib.Core.List.{List, [], _∷_, _++_}
 use lib.Ieee.{binary64, ofBits}
-use Rattle.fields.specs.Numbers.{be}
-use Rattle.fields.specs.Refusal.{oneOf}
+use Rattle.algebra.specs.Numbers.{be}
+use Rattle.algebra.specs.Refusal.{oneOf}
 use Rattle.descriptor_read.specs.declared.Typed.{Typed}
 use Rattle.descriptor_read.specs.declared.Typed.the-variants as vt
 

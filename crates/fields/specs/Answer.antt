@@ -1,6 +1,6 @@
 -- What each answer of the code says.
 use Prim.Native.Nat.{ℕ}
-use Rattle.fields.specs.Reader.{Res, ok, refuse}
+use Rattle.algebra.specs.Reader.{Res, ok, refuse}
 use Rattle.fields.specs.declared.number.Number8.{Number8}
 use Rattle.fields.specs.declared.number.Number8.the-variants as n8
 use Rattle.fields.specs.declared.number.Number16.{Number16}
@@ -11,11 +11,9 @@ use Rattle.fields.specs.declared.number.Number64.{Number64}
 use Rattle.fields.specs.declared.number.Number64.the-variants as n64
 use Rattle.fields.specs.declared.number.Step.{Step}
 use Rattle.fields.specs.declared.number.Step.the-variants as vs
-use Rattle.fields.specs.Writing.{Outcome, bytes, refused}
+use Rattle.algebra.specs.Writing.{Outcome, bytes, refused}
 use Rattle.fields.specs.declared.store.Written.{Written}
 use Rattle.fields.specs.declared.store.Written.the-variants as vw
-use Rattle.fields.specs.declared.text.NameAt.{NameAt}
-use Rattle.fields.specs.declared.text.NameAt.the-variants as vn
 
 -- a number and the next place, or 2 at the place `at` where it was looked for
 abbrev pub told8 : ℕ → Number8 → Res ℕ
@@ -38,11 +36,6 @@ told64 at n64.Short = refuse 2 at 0 0
 abbrev pub toldStep : Step → Res Unit
 toldStep (vs.Next n) = ok tt n
 toldStep (vs.Refused x p) = refuse x p 0 0
-
--- a name's first unit and its number of units, and the next place; or a refusal's number and place
-abbrev pub toldName : NameAt → Res (ℕ × ℕ)
-toldName (vn.Is first units n) = ok (first, units) n
-toldName (vn.Refused x p) = refuse x p 0 0
 
 -- what a writer answers: how many bytes, or a refusal's number, at place 0
 abbrev pub toldWritten : Written → Outcome

@@ -1,14 +1,1 @@
-pub mod Numbers
-pub mod Reader
-pub mod Text
-pub mod Lanes
-pub mod Faults
-pub mod Store
-pub mod Writing
-pub mod Algebra
-pub mod Refusal
 pub mod Answer
-pub mod Sets
-pub mod Cut
-pub mod Wide
-pub mod Closing

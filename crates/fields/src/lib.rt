@@ -1,10 +1,9 @@
-// Numbers, runs of bytes and names at a place of a file, and the same stored in lent bytes.
+// Numbers and runs of bytes at a place of a file, and numbers, runs and names stored in lent bytes.
 //
 // Each reader takes any place, and answers with the next place or that the file ends too early.
 // Each store leaves the bytes alone where they have no room.
 mod number;
 mod store;
-mod text;
 
 pub use number::Number8;
 pub use number::Number16;
@@ -27,7 +26,3 @@ pub use store::put_name32;
 pub use store::put_run;
 pub use store::put_u16;
 pub use store::put_u32;
-pub use text::NameAt;
-pub use text::name16_at;
-pub use text::name32_at;
-pub use text::text_at;

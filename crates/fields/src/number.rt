@@ -3,8 +3,8 @@ ghost use mathlib.Core.Path.{_≡_};
 ghost use Prim.Native.Nat.{_+_, _*_, _/_, _%_, _≤_, _<_};
 ghost use lib.Dec.{eqb};
 ghost use lib.ListN.{length};
-ghost use Rattle.fields.specs.Numbers.{num};
-ghost use Rattle.fields.specs.Reader.{field, body, done, judged, orZero, unless};
+ghost use Rattle.algebra.specs.Numbers.{num};
+ghost use Rattle.algebra.specs.Reader.{field, body, done, judged, orZero, unless};
 ghost use Rattle.fields.specs.Answer.{told8, told16, told32, told64, toldStep};
 
 // A number of 8 bits and the next place, or Short where no byte remains.

@@ -4,9 +4,9 @@ ghost use Prim.Native.Nat.{_+_, _≤_};
 ghost use mathlib.Core.List.{_++_};
 ghost use lib.Dec.{leb};
 ghost use lib.ListN.{length};
-ghost use Rattle.fields.specs.Numbers.{be};
-ghost use Rattle.fields.specs.Text.{countedUnits};
-ghost use Rattle.fields.specs.Store.{stored};
+ghost use Rattle.algebra.specs.Numbers.{be};
+ghost use Rattle.algebra.specs.Text.{countedUnits};
+ghost use Rattle.algebra.specs.Store.{stored};
 
 // How many bytes writing takes, or the refusal's number; its place is 0.
 pub enum Written {

@@ -4,7 +4,7 @@ use mathlib.Core.List.{List, [], _∷_}
 use lib.Dec.{eqb}
 use lib.IntN.{ℤ, pos}
 use lib.ListN.{getD}
-use Rattle.fields.specs.Reader.{pick}
+use Rattle.algebra.specs.Reader.{pick}
 use Rattle.acb.specs.Grammar.{Tag, none, spot, process, Ending, tagged, other}
 use Rattle.acb_judge.specs.Answer.{Shown, Verdict, accepted, refused}
 use Rattle.acb_read.specs.Answer.{Where, lies, refusal}

@@ -4,7 +4,7 @@ use mathlib.Core.List.{List, [], _∷_}
 use Rattle.colour.specs.declared.space.Colour.{Colour}
 use Rattle.aco_judge.specs.Answer.{Verdict, accepted, refused}
 use Rattle.aco_read.specs.Table.{Where, lies, refusal}
-use Rattle.fields.specs.Writing.{Outcome, bytes, refused as unwritten}
+use Rattle.algebra.specs.Writing.{Outcome, bytes, refused as unwritten}
 use lib.Ieee.{Float, binary32, toBits}
 use Rattle.colour.specs.Convert.{Converted, gives, refused as noChannel}
 use Rattle.ase_judge.specs.Answer as palette

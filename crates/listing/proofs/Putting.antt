@@ -9,8 +9,8 @@ use lib.Dec.{leb, ltb}
 use borrow.Author.Tests.{lt-ltb, le-ltb, le-leb, ltb-true}
 use native.Mathlib.Omega.{arith}
 use native.Mathlib.Numerals.{add-one}
-use Rattle.fields.specs.Reader.{pick}
-use Rattle.fields.specs.Numbers.{joined}
+use Rattle.algebra.specs.Reader.{pick}
+use Rattle.algebra.specs.Numbers.{joined}
 use Rattle.listing.specs.Buffer.{Buffer, putOne, putAll}
 use Rattle.listing.specs.Text.{lines}
 

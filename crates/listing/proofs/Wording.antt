@@ -8,9 +8,9 @@ use native.Mathlib.Nat.{pow-zero, pow-suc}
 use Rattle.io.specs.Digits.{glyph, digits, Fewest}
 use lib.ListN.{length, drop-of-length-le}
 use lib.Seq.{sets-eq}
-use Rattle.fields.specs.Numbers.{joined}
-use Rattle.fields.specs.Store.{stored}
-use Rattle.fields.proofs.Stores.{stored-in}
+use Rattle.algebra.specs.Numbers.{joined}
+use Rattle.algebra.specs.Store.{stored}
+use Rattle.algebra.proofs.Stores.{stored-in}
 use Rattle.listing.specs.Buffer.{Buffer, putOne, putAll}
 use Rattle.listing.specs.Text.{digit, decimalIn, hex, name, refusal, taken}
 

@@ -5,8 +5,8 @@ use Prim.Native.Char.{code}
 use mathlib.Core.List.{List, [], _∷_, _++_}
 use lib.ListN.{length}
 use lib.Dec.{ltb, leb}
-use Rattle.fields.specs.Reader.{pick}
-use Rattle.fields.specs.Numbers.{be, joined}
+use Rattle.algebra.specs.Reader.{pick}
+use Rattle.algebra.specs.Numbers.{be, joined}
 
 -- a text in ASCII
 abbrev pub ascii : String → List ℕ

@@ -7,9 +7,9 @@ use lib.Dec.{ltb, eqb}
 use lib.ListN.{length, getD}
 use borrow.Author.Tests.{eq-eqb, ne-eqb, lt-ltb, le-ltb, ltb-true, ltb-false}
 use native.Mathlib.Omega.{arith}
-use Rattle.fields.specs.Reader.{Res, ok, refuse, Reader, pick, each, chain}
-use Rattle.fields.proofs.Inverse.{each-none, each-inv}
-use Rattle.fields.proofs.Chain.{chain-none, chain-inv}
+use Rattle.algebra.specs.Reader.{Res, ok, refuse, Reader, pick, each, chain}
+use Rattle.algebra.proofs.Inverse.{each-none, each-inv}
+use Rattle.algebra.proofs.Chain.{chain-none, chain-inv}
 use Rattle.walk.specs.Walk.{Call, gives, over, refused, Step, placeAfter, after, call, inTurn, lost, answered, step, sought, seek, only}
 
 -- ---- calls in turn

@@ -5,7 +5,7 @@ use mathlib.Core.List.{List, []}
 use lib.ListN.{length, take, drop}
 use borrow.Author.Tests.{le-leb, lt-leb}
 use native.Mathlib.Omega.{arith}
-use Rattle.fields.specs.Store.{part}
+use Rattle.algebra.specs.Store.{part}
 use Rattle.walk.specs.Names.{namePart}
 
 module _ (s : List ℕ) (place units : ℕ) where

@@ -3,8 +3,8 @@ use Prim.Native.Nat.{ℕ, _+_, _*_}
 use mathlib.Core.List.{List, []}
 use lib.ListN.{length}
 use lib.Dec.{leb}
-use Rattle.fields.specs.Reader.{pick}
-use Rattle.fields.specs.Store.{part}
+use Rattle.algebra.specs.Reader.{pick}
+use Rattle.algebra.specs.Store.{part}
 
 -- the bytes of a number of units from a place; none where they do not lie inside the file
 abbrev pub namePart : List ℕ → ℕ → ℕ → List ℕ

@@ -4,7 +4,7 @@ use mathlib.Core.List.{List, [], _∷_}
 use mathlib.Core.Bool.{Bool}
 use lib.Dec.{eqb}
 use lib.ListN.{length}
-use Rattle.fields.specs.Reader.{Res, ok, refuse, Reader, pick}
+use Rattle.algebra.specs.Reader.{Res, ok, refuse, Reader, pick}
 
 -- what a call answers: an item, done, or a refusal's number and place
 pub data Call (A : Type 0) : Type 0 where

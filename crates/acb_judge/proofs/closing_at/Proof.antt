@@ -1,6 +1,6 @@
 use mathlib.Core.Path.{sym, ap, _∙_}
 use lib.ListN.{length}
-use Rattle.fields.specs.Reader.{ok}
+use Rattle.algebra.specs.Reader.{ok}
 use Rattle.fields.specs.Answer.{told64}
 use Rattle.acb.specs.Grammar.{Tag}
 use Rattle.acb_judge.specs.Answer.{toldKnown}

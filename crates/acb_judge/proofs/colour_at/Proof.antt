@@ -1,6 +1,6 @@
 use mathlib.Core.Path.{sym, ap, _∙_}
 use native.Mathlib.Omega.{arith}
-use Rattle.fields.specs.Answer.{toldName}
+use Rattle.names.specs.Answer.{toldName}
 use Rattle.acb_judge.proofs.Judging.{string-in, colour-no, code-short, components-short, colour-in}
 use borrow.Author.Needs.{needs}
 use Rattle.acb_judge.proofs.colour_at.Statement.{statement}

@@ -3,9 +3,9 @@ use native.Mathlib.Omega.{arith}
 use borrow.Author.Needs.{needs}
 use Prim.Native.Nat.{_-_, _≤_}
 use Rattle.fields.specs.Answer.{toldStep}
-use Rattle.fields.specs.Reader.{done, each}
+use Rattle.algebra.specs.Reader.{done, each}
 use Rattle.acb.specs.Reading.{colour}
-use Rattle.fields.proofs.Laws.{turn-start, turn-ok, turn-no, turn-end}
+use Rattle.algebra.proofs.Laws.{turn-start, turn-ok, turn-no, turn-end}
 use Rattle.acb_judge.proofs.colours_at.Statement.{statement}
 use Rattle.acb_judge.proofs.colours_at.Tie as tie
 

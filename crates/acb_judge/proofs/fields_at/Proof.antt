@@ -1,5 +1,5 @@
 use mathlib.Core.Path.{refl, sym, ap, _∙_}
-use Rattle.fields.proofs.Sequence.{step-no, step-on}
+use Rattle.algebra.proofs.Sequence.{step-no, step-on}
 use Rattle.acb_judge.specs.Answer.{toldStrings, toldCounts}
 use Rattle.acb_judge.proofs.Judging.{header-parts}
 use borrow.Author.Needs.{needs}

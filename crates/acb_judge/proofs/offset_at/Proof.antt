@@ -1,6 +1,6 @@
 use mathlib.Core.Path.{refl, sym, ap, _∙_}
 use Rattle.fields.specs.Answer.{told16}
-use Rattle.fields.proofs.Sequence.{step-no, step-on}
+use Rattle.algebra.proofs.Sequence.{step-no, step-on}
 use Rattle.acb_judge.specs.Parts.{offsets}
 use Rattle.acb_judge.specs.Answer.{toldOpening}
 use borrow.Author.Needs.{needs}

@@ -1,6 +1,6 @@
 use mathlib.Core.Path.{sym, ap, _∙_}
 use Rattle.fields.specs.Answer.{told16, told32, toldStep}
-use Rattle.fields.proofs.Sequence.{step-no, step-on}
+use Rattle.algebra.proofs.Sequence.{step-no, step-on}
 use Rattle.acb_judge.proofs.Judging.{opening-short, opening-bad, opening-good}
 use borrow.Author.Needs.{needs}
 use Rattle.acb_judge.proofs.opening_at.Statement.{statement}

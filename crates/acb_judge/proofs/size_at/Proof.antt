@@ -2,7 +2,7 @@ use mathlib.Core.Path.{sym, ap, _∙_}
 use native.Mathlib.Omega.{arith}
 use borrow.Author.Tests.{lt-ltb}
 use Rattle.fields.specs.Answer.{told16}
-use Rattle.fields.proofs.Laws.{judged-short, judged-bad, judged-ok}
+use Rattle.algebra.proofs.Laws.{judged-short, judged-bad, judged-ok}
 use Rattle.acb.specs.Reading.{pageSize}
 use borrow.Author.Needs.{needs}
 use Rattle.acb_judge.proofs.size_at.Statement.{statement}

@@ -1,7 +1,7 @@
 use borrow.Author.Tests.{not-true, not-false}
 use mathlib.Core.Path.{sym, ap, _∙_}
 use Rattle.fields.specs.Answer.{told16}
-use Rattle.fields.proofs.Laws.{judged-short, judged-bad, judged-ok}
+use Rattle.algebra.proofs.Laws.{judged-short, judged-bad, judged-ok}
 use Rattle.acb.specs.Reading.{space}
 use borrow.Author.Needs.{needs}
 use Rattle.acb_judge.proofs.space_at.Statement.{statement}

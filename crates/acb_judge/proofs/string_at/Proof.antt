@@ -1,7 +1,7 @@
 use mathlib.Core.Path.{sym, ap, _∙_}
 use native.Mathlib.Omega.{arith}
 use Rattle.fields.specs.Answer.{told32}
-use Rattle.fields.proofs.Laws.{field-next}
+use Rattle.algebra.proofs.Laws.{field-next}
 use Rattle.acb_judge.proofs.Judging.{string-short, string-cut, string-is}
 use borrow.Author.Needs.{needs}
 use Rattle.acb_judge.proofs.string_at.Statement.{statement}

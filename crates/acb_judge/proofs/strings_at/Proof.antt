@@ -1,5 +1,5 @@
 use mathlib.Core.Path.{refl, sym, ap, _∙_}
-use Rattle.fields.proofs.Sequence.{step-no, step-on}
+use Rattle.algebra.proofs.Sequence.{step-no, step-on}
 use Rattle.acb_judge.specs.Answer.{toldTwo}
 use Rattle.acb_judge.proofs.Judging.{strings-two}
 use borrow.Author.Needs.{needs}

@@ -1,6 +1,6 @@
 use mathlib.Core.Path.{refl, sym, ap, _∙_}
-use Rattle.fields.specs.Answer.{toldName}
-use Rattle.fields.proofs.Sequence.{step-no, step-on}
+use Rattle.names.specs.Answer.{toldName}
+use Rattle.algebra.proofs.Sequence.{step-no, step-on}
 use Rattle.acb_judge.specs.Parts.{two}
 use borrow.Author.Needs.{needs}
 use Rattle.acb_judge.proofs.two_at.Statement.{statement}

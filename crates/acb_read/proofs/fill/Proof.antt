@@ -4,12 +4,12 @@ use lib.ListN.{length, drop}
 use lib.Seq.{sets}
 use native.Mathlib.Omega.{arith}
 use borrow.Author.Needs.{needs}
-use Rattle.fields.specs.Numbers.{joined}
+use Rattle.algebra.specs.Numbers.{joined}
 use Rattle.acb.specs.Reading.{acb}
 use Rattle.acb_read.specs.Table.{row, blank}
 use Rattle.acb_read.specs.Raw.{recordPlace, entriesOf}
 use Rattle.acb_read.proofs.Filling.{place-first, length-entries, count-small, Here, here}
-use Rattle.fields.proofs.Rows.{fill-turn, fill-end}
+use Rattle.algebra.proofs.Rows.{fill-turn, fill-end}
 use Rattle.acb_read.proofs.fill.Statement.{statement}
 use Rattle.acb_read.proofs.fill.Tie as tie
 

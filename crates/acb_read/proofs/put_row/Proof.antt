@@ -3,7 +3,7 @@ use mathlib.Core.List.{List}
 use mathlib.Core.Path.{_≡_, ap, _∙_}
 use lib.Seq.{sets}
 use native.Mathlib.Omega.{arith}
-use Rattle.fields.specs.Numbers.{num}
+use Rattle.algebra.specs.Numbers.{num}
 use Rattle.acb_read.proofs.Records.{loaded, row-loaded}
 use borrow.Author.Needs.{needs}
 use Rattle.acb_read.proofs.put_row.Statement.{statement}

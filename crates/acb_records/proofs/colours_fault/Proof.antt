@@ -1,8 +1,8 @@
-use Rattle.fields.proofs.Counted.{faults-start, faults-found, faults-more, faults-end}
+use Rattle.algebra.proofs.Counted.{faults-start, faults-found, faults-more, faults-end}
 use mathlib.Core.Path.{_≡_, ap, _∙_}
 use native.Mathlib.Omega.{arith}
 use Prim.Native.Nat.{_-_, _≤_}
-use Rattle.fields.specs.Faults.{faults}
+use Rattle.algebra.specs.Faults.{faults}
 use Rattle.acb_records.specs.Writing.{givenAt, givens, colourFault}
 use borrow.Author.Needs.{needs}
 use Rattle.acb_records.proofs.colours_fault.Statement.{statement}

@@ -1,6 +1,6 @@
 use Rattle.acb_records.proofs.Judging.{byte-bad, byte-fine, found-none, three-or-more, just-three, all-four}
 use Rattle.acb_records.specs.Writing.{byteFault}
-use Rattle.fields.specs.Faults.{faults}
+use Rattle.algebra.specs.Faults.{faults}
 use mathlib.Core.Path.{ap, _∙_}
 use Rattle.acb_records.proofs.components_fault.Statement.{statement}
 use Rattle.acb_records.proofs.components_fault.Tie as tie

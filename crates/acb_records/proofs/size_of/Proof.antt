@@ -1,6 +1,6 @@
 use Rattle.acb.proofs.Laws.{components-some}
 use Rattle.acb_records.proofs.Judging.{toned, sizes-start, sizes-turn, sizes-end}
-use Rattle.fields.proofs.Writing.{size-fits, size-over}
+use Rattle.algebra.proofs.Writing.{size-fits, size-over}
 use mathlib.Core.Path.{_≡_, ap, _∙_}
 use native.Mathlib.Omega.{arith}
 use Prim.Native.Nat.{ℕ, _+_, _-_, _≤_}

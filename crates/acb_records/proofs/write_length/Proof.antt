@@ -2,8 +2,8 @@ use mathlib.Core.Path.{sym, ap, _∙_}
 use native.Mathlib.Omega.{arith}
 use borrow.Author.Needs.{needs}
 use Rattle.fields.specs.Answer.{toldWritten}
-use Rattle.fields.proofs.Counted.{length-counted}
-use Rattle.fields.proofs.Writing.{size-is, size-passes}
+use Rattle.algebra.proofs.Counted.{length-counted}
+use Rattle.algebra.proofs.Writing.{size-is, size-passes}
 use Rattle.acb.proofs.Laws.{components-some}
 use Rattle.acb.specs.Faults.{endingFault}
 use Rattle.acb_records.specs.Writing.{givenAt}

@@ -1,7 +1,7 @@
 use borrow.Author.Needs.{needs}
 use mathlib.Core.Path.{_≡_, sym, ap, _∙_}
 use native.Mathlib.Omega.{arith}
-use Rattle.fields.specs.Numbers.{Bytes}
+use Rattle.algebra.specs.Numbers.{Bytes}
 use Rattle.acb.specs.Reading.{acb}
 use Rattle.acb_read.specs.Table.{recordAt}
 use Rattle.acb_read.specs.Answer.{lies, toldPlace, Shown, shown}

@@ -6,7 +6,7 @@ use mathlib.Core.List.{map}
 use mathlib.Core.Path.{subst, _≡_, refl, sym, ap, _∙_}
 use native.Mathlib.Omega.{arith}
 use Prim.Native.Nat.{_+_, _-_, _≤_}
-use Rattle.fields.specs.Numbers.{joined}
+use Rattle.algebra.specs.Numbers.{joined}
 use Rattle.acb.specs.Grammar.{colourBytes}
 use Rattle.acb_records.specs.Writing.{Given, givenAt, givens, colourIn, sizes, sizeIn}
 use Rattle.acb_records.specs.Parts.{RecordFits, RecordsFit, givenOf}

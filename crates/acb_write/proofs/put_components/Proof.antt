@@ -6,7 +6,7 @@ use lib.Seq.{sets}
 use mathlib.Core.List.{List}
 use mathlib.Core.Path.{ap, _∙_}
 use Prim.Native.Nat.{ℕ}
-use Rattle.fields.specs.Numbers.{be, joined}
+use Rattle.algebra.specs.Numbers.{be, joined}
 use borrow.Author.Needs.{needs}
 use Rattle.acb_write.proofs.put_components.Statement.{statement}
 use Rattle.acb_write.proofs.put_components.Tie as tie

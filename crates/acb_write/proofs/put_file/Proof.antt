@@ -1,4 +1,4 @@
-use Rattle.fields.proofs.Counted.{length-counted}
+use Rattle.algebra.proofs.Counted.{length-counted}
 use Rattle.acb_write.proofs.Puts.{put-file}
 use Rattle.acb_records.proofs.Outcomes.{no-fault, records-fit}
 use mathlib.Core.Path.{_≡_, subst, ap}

@@ -1,6 +1,6 @@
 use Rattle.acb_write.proofs.Puts.{file-front}
 use Rattle.acb_records.proofs.Outcomes.{needed-bytes}
-use Rattle.fields.proofs.Writing.{writes-no, writes-none, writes-all}
+use Rattle.algebra.proofs.Writing.{writes-no, writes-none, writes-all}
 use Rattle.fields.specs.Answer.{toldWritten}
 use mathlib.Core.Path.{sym, ap, _∙_}
 use native.Mathlib.Omega.{arith}

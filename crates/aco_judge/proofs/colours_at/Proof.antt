@@ -3,12 +3,12 @@ use native.Mathlib.Omega.{arith}
 use borrow.Author.Needs.{needs}
 use Prim.Native.Nat.{_-_, _≤_}
 use Rattle.fields.specs.Answer.{toldStep}
-use Rattle.fields.specs.Reader.{done, each}
+use Rattle.algebra.specs.Reader.{done, each}
 use Rattle.aco.specs.Reading.{colour}
 use lib.ListN.{length}
-use Rattle.fields.proofs.Inverse.{done-inv}
+use Rattle.algebra.proofs.Inverse.{done-inv}
 use Rattle.aco.proofs.Raw.{colour-moves}
-use Rattle.fields.proofs.Laws.{turn-start, turn-ok, turn-no, turn-end}
+use Rattle.algebra.proofs.Laws.{turn-start, turn-ok, turn-no, turn-end}
 use Rattle.aco_judge.proofs.colours_at.Statement.{statement}
 use Rattle.aco_judge.proofs.colours_at.Tie as tie
 

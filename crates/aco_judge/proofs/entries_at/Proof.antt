@@ -2,15 +2,16 @@ use mathlib.Core.Path.{_≡_, sym, ap, _∙_}
 use native.Mathlib.Omega.{arith}
 use borrow.Author.Needs.{needs}
 use Prim.Native.Nat.{_-_, _≤_}
-use Rattle.fields.specs.Answer.{told16, toldName}
+use Rattle.fields.specs.Answer.{told16}
+use Rattle.names.specs.Answer.{toldName}
 use mathlib.Core.Logic.{⊎-elim}
 use lib.ListN.{getD}
-use Rattle.fields.specs.Reader.{done, each, then}
+use Rattle.algebra.specs.Reader.{done, each, then}
 use Rattle.aco.specs.Reading.{twin, black}
 use Rattle.aco.specs.Raw.{rawColours}
 use Rattle.aco_judge.proofs.Judging.{entryOf, named, entry-start, entry-named, entry-refused, twin-short, twin-differs, twin-same, twins-same, raw-field}
 use Rattle.aco.proofs.Raw.{fields-raw}
-use Rattle.fields.proofs.Laws.{turn-start, turn-end, inner-ok, inner-no, inner-end}
+use Rattle.algebra.proofs.Laws.{turn-start, turn-end, inner-ok, inner-no, inner-end}
 use Rattle.aco_judge.proofs.entries_at.Statement.{statement}
 use Rattle.aco_judge.proofs.entries_at.Tie as tie
 

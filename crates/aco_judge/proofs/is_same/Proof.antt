@@ -4,8 +4,8 @@ use mathlib.Core.Bool.{true≢false}
 use native.Mathlib.Omega.{arith}
 use native.Mathlib.Nat.{add-zero}
 use borrow.Author.Tests.{eqb-true}
-use Rattle.fields.specs.Numbers.{num}
-use Rattle.fields.proofs.Places.{load-part, ten-same}
+use Rattle.algebra.specs.Numbers.{num}
+use Rattle.algebra.proofs.Places.{load-part, ten-same}
 use borrow.Author.Needs.{needs}
 use Rattle.aco_judge.proofs.is_same.Statement.{statement}
 use Rattle.aco_judge.proofs.is_same.Tie as tie

@@ -3,8 +3,8 @@ use mathlib.Core.Path.{sym, ap, _∙_}
 use mathlib.Core.Bool.{true≢false}
 use native.Mathlib.Omega.{arith}
 use native.Mathlib.Nat.{add-zero}
-use Rattle.fields.specs.Numbers.{num}
-use Rattle.fields.proofs.Places.{load-part}
+use Rattle.algebra.specs.Numbers.{num}
+use Rattle.algebra.proofs.Places.{load-part}
 use Rattle.aco_judge.proofs.Judging.{colour-sound}
 use borrow.Author.Needs.{needs}
 use Rattle.aco_judge.proofs.is_sound.Statement.{statement}

@@ -2,7 +2,7 @@ use mathlib.Core.Path.{sym, ap, _∙_}
 use native.Mathlib.Omega.{arith}
 use Rattle.aco_judge.specs.Answer.{toldHeading, verdict}
 use Rattle.aco_judge.proofs.Judging.{heading-is, aco-long, aco-heading, aco-count, aco-lists}
-use Rattle.fields.specs.Reader.{fine}
+use Rattle.algebra.specs.Reader.{fine}
 use borrow.Author.Needs.{needs}
 use Rattle.aco_judge.proofs.judge.Statement.{statement}
 use Rattle.aco_judge.proofs.judge.Tie as tie

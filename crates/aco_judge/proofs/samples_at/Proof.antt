@@ -4,9 +4,9 @@ use native.Mathlib.Omega.{arith}
 use borrow.Author.Needs.{needs}
 use Prim.Native.Nat.{_-_, _≤_}
 use Rattle.fields.specs.Answer.{told16}
-use Rattle.fields.specs.Reader.{done, each, judged}
+use Rattle.algebra.specs.Reader.{done, each, judged}
 use Rattle.aco.specs.Reading.{samples, sample}
-use Rattle.fields.proofs.Laws.{turn-ok, turn-no, turn-end, judged-short, judged-bad, judged-ok}
+use Rattle.algebra.proofs.Laws.{turn-ok, turn-no, turn-end, judged-short, judged-bad, judged-ok}
 use Rattle.aco_judge.proofs.samples_at.Statement.{statement}
 use Rattle.aco_judge.proofs.samples_at.Tie as tie
 

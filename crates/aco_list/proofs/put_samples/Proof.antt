@@ -3,7 +3,7 @@ use native.Mathlib.Omega.{arith}
 use Prim.Native.Nat.{ℕ, _-_, _≤_}
 use lib.ListN.{length, drop}
 use mathlib.Core.Path.{_≡_, refl, sym, ap, _∙_}
-use Rattle.fields.specs.Numbers.{joined}
+use Rattle.algebra.specs.Numbers.{joined}
 use Rattle.listing.specs.Buffer.{putAll}
 use Rattle.listing.specs.Text.{word}
 use Rattle.listing.proofs.Putting.{items-turn, items-end}

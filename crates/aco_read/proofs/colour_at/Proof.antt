@@ -2,8 +2,8 @@ use Prim.Native.Nat.{_+_, _-_}
 use mathlib.Core.Path.{ap, _∙_}
 use native.Mathlib.Omega.{arith}
 use native.Mathlib.Nat.{add-zero}
-use Rattle.fields.specs.Numbers.{num}
-use Rattle.fields.proofs.Places.{load-part}
+use Rattle.algebra.specs.Numbers.{num}
+use Rattle.algebra.proofs.Places.{load-part}
 use Rattle.aco_read.proofs.Filling.{five}
 use borrow.Author.Needs.{needs}
 use Rattle.aco_read.proofs.colour_at.Statement.{statement}

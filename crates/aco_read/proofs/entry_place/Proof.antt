@@ -2,7 +2,7 @@ use mathlib.Core.Path.{_≡_, refl, sym, ap, _∙_}
 use native.Mathlib.Omega.{arith}
 use borrow.Author.Needs.{needs}
 use Prim.Native.Nat.{_+_, _-_, _≤_}
-use Rattle.fields.specs.Reader.{limit}
+use Rattle.algebra.specs.Reader.{limit}
 use lib.ListN.{length}
 use Rattle.aco.specs.Places.{entryPlace}
 use Rattle.aco_read.proofs.Filling.{count-small, entry-first, Counted, counted-in, counted}

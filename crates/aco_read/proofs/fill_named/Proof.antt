@@ -1,16 +1,16 @@
 use borrow.Author.Needs.{needs}
-use Rattle.fields.specs.Reader.{limit}
+use Rattle.algebra.specs.Reader.{limit}
 use mathlib.Core.Path.{_≡_, refl, sym, _∙_}
 use native.Mathlib.Omega.{arith}
 use Prim.Native.Nat.{_+_, _-_, _*_, _≤_}
 use lib.ListN.{length, drop}
 use lib.Seq.{sets}
-use Rattle.fields.specs.Numbers.{joined}
+use Rattle.algebra.specs.Numbers.{joined}
 use Rattle.aco.specs.Reading.{aco, unnamed, black}
 use Rattle.aco.specs.Places.{entryPlace}
 use Rattle.aco_read.specs.Table.{row, recordsOf}
 use Rattle.aco_read.proofs.Filling.{named-colour, count-small, entry-first, length-records, Counted, counted-in, counted}
-use Rattle.fields.proofs.Rows.{fill-turn, fill-end}
+use Rattle.algebra.proofs.Rows.{fill-turn, fill-end}
 use Rattle.aco_read.proofs.fill_named.Statement.{statement}
 use Rattle.aco_read.proofs.fill_named.Tie as tie
 

@@ -4,11 +4,11 @@ use native.Mathlib.Omega.{arith}
 use Prim.Native.Nat.{_-_, _*_, _≤_}
 use lib.ListN.{length, drop}
 use lib.Seq.{sets}
-use Rattle.fields.specs.Numbers.{joined}
+use Rattle.algebra.specs.Numbers.{joined}
 use Rattle.aco.specs.Reading.{aco, unnamed, black}
 use Rattle.aco_read.specs.Table.{row, recordsOf}
 use Rattle.aco_read.proofs.Filling.{plain-in, plain-row, length-records}
-use Rattle.fields.proofs.Rows.{fill-turn, fill-end}
+use Rattle.algebra.proofs.Rows.{fill-turn, fill-end}
 use Rattle.aco_read.proofs.fill_plain.Statement.{statement}
 use Rattle.aco_read.proofs.fill_plain.Tie as tie
 

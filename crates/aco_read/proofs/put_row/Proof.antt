@@ -5,8 +5,8 @@ use lib.Seq.{sets}
 use native.Mathlib.Omega.{arith}
 use native.Mathlib.Nat.{add-zero}
 use native.Mathlib.Numerals.{unary-clauses}
-use Rattle.fields.specs.Numbers.{num}
-use Rattle.fields.proofs.Places.{load-part}
+use Rattle.algebra.specs.Numbers.{num}
+use Rattle.algebra.proofs.Places.{load-part}
 use Rattle.colour.specs.declared.space.Colour.{Colour}
 use Rattle.aco_read.specs.Table.{numbers}
 use Rattle.aco_read.proofs.Filling.{five}

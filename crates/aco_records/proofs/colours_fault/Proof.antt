@@ -1,9 +1,9 @@
-use Rattle.fields.proofs.Counted.{faults-start, faults-found, faults-more, faults-end}
+use Rattle.algebra.proofs.Counted.{faults-start, faults-found, faults-more, faults-end}
 use borrow.Author.Needs.{needs}
 use native.Mathlib.Omega.{arith}
 use Prim.Native.Nat.{_-_, _≤_}
 use mathlib.Core.Path.{_≡_}
-use Rattle.fields.specs.Faults.{faults}
+use Rattle.algebra.specs.Faults.{faults}
 use Rattle.aco_records.specs.Writing.{givenAt, givens, colourFault}
 use Rattle.aco_records.proofs.colours_fault.Statement.{statement}
 use Rattle.aco_records.proofs.colours_fault.Tie as tie

@@ -5,7 +5,7 @@ use Rattle.aco_records.proofs.Judging.{space-small, colour-faults}
 use borrow.Author.Needs.{needs}
 use Rattle.aco_records.proofs.fields_fault.Statement.{statement}
 use Rattle.aco_records.proofs.fields_fault.Tie as tie
-use Rattle.fields.proofs.Firsts.{hit, pass}
+use Rattle.algebra.proofs.Firsts.{hit, pass}
 
 mul-x : tie.Need-mul-x
 mul-x c = search needs

@@ -1,13 +1,13 @@
 use mathlib.Core.Path.{sym, ap, _∙_}
 use Prim.Native.Nat.{ℕ, _+_, _*_}
 use lib.ListN.{getD}
-use Rattle.fields.specs.Reader.{done}
-use Rattle.fields.specs.Text.{text}
+use Rattle.algebra.specs.Reader.{done}
+use Rattle.algebra.specs.Text.{text}
 use Rattle.fields.specs.Answer.{toldStep}
 use borrow.Author.Needs.{needs}
 use Rattle.aco_records.proofs.name_fault.Statement.{statement}
 use Rattle.aco_records.proofs.name_fault.Tie as tie
-use Rattle.fields.proofs.Firsts.{name-number}
+use Rattle.algebra.proofs.Firsts.{name-number}
 
 mul-wide : tie.Need-mul-wide
 mul-wide c = search needs

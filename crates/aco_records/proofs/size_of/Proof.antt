@@ -1,6 +1,6 @@
-use Rattle.fields.proofs.Counted.{counted-start}
+use Rattle.algebra.proofs.Counted.{counted-start}
 use Rattle.aco_records.proofs.Judging.{sizes-turn, sizes-end}
-use Rattle.fields.proofs.Writing.{size-fits, size-over}
+use Rattle.algebra.proofs.Writing.{size-fits, size-over}
 use borrow.Author.Needs.{needs}
 use native.Mathlib.Omega.{arith}
 use Prim.Native.Nat.{_+_, _-_, _≤_}

@@ -1,4 +1,4 @@
-use Rattle.fields.proofs.Counted.{length-counted}
+use Rattle.algebra.proofs.Counted.{length-counted}
 use mathlib.Core.Path.{sym, ap, _∙_}
 use Prim.Native.Nat.{_+_, _/_}
 use native.Mathlib.Omega.{arith}
@@ -6,7 +6,7 @@ use lib.ListN.{length}
 use Rattle.aco_records.specs.Writing.{givenAt, givens, sizes}
 use Rattle.fields.specs.Answer.{toldWritten}
 use Rattle.aco_records.proofs.Outcomes.{too-long, too-many, bad-colour, bad-name, all-fine}
-use Rattle.fields.proofs.Writing.{size-is, size-passes}
+use Rattle.algebra.proofs.Writing.{size-is, size-passes}
 use borrow.Author.Needs.{needs}
 use Rattle.aco_records.proofs.write_length.Statement.{statement}
 use Rattle.aco_records.proofs.write_length.Tie as tie

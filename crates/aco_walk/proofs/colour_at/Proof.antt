@@ -4,8 +4,8 @@ use native.Mathlib.Omega.{arith}
 use Prim.Native.Nat.{_+_, _-_}
 use mathlib.Core.Bool.{false}
 use native.Mathlib.Nat.{add-zero}
-use Rattle.fields.specs.Numbers.{num}
-use Rattle.fields.proofs.Places.{load-part}
+use Rattle.algebra.specs.Numbers.{num}
+use Rattle.algebra.proofs.Places.{load-part}
 use Rattle.colour.specs.declared.space.Colour.{Colour}
 use Rattle.aco_walk.proofs.Stepping.{tested-short, tested-unsound, tested-sound}
 use borrow.Author.Needs.{needs}

@@ -1,5 +1,5 @@
 use mathlib.Core.Path.{sym, ap, _∙_}
-use Rattle.fields.specs.Answer.{toldName}
+use Rattle.names.specs.Answer.{toldName}
 use Rattle.aco_walk.proofs.Stepping.{labelled-plain, labelled-named, labelled-lost}
 use borrow.Author.Needs.{needs}
 use Rattle.aco_walk.proofs.labelled_at.Statement.{statement}

@@ -8,7 +8,7 @@ use mathlib.Core.Path.{_≡_, refl, ap, _∙_}
 use lib.ListN.{length}
 use mathlib.Core.List.{[], map}
 use lib.Seq.{sets}
-use Rattle.fields.specs.Numbers.{joined}
+use Rattle.algebra.specs.Numbers.{joined}
 use Rattle.aco.specs.Grammar.{colourBytes}
 use Rattle.aco_records.specs.Writing.{givenAt, givens, swatchIn}
 use Rattle.aco_write.proofs.put_colours.Statement.{statement}

@@ -8,7 +8,7 @@ use mathlib.Core.Path.{_≡_, refl, sym, _∙_, subst}
 use lib.ListN.{length, getD}
 use mathlib.Core.List.{map}
 use lib.Seq.{sets}
-use Rattle.fields.specs.Numbers.{joined}
+use Rattle.algebra.specs.Numbers.{joined}
 use Rattle.aco.specs.Grammar.{entryBytes}
 use Rattle.aco_records.specs.Writing.{givenAt, givens, swatchIn}
 use Rattle.aco_write.proofs.put_entries.Statement.{statement}

@@ -2,8 +2,8 @@ use mathlib.Core.Path.{refl, ap, _∙_}
 use Prim.Native.Nat.{ℕ, _+_, _*_, _-_}
 use native.Mathlib.Omega.{arith}
 use lib.Seq.{sets}
-use Rattle.fields.specs.Store.{stored, part}
-use Rattle.fields.specs.Text.{countedUnits}
+use Rattle.algebra.specs.Store.{stored, part}
+use Rattle.algebra.specs.Text.{countedUnits}
 use Rattle.aco.specs.Grammar.{colourBytes}
 use Rattle.aco_records.specs.Writing.{givenAt}
 use Rattle.aco_records.specs.Parts.{plain, start}

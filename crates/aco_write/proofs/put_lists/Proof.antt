@@ -1,4 +1,4 @@
-use Rattle.fields.proofs.Counted.{length-counted}
+use Rattle.algebra.proofs.Counted.{length-counted}
 use Rattle.aco_records.specs.Writing.{givenAt}
 use native.Mathlib.Omega.{arith}
 use Rattle.aco_records.proofs.Judging.{sizes-all}

@@ -1,4 +1,4 @@
-use Rattle.fields.proofs.Counted.{length-counted}
+use Rattle.algebra.proofs.Counted.{length-counted}
 use mathlib.Core.Path.{sym, ap, _∙_}
 use Prim.Native.Nat.{_/_}
 use native.Mathlib.Omega.{arith}
@@ -8,7 +8,7 @@ use Rattle.fields.specs.Answer.{toldWritten}
 use Rattle.aco_write.proofs.Puts.{file-front}
 use mathlib.Core.List.{map}
 use Rattle.aco.specs.Grammar.{twoLists}
-use Rattle.fields.proofs.Writing.{writes-no, writes-none, writes-all}
+use Rattle.algebra.proofs.Writing.{writes-no, writes-none, writes-all}
 use Rattle.aco_records.proofs.Outcomes.{needed-bytes, no-fault}
 use borrow.Author.Needs.{needs}
 use Rattle.aco_write.proofs.write.Statement.{statement}

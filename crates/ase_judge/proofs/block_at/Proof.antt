@@ -3,7 +3,7 @@ use mathlib.Core.Path.{sym, ap, _∙_}
 use Prim.Native.Nat.{_-_}
 use borrow.Author.Tests.{not-true, not-false}
 use Rattle.ase_judge.proofs.Judging.{block-short, block-short-length, block-unknown, after-length, block-cut, room, block-held}
-use Rattle.fields.specs.Reader.{mapRes}
+use Rattle.algebra.specs.Reader.{mapRes}
 use Rattle.fields.specs.Answer.{told16, told32}
 use Rattle.ase_judge.specs.Answer.{passed}
 use borrow.Author.Needs.{needs}

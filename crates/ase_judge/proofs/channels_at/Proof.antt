@@ -2,10 +2,10 @@ use mathlib.Core.Path.{_≡_, sym, ap, _∙_}
 use native.Mathlib.Omega.{arith}
 use Prim.Native.Nat.{_-_, _≤_}
 use borrow.Author.Tests.{not-true, not-false}
-use Rattle.fields.specs.Reader.{done, each, judged}
+use Rattle.algebra.specs.Reader.{done, each, judged}
 use Rattle.fields.specs.Answer.{told32}
 use borrow.Author.Needs.{needs}
-use Rattle.fields.proofs.Laws.{turn-start, turn-ok, turn-no, turn-end, judged-short, judged-bad, judged-ok}
+use Rattle.algebra.proofs.Laws.{turn-start, turn-ok, turn-no, turn-end, judged-short, judged-bad, judged-ok}
 use Rattle.ase_judge.specs.Parts.{channelIn}
 use Rattle.ase_judge.proofs.channels_at.Statement.{statement}
 use Rattle.ase_judge.proofs.channels_at.Tie as tie

@@ -1,4 +1,4 @@
-use Rattle.fields.specs.Reader.{mapRes}
+use Rattle.algebra.specs.Reader.{mapRes}
 use Rattle.fields.specs.Answer.{toldStep}
 use Rattle.ase.specs.Reading.{inside}
 use lib.Seq.{length-take-le}

@@ -1,7 +1,7 @@
 use mathlib.Core.Path.{sym, ap, _∙_}
 use native.Mathlib.Omega.{arith}
 use borrow.Author.Needs.{needs}
-use Rattle.fields.specs.Reader.{mapRes}
+use Rattle.algebra.specs.Reader.{mapRes}
 use Rattle.ase_judge.specs.Answer.{passed}
 use Rattle.ase_judge.proofs.Judging.{content-start, content-stop, content-colour}
 use Rattle.ase_judge.proofs.content_at.Statement.{statement}

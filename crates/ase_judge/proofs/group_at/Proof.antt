@@ -1,8 +1,8 @@
 use mathlib.Core.Path.{sym, ap, _∙_}
 use Prim.Native.Nat.{_-_}
 use Rattle.ase_judge.proofs.Judging.{group-done}
-use Rattle.fields.specs.Reader.{done}
-use Rattle.fields.specs.Answer.{toldName}
+use Rattle.algebra.specs.Reader.{done}
+use Rattle.names.specs.Answer.{toldName}
 use borrow.Author.Needs.{needs}
 use Rattle.ase_judge.proofs.group_at.Statement.{statement}
 use Rattle.ase_judge.proofs.group_at.Tie as tie

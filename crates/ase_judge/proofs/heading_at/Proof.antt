@@ -1,5 +1,5 @@
 use mathlib.Core.Path.{sym, ap, _∙_}
-use Rattle.fields.specs.Reader.{Res, then, field, done, judged}
+use Rattle.algebra.specs.Reader.{Res, then, field, done, judged}
 use Rattle.fields.specs.Answer.{told32, toldStep}
 use Rattle.ase.specs.Reading.{marked}
 use Rattle.ase_judge.proofs.Judging.{heading-short, heading-bad, heading-good}

@@ -1,8 +1,8 @@
 use mathlib.Core.Path.{sym, ap, _∙_}
 use Prim.Native.Nat.{ℕ, _-_}
 use Rattle.ase_judge.proofs.Judging.{shade-done}
-use Rattle.fields.specs.Reader.{Res, done, then}
-use Rattle.fields.specs.Answer.{toldName}
+use Rattle.algebra.specs.Reader.{Res, done, then}
+use Rattle.names.specs.Answer.{toldName}
 use Rattle.ase_judge.specs.Parts.{paint}
 use borrow.Author.Needs.{needs}
 use Rattle.ase_judge.proofs.shade_at.Statement.{statement}

@@ -1,5 +1,5 @@
 use native.Mathlib.Omega.{arith}
-use Rattle.fields.specs.Reader.{mapRes}
+use Rattle.algebra.specs.Reader.{mapRes}
 use Rattle.fields.specs.Answer.{toldStep}
 use Rattle.ase.specs.Reading.{inside}
 use lib.Seq.{length-take-le}

@@ -2,9 +2,9 @@ use native.Mathlib.Omega.{arith}
 use mathlib.Core.Path.{sym, ap, _∙_}
 use Prim.Native.Nat.{_-_}
 use borrow.Author.Tests.{le-leb, lt-leb}
-use Rattle.fields.specs.Reader.{done}
+use Rattle.algebra.specs.Reader.{done}
 use Rattle.fields.specs.Answer.{told16}
-use Rattle.fields.proofs.Laws.{judged-short, judged-bad, judged-ok}
+use Rattle.algebra.proofs.Laws.{judged-short, judged-bad, judged-ok}
 use Rattle.ase.specs.Reading.{type}
 use borrow.Author.Needs.{needs}
 use Rattle.ase_judge.proofs.type_at.Statement.{statement}

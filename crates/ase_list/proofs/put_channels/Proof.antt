@@ -4,7 +4,7 @@ use Prim.Native.Nat.{ℕ, _-_, _≤_}
 use lib.ListN.{length, take, drop}
 use lib.Seq.{getD-take, length-take-le}
 use mathlib.Core.Path.{_≡_, refl, sym, ap, _∙_}
-use Rattle.fields.specs.Numbers.{joined}
+use Rattle.algebra.specs.Numbers.{joined}
 use Rattle.listing.specs.Buffer.{putAll}
 use Rattle.listing.proofs.Putting.{put-one, put-both, items-turn, items-end}
 use Rattle.ase_list.specs.Listing.{channel}

@@ -3,12 +3,12 @@ use mathlib.Core.Path.{_≡_, refl, sym, ap, _∙_}
 use lib.ListN.{length, drop}
 use lib.Seq.{sets}
 use native.Mathlib.Omega.{arith}
-use Rattle.fields.specs.Numbers.{joined}
+use Rattle.algebra.specs.Numbers.{joined}
 use Rattle.ase.specs.Reading.{stopped, ase}
 use Rattle.ase_read.specs.Table.{row}
 use Rattle.ase_read.specs.Raw.{rawRow, blockPlace, entriesOf}
 use Rattle.ase_read.proofs.Filling.{place-first, length-entries, count-small, Here, here}
-use Rattle.fields.proofs.Rows.{fill-turn, fill-end}
+use Rattle.algebra.proofs.Rows.{fill-turn, fill-end}
 use borrow.Author.Needs.{needs}
 use Rattle.ase_read.proofs.fill.Statement.{statement}
 use Rattle.ase_read.proofs.fill.Tie as tie

@@ -1,6 +1,6 @@
-use Rattle.fields.proofs.Counted.{counted-start}
+use Rattle.algebra.proofs.Counted.{counted-start}
 use Rattle.ase_records.proofs.Judging.{sizes-turn, sizes-end}
-use Rattle.fields.proofs.Writing.{size-fits, size-over}
+use Rattle.algebra.proofs.Writing.{size-fits, size-over}
 use mathlib.Core.Path.{_≡_, sym, ap, _∙_}
 use native.Mathlib.Omega.{arith}
 use Rattle.ase_records.specs.Writing.{givenAt, givens, sizeIn, sizes}

@@ -1,5 +1,5 @@
 use Rattle.ase_records.proofs.Outcomes.{too-long, bad-block, all-fine}
-use Rattle.fields.proofs.Writing.{size-is, size-passes}
+use Rattle.algebra.proofs.Writing.{size-is, size-passes}
 use Rattle.fields.specs.Answer.{toldWritten}
 use mathlib.Core.Path.{sym, ap, _∙_}
 use Rattle.ase_records.specs.Writing.{givens, sizes}

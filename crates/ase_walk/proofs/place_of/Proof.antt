@@ -2,7 +2,7 @@ use Prim.Native.Nat.{_+_}
 use mathlib.Core.Path.{sym, ap}
 use mathlib.Core.Bool.{Bool}
 use borrow.Author.Tests.{eq-eqb, ne-eqb}
-use Rattle.fields.specs.Reader.{pick}
+use Rattle.algebra.specs.Reader.{pick}
 use borrow.Author.Needs.{needs}
 use Rattle.ase_walk.proofs.place_of.Statement.{statement}
 use Rattle.ase_walk.proofs.place_of.Tie as tie

@@ -2,7 +2,7 @@ use Rattle.ase_records.proofs.Judging.{record-whole, fit-start, fit-next, fit-r
 use Rattle.ase_write.proofs.Puts.{puts-start, puts-turn, puts-end}
 use lib.Seq.{sets}
 use mathlib.Core.List.{map}
-use Rattle.fields.specs.Numbers.{joined}
+use Rattle.algebra.specs.Numbers.{joined}
 use Rattle.ase.specs.Grammar.{blockBytes}
 use Rattle.ase_records.specs.Writing.{blockIn, givenAt, givens, sizeIn}
 use Rattle.ase_records.specs.Parts.{RecordFits, RecordsFit, givenOf}

@@ -1,4 +1,4 @@
-use Rattle.fields.proofs.Counted.{length-counted}
+use Rattle.algebra.proofs.Counted.{length-counted}
 use Rattle.ase_records.proofs.Judging.{sizes-all}
 use Rattle.ase_write.proofs.Puts.{put-file}
 use native.Mathlib.Omega.{arith}

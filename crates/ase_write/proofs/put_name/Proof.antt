@@ -1,7 +1,7 @@
 use Rattle.ase_records.proofs.Judging.{name-short, name-inside}
 use Rattle.ase_write.proofs.Puts.{put-name}
-use Rattle.fields.specs.Store.{stored, part}
-use Rattle.fields.specs.Text.{countedUnits}
+use Rattle.algebra.specs.Store.{stored, part}
+use Rattle.algebra.specs.Text.{countedUnits}
 use Rattle.ase_records.specs.Parts.{start, givenOf}
 use Prim.Native.Nat.{ℕ, _+_, _-_, _*_}
 use mathlib.Core.Path.{ap, _∙_}

@@ -1,6 +1,6 @@
 use Rattle.ase_write.proofs.Puts.{file-front}
 use Rattle.ase_records.proofs.Outcomes.{needed-bytes, no-fault}
-use Rattle.fields.proofs.Writing.{writes-no, writes-none, writes-all}
+use Rattle.algebra.proofs.Writing.{writes-no, writes-none, writes-all}
 use Rattle.fields.specs.Answer.{toldWritten}
 use Rattle.ase_records.specs.Writing.{fault, size, blockIn, givens}
 use Rattle.ase.specs.Grammar.{fileBytes}

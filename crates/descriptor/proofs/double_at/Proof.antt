@@ -1,7 +1,7 @@
 use mathlib.Core.Path.{refl, sym, _∙_}
 use lib.Ieee.{binary64, ofBits}
 use lib.Ieee.Scale.{finite}
-use Rattle.fields.specs.Reader.{ok}
+use Rattle.algebra.specs.Reader.{ok}
 use Rattle.fields.specs.Answer.{told64}
 use Rattle.descriptor.proofs.Fields.{double-tested, heard, tested-short, tested-bad, tested-to}
 use borrow.Author.Needs.{needs}

@@ -1,10 +1,10 @@
 use mathlib.Core.Path.{_≡_, sym, ap, _∙_}
 use native.Mathlib.Omega.{arith}
 use Prim.Native.Nat.{_-_, _≤_}
-use Rattle.fields.specs.Reader.{done, each}
+use Rattle.algebra.specs.Reader.{done, each}
 use Rattle.fields.specs.Answer.{toldStep}
 use borrow.Author.Needs.{needs}
-use Rattle.fields.proofs.Laws.{turn-start, turn-ok, turn-no, turn-end}
+use Rattle.algebra.proofs.Laws.{turn-start, turn-ok, turn-no, turn-end}
 use Rattle.descriptor.specs.Reading.{double}
 use Rattle.descriptor.proofs.Fields.{done-unit}
 use Rattle.descriptor.proofs.doubles_at.Statement.{statement}

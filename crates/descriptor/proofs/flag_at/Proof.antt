@@ -1,7 +1,7 @@
 use mathlib.Core.Path.{refl, _∙_}
 use lib.Dec.{leb}
 use borrow.Author.Tests.{le-leb, lt-leb}
-use Rattle.fields.specs.Reader.{ok}
+use Rattle.algebra.specs.Reader.{ok}
 use Rattle.fields.specs.Answer.{told8}
 use Rattle.descriptor.proofs.Fields.{flag-tested, heard, tested-short, tested-bad, tested-to}
 use borrow.Author.Needs.{needs}

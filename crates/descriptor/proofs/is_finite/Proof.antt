@@ -1,4 +1,4 @@
-use Rattle.fields.proofs.Floats.{finite-bits}
+use Rattle.algebra.proofs.Floats.{finite-bits}
 use lib.Ieee.{binary64}
 use mathlib.Core.Path.{sym}
 use Rattle.descriptor.proofs.is_finite.Statement.{statement}

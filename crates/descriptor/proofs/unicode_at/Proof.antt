@@ -1,6 +1,6 @@
 use Rattle.descriptor.proofs.Fields.{after, unicode-none, unicode-cut, unicode-open, unicode-is}
 use Rattle.descriptor.specs.Reading.{unicode}
-use Rattle.fields.proofs.Laws.{field-next}
+use Rattle.algebra.proofs.Laws.{field-next}
 use Rattle.fields.specs.Answer.{told32}
 use native.Mathlib.Omega.{arith}
 use mathlib.Core.Path.{refl, sym, ap, _∙_}

@@ -7,8 +7,8 @@ use mathlib.Core.List.{List}
 use lib.ListN.{take}
 use lib.Seq.{length-take-le}
 use mathlib.Core.Path.{_≡_, refl, sym, ap, ap₂, _∙_}
-use Rattle.fields.specs.Numbers.{be}
-use Rattle.fields.proofs.Places.{length-be}
+use Rattle.algebra.specs.Numbers.{be}
+use Rattle.algebra.proofs.Places.{length-be}
 use Rattle.listing.specs.Buffer.{putAll}
 use Rattle.listing.proofs.Wording.{stored-whole}
 use Rattle.descriptor_list.specs.Listing.{kept}

@@ -4,7 +4,7 @@ use Prim.Native.Nat.{ℕ, _-_, _*_, _≤_}
 use mathlib.Core.List.{List, _++_}
 use lib.ListN.{length, drop}
 use mathlib.Core.Path.{_≡_, refl, sym}
-use Rattle.fields.specs.Numbers.{joined}
+use Rattle.algebra.specs.Numbers.{joined}
 use Rattle.descriptor.specs.Reading.{Row}
 use Rattle.descriptor_read.specs.Table.{numbers}
 use Rattle.listing.specs.Buffer.{putAll}

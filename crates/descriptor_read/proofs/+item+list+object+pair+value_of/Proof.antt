@@ -7,7 +7,7 @@ use borrow.Author.Needs.{needs}
 use denote.Ref.{now}
 use lib.ListN.{length}
 use Rattle.fields.specs.Answer.{told32, toldStep}
-use Rattle.fields.proofs.Laws.{field-next}
+use Rattle.algebra.proofs.Laws.{field-next}
 use Rattle.descriptor.specs.Reading.{leaf, list as list-sort, object as object-sort, reference as reference-sort, array as array-sort}
 use Rattle.descriptor.proofs.Ends.{accepted}
 use Rattle.descriptor.proofs.Tiling.{reach, value-past}

@@ -1,7 +1,7 @@
 use Rattle.descriptor_read.proofs.Going.{done-no, done-eq}
 use Rattle.descriptor_read.proofs.Steps.{array-cut, array-no, array-in}
 use Rattle.descriptor.proofs.Ends.{accepted, class-past}
-use Rattle.fields.proofs.Laws.{field-next}
+use Rattle.algebra.proofs.Laws.{field-next}
 use Rattle.fields.specs.Answer.{told32, toldStep}
 use native.Mathlib.Omega.{arith}
 use mathlib.Core.Path.{sym, ap, _∙_}

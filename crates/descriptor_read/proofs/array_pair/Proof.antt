@@ -3,7 +3,7 @@ use Rattle.descriptor_read.proofs.Going.{done-no, done-eq, headed-no, c
 use Rattle.descriptor_read.proofs.Steps.{array-deep, array-id, array-short, array-other, array-is}
 use Rattle.descriptor.proofs.Ends.{accepted, id-past, column-past}
 use Rattle.descriptor.specs.Reading.{column}
-use Rattle.fields.proofs.Laws.{field-next}
+use Rattle.algebra.proofs.Laws.{field-next}
 use Rattle.fields.specs.Answer.{told32, toldStep}
 use native.Mathlib.Omega.{arith}
 use mathlib.Core.Path.{refl, sym, ap, _∙_}

@@ -1,5 +1,5 @@
 use Rattle.descriptor_read.proofs.Typing.{double-loaded}
-use Rattle.fields.proofs.Floats.{no-nan}
+use Rattle.algebra.proofs.Floats.{no-nan}
 use lib.Ieee.Scale.{finite}
 use lib.Ieee.{binary64, ofBits}
 use mathlib.Core.Path.{ap, _∙_}

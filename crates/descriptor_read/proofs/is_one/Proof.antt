@@ -1,5 +1,5 @@
 use Rattle.fields.specs.Answer.{told8}
-use Rattle.fields.specs.Reader.{Res, orZero}
+use Rattle.algebra.specs.Reader.{Res, orZero}
 use lib.Dec.{eqb}
 use Prim.Native.Nat.{ℕ}
 use mathlib.Core.Path.{sym, ap, _∙_}

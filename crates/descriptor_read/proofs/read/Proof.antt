@@ -5,7 +5,7 @@ use Rattle.descriptor_read.proofs.Whole.{too-long, of-walk}
 use Rattle.descriptor_read.specs.Answer.{refused, told}
 use Rattle.descriptor_read.specs.Filled.{filled}
 use Rattle.descriptor.specs.Reading.{Row}
-use Rattle.fields.specs.Reader.{Res}
+use Rattle.algebra.specs.Reader.{Res}
 use lib.ListN.{length}
 use mathlib.Core.List.{List}
 use Prim.Native.Nat.{ℕ}

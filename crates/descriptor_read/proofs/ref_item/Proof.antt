@@ -4,7 +4,7 @@ use Rattle.descriptor_read.proofs.Steps.{ref-deep, ref-short, ref-unkno
 use Rattle.descriptor.proofs.Ends.{accepted, form-takes, ref-past}
 use Rattle.descriptor.specs.Answer.{known, readerOf}
 use Rattle.descriptor.specs.Reading.{refValue}
-use Rattle.fields.proofs.Laws.{field-next}
+use Rattle.algebra.proofs.Laws.{field-next}
 use Rattle.fields.specs.Answer.{told32, toldStep}
 use native.Mathlib.Omega.{arith}
 use mathlib.Core.Path.{refl, sym, ap, _∙_}

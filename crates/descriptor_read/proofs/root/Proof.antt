@@ -2,7 +2,7 @@ use Rattle.descriptor_read.proofs.Going.{done-no, done-eq, done-past, r
 use Rattle.descriptor_read.proofs.Carried.{taken}
 use Rattle.descriptor_read.proofs.Steps.{root-short, root-other, root-is}
 use Rattle.descriptor.proofs.Tiling.{object-past}
-use Rattle.fields.proofs.Laws.{field-next}
+use Rattle.algebra.proofs.Laws.{field-next}
 use Rattle.fields.specs.Answer.{told32}
 use native.Mathlib.Omega.{arith}
 use mathlib.Core.Path.{sym, ap, _∙_}

@@ -2,8 +2,8 @@ use Prim.Native.Nat.{ℕ}
 use mathlib.Core.List.{List}
 use mathlib.Core.Path.{ap, _∙_}
 use borrow.Author.Needs.{needs}
-use Rattle.fields.specs.Numbers.{be, joined}
-use Rattle.fields.proofs.Places.{length-be}
+use Rattle.algebra.specs.Numbers.{be, joined}
+use Rattle.algebra.proofs.Places.{length-be}
 use Rattle.listing.specs.Buffer.{putAll}
 use Rattle.listing.specs.Text.{hex}
 use Rattle.listing.proofs.Wording.{stored-whole}

@@ -3,9 +3,9 @@ use Prim.Native.Nat.{_-_, _/_, _≤_}
 use mathlib.Core.Path.{_≡_, sym, ap, _∙_}
 use native.Mathlib.Omega.{arith}
 use lib.ListN.{length}
-use Rattle.fields.specs.Reader.{ok, field}
+use Rattle.algebra.specs.Reader.{ok, field}
 use Rattle.fields.specs.Answer.{told16}
-use Rattle.fields.proofs.Laws.{field-next}
+use Rattle.algebra.proofs.Laws.{field-next}
 use Rattle.acb_show.specs.Texts.{behindEquals}
 use Rattle.acb_show.proofs.Starting.{search-start, search-found, search-on, search-end}
 use Rattle.acb_show.proofs.text.behind_equals.Statement.{statement}

@@ -1,6 +1,6 @@
 use borrow.Author.Needs.{needs}
 use mathlib.Core.Path.{_≡_, sym, ap, _∙_}
-use Rattle.fields.specs.Reader.{ok, field}
+use Rattle.algebra.specs.Reader.{ok, field}
 use Rattle.fields.specs.Answer.{told64}
 use Rattle.acb_show.proofs.Starting.{start-short, start-unmarked, start-marked}
 use Rattle.acb_show.proofs.text.shown_start.Statement.{statement}

@@ -1,6 +1,6 @@
 use mathlib.Core.Path.{sym}
 use lib.Ieee.{binary32}
-use Rattle.fields.proofs.Floats.{finite-bits}
+use Rattle.algebra.proofs.Floats.{finite-bits}
 use Rattle.colour.proofs.channel.is_finite.Statement.{statement}
 use Rattle.colour.proofs.channel.is_finite.Tie as tie
 

@@ -1,7 +1,7 @@
 use mathlib.Core.Path.{sym, ap}
 use native.Mathlib.Omega.{arith}
-use Rattle.fields.specs.Reader.{done}
-use Rattle.fields.proofs.Laws.{body-done, body-short}
+use Rattle.algebra.specs.Reader.{done}
+use Rattle.algebra.proofs.Laws.{body-done, body-short}
 use borrow.Author.Needs.{needs}
 use Rattle.fields.proofs.number.run_at.Statement.{statement}
 use Rattle.fields.proofs.number.run_at.Tie as tie

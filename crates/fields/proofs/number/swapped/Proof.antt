@@ -1,6 +1,6 @@
 use native.Mathlib.Omega.{arith}
 use denote.Ref.{now}
-use Rattle.fields.proofs.Laws.{num-2}
+use Rattle.algebra.proofs.Laws.{num-2}
 use borrow.Author.Needs.{needs}
 use Rattle.fields.proofs.number.swapped.Statement.{statement}
 use Rattle.fields.proofs.number.swapped.Tie as tie

@@ -1,6 +1,6 @@
 use mathlib.Core.Path.{sym, ap, _∙_}
 use Rattle.fields.specs.Answer.{told16}
-use Rattle.fields.specs.Reader.{orZero}
+use Rattle.algebra.specs.Reader.{orZero}
 use borrow.Author.Needs.{needs}
 use Rattle.fields.proofs.number.u16_or_zero.Statement.{statement}
 use Rattle.fields.proofs.number.u16_or_zero.Tie as tie

@@ -1,7 +1,7 @@
 use mathlib.Core.Path.{sym}
 use native.Mathlib.Omega.{arith}
 use denote.Ref.{now}
-use Rattle.fields.proofs.Laws.{field-in, field-short, num-4}
+use Rattle.algebra.proofs.Laws.{field-in, field-short, num-4}
 use borrow.Author.Needs.{needs}
 use Rattle.fields.proofs.number.u32_at.Statement.{statement}
 use Rattle.fields.proofs.number.u32_at.Tie as tie

@@ -1,9 +1,9 @@
 use Prim.Native.Nat.{_+_}
-use Rattle.fields.specs.Reader.{orZero}
+use Rattle.algebra.specs.Reader.{orZero}
 use mathlib.Core.Path.{sym, ap, _∙_}
 use native.Mathlib.Omega.{arith}
 use denote.Ref.{now}
-use Rattle.fields.proofs.Laws.{field-in, field-short, num-split}
+use Rattle.algebra.proofs.Laws.{field-in, field-short, num-split}
 use borrow.Author.Needs.{needs}
 use Rattle.fields.proofs.number.u64_at.Statement.{statement}
 use Rattle.fields.proofs.number.u64_at.Tie as tie

@@ -1,7 +1,7 @@
 use mathlib.Core.Path.{sym}
 use native.Mathlib.Omega.{arith}
 use denote.Ref.{now}
-use Rattle.fields.proofs.Laws.{field-in, field-short, num-1}
+use Rattle.algebra.proofs.Laws.{field-in, field-short, num-1}
 use borrow.Author.Needs.{needs}
 use Rattle.fields.proofs.number.u8_at.Statement.{statement}
 use Rattle.fields.proofs.number.u8_at.Tie as tie

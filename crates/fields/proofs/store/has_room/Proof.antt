@@ -2,7 +2,7 @@ use mathlib.Core.Path.{sym}
 use Prim.Native.Nat.{_+_}
 use native.Mathlib.Omega.{arith}
 use borrow.Author.Tests.{lt-leb}
-use Rattle.fields.proofs.Stores.{room-left}
+use Rattle.algebra.proofs.Stores.{room-left}
 use borrow.Author.Needs.{needs}
 use Rattle.fields.proofs.store.has_room.Statement.{statement}
 use Rattle.fields.proofs.store.has_room.Tie as tie

@@ -1,4 +1,4 @@
-use Rattle.fields.proofs.Stores.{put-closing}
+use Rattle.algebra.proofs.Stores.{put-closing}
 use borrow.Author.Needs.{needs}
 use Rattle.fields.proofs.store.put_closed.Statement.{statement}
 use Rattle.fields.proofs.store.put_closed.Tie as tie

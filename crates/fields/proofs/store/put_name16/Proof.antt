@@ -3,7 +3,7 @@ use Prim.Native.Nat.{_+_}
 use lib.ListN.{length}
 use native.Mathlib.Omega.{arith}
 use borrow.Author.Tests.{leb-true, not-true, not-false}
-use Rattle.fields.proofs.Stores.{no-room, put-counted}
+use Rattle.algebra.proofs.Stores.{no-room, put-counted}
 use borrow.Author.Needs.{needs}
 use Rattle.fields.proofs.store.put_name16.Statement.{statement}
 use Rattle.fields.proofs.store.put_name16.Tie as tie

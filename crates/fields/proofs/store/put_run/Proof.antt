@@ -4,7 +4,7 @@ use mathlib.Core.Path.{_≡_, refl, sym, _∙_}
 use native.Mathlib.Omega.{arith}
 use lib.ListN.{length, length-set, drop}
 use lib.Seq.{sets}
-use Rattle.fields.proofs.Stores.{stored-in, stored-out, copy-start, copy-turn, copy-end}
+use Rattle.algebra.proofs.Stores.{stored-in, stored-out, copy-start, copy-turn, copy-end}
 use Rattle.fields.proofs.store.put_run.Statement.{statement}
 use Rattle.fields.proofs.store.put_run.Tie as tie
 

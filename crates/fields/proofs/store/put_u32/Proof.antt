@@ -2,8 +2,8 @@ use mathlib.Core.Path.{sym, _∙_}
 use native.Mathlib.Omega.{arith}
 use lib.ListN.{length-set}
 use native.Mathlib.Numerals.{unary-clauses}
-use Rattle.fields.specs.Numbers.{be}
-use Rattle.fields.proofs.Stores.{stored-in, stored-out}
+use Rattle.algebra.specs.Numbers.{be}
+use Rattle.algebra.proofs.Stores.{stored-in, stored-out}
 use borrow.Author.Needs.{needs}
 use Rattle.fields.proofs.store.put_u32.Statement.{statement}
 use Rattle.fields.proofs.store.put_u32.Tie as tie

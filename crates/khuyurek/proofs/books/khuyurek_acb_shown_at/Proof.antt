@@ -6,7 +6,7 @@ use lib.Dec.{eqb, ltb}
 use lib.IntN.{ℤ}
 use lib.ListN.{length}
 use native.Mathlib.Omega.{arith}
-use Rattle.fields.specs.Reader.{Res, ok, refuse, pick}
+use Rattle.algebra.specs.Reader.{Res, ok, refuse, pick}
 use Rattle.colour.specs.Spaces.{cmyk}
 use Rattle.acb.specs.Reading.{Contents, componentsOf, acb}
 use Rattle.acb_view.specs.View.{Counted, counted, refusal, noValues, shownAt}

@@ -1,7 +1,7 @@
 use mathlib.Core.Path.{sym, _∙_}
 use lib.Ieee.{binary32}
 use borrow.Author.Tests.{not-true, not-false}
-use Rattle.fields.proofs.Floats.{no-nan}
+use Rattle.algebra.proofs.Floats.{no-nan}
 use Rattle.colour.proofs.Kept.{all-finite, made-is, made-not}
 use Rattle.colour.specs.declared.model.Model.the-variants.{Rgb, Cmyk, Lab, Gray}
 use borrow.Author.Needs.{needs}

@@ -2,7 +2,7 @@ use mathlib.Core.Path.{ap, _∙_}
 use mathlib.Core.Bool.{Bool}
 use lib.Ieee.{binary32, ofBits}
 use lib.Ieee.Scale.{finite}
-use Rattle.fields.specs.Reader.{pick}
+use Rattle.algebra.specs.Reader.{pick}
 use Rattle.colour.specs.Channels.{inUnit}
 use borrow.Author.Needs.{needs}
 use Rattle.colour.proofs.model.Model.allows.Statement.{statement}

@@ -1,0 +1,13 @@
+pub mod Numbers
+pub mod Reader
+pub mod Text
+pub mod Lanes
+pub mod Faults
+pub mod Store
+pub mod Writing
+pub mod Algebra
+pub mod Refusal
+pub mod Sets
+pub mod Cut
+pub mod Wide
+pub mod Closing
