@@ -4,6 +4,7 @@ pub mod Text
 pub mod Lanes
 pub mod Faults
 pub mod Store
+pub mod Table
 pub mod Writing
 pub mod Algebra
 pub mod Refusal
