@@ -1,5 +1,5 @@
 //! The functions that the library exports, those that the header for C declares
-//! and those that `proved` declares are the same, with the same parameters and
+//! and those that `khuyurek-sys` declares are the same, with the same parameters and
 //! answers: names, order and types, down to the fields of each struct.
 
 use std::collections::BTreeMap;
@@ -214,11 +214,11 @@ fn exported() -> Functions {
     functions
 }
 
-/// What `proved` declares; a struct of its root is known in its modules.
+/// What `khuyurek-sys` declares; a struct of its root is known in its modules.
 fn declared() -> Functions {
-    let root = structs_of("tests/proved/src/lib.rs");
+    let root = structs_of("bindings/rust/sys/src/lib.rs");
     let mut functions = Functions::new();
-    for text in sources("tests/proved/src", "rs") {
+    for text in sources("bindings/rust/sys/src", "rs") {
         let structs = rust_structs(&text, &root);
         for block in text.split("extern \"C\" {").skip(1) {
             let block = &block[..block.find('}').expect("a block ends")];

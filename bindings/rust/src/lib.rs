@@ -35,7 +35,7 @@
 //! ```
 //!
 //! Nothing here is `unsafe`: the declarations of the C functions, and the calls
-//! of them, are in the crate `proved`, which is [`raw`] here. It has the same
+//! of them, are in the crate `khuyurek-sys`, which is [`raw`] here. It has the same
 //! calls on numbers and slices, for a program that lends its own tables.
 
 #![forbid(unsafe_code)]
@@ -52,7 +52,7 @@ mod text;
 mod units;
 
 pub use convert::{to_channel, to_sample};
-pub use proved as raw;
+pub use khuyurek_sys as raw;
 pub use refusal::Refusal;
 pub use space::{Model, Space};
 pub use units::Units;

@@ -5,7 +5,7 @@ use std::env;
 use std::path::{Path, PathBuf};
 
 const OVERRIDE: &str = "KHUYUREK_LIB_DIR";
-const DEFAULT: &str = "../../target/staticlib";
+const DEFAULT: &str = "../../../target/staticlib";
 
 fn main() {
     let manifest = env::var("CARGO_MANIFEST_DIR").expect("cargo sets the manifest's folder");
