@@ -27,7 +27,7 @@ impl Block {
         bytes.extend(self.id.to_be_bytes());
         bytes.push(self.name.len() as u8);
         bytes.extend(&self.name);
-        if self.name.len() % 2 == 0 {
+        if self.name.len().is_multiple_of(2) {
             bytes.push(0);
         }
         bytes.extend((self.data.len() as u32).to_be_bytes());
