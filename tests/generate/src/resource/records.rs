@@ -49,7 +49,7 @@ pub enum LotDamage {
     TextShort,
     /// Not a fault: a name of no bytes may give any place.
     EmptyNameAnywhere,
-    /// Not a fault: nor may data of no bytes.
+    /// Not a fault: so may data.
     EmptyDataAnywhere,
     RecordDropped,
     /// Not a fault: IDs may repeat.

@@ -88,14 +88,20 @@ fn put_block(rest: &mut &mut [u8], row: &Row, text: &[u8]) {
     let judged = "a judged record's parts lie in the text";
     let name = part(text, name, name_length).expect(judged);
     let data = part(text, data, data_length).expect(judged);
-    put(rest, &SIGNATURE);
-    put(rest, &(id as u16).to_be_bytes());
-    put(rest, &[name.len() as u8]);
+    put(rest, &head(id as u16, name.len() as u8));
     put(rest, name);
     put_pad(rest, NAME_LENGTH_LEN + name.len());
     put(rest, &data_length.to_be_bytes());
     put(rest, data);
     put_pad(rest, data.len());
+}
+
+/// What stands before a name's text: the signature, the ID and the length byte.
+#[inline(always)]
+fn head(id: u16, name_length: u8) -> [u8; 7] {
+    let [a, b, c, d] = SIGNATURE;
+    let [e, f] = id.to_be_bytes();
+    [a, b, c, d, e, f, name_length]
 }
 
 #[inline(always)]
