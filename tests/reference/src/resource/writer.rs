@@ -106,5 +106,7 @@ fn head(id: u16, name_length: u8) -> [u8; 7] {
 
 #[inline(always)]
 fn put_pad(rest: &mut &mut [u8], len: usize) {
-    put(rest, &[0][..pad_len(len)]);
+    if pad_len(len) > 0 {
+        put(rest, &[0]);
+    }
 }
