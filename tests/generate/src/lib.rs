@@ -1,7 +1,7 @@
-//! Swatch files, colour books, descriptors and records made up from a seed: sound
-//! ones, damaged ones, and a few fixed ones with the answers written down beside
-//! them; those of ASE, ACB and descriptors are in their own modules. Then model
-//! tags and bit patterns of channels.
+//! Swatch files, colour books, descriptors, resource sections and records made up
+//! from a seed: sound ones, damaged ones, and a few fixed ones with the answers
+//! written down beside them; those of ASE, ACB, descriptors and resources are in
+//! their own modules. Then model tags and bit patterns of channels.
 //!
 //! Files are laid out here from the colours themselves, by no writer under test.
 
@@ -18,6 +18,7 @@ mod names;
 mod palette;
 mod random;
 mod records;
+pub mod resource;
 
 pub use channels::{
     any_pattern, neighbourhoods, tags, CMYK_TAG, EACH_CLASS, GRAY_TAG, LAB_TAG, ONE, PAIRS,

@@ -1,6 +1,6 @@
 //! The rules of ACO and ASE swatch files, of samples and channels, of ACB colour
-//! books and of descriptors, in plain, safe Rust. What is of ASE, ACB or
-//! descriptors alone is in its own module.
+//! books, of descriptors and of resource sections, in plain, safe Rust. What is of
+//! ASE, ACB, descriptors or resources alone is in its own module.
 //!
 //! Written from the rules themselves, without a look at the proved
 //! library: where the two agree, they agree by the rules. It is also what the
@@ -21,6 +21,7 @@ mod name;
 mod output;
 mod reader;
 mod refusal;
+pub mod resource;
 mod step;
 mod walk;
 mod writer;

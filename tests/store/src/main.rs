@@ -129,12 +129,12 @@ fn stored() -> Result<Files, String> {
     Ok(files)
 }
 
-/// An accepted file with zeros behind it, a byte longer than is listed.
+/// An accepted file made longer than is listed.
 fn too_long(kind: &Kind, titled: &[Titled]) -> Result<Vec<u8>, String> {
     let accepted = |(_, file): &&Titled| number(&(kind.list)(file)) == 0;
     let (_, file) = titled.iter().find(accepted).ok_or("no file is accepted")?;
     let mut file = file.clone();
-    file.resize(kind.limit + 1, 0);
+    (kind.lengthen)(&mut file, kind.limit);
     Ok(file)
 }
 
