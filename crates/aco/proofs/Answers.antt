@@ -10,12 +10,13 @@ use borrow.Author.Tests.{ne-eqb}
 use native.Mathlib.Omega.{arith}
 use native.Mathlib.Nat.{zero-add}
 use Rattle.algebra.specs.Numbers.{be, joined, At, Bytes, All}
-use Rattle.algebra.specs.Reader.{ok, refuse, Judged, fine, judged, each}
+use Rattle.algebra.specs.Reader.{ok, refuse, Judged, fine, each}
 use Rattle.algebra.specs.Cut.{notWhole, Stub}
+use Rattle.algebra.proofs.Laws.{ended-left}
 use Rattle.algebra.proofs.Places.{length-bes}
 use Rattle.algebra.proofs.Exact.{all-at, all-by, judged-exact}
-use Rattle.algebra.proofs.Cuts.{step-cut, judged-cuts, judged-reads, number-spans}
-use Rattle.algebra.proofs.Stops.{judged-refuses, each-stops, ended-left}
+use Rattle.algebra.proofs.Cuts.{judged-then-cut, judged-cuts}
+use Rattle.algebra.proofs.Stops.{judged-refuses, each-stops}
 use Rattle.algebra.proofs.Tails.{Tail, tail-left, tail-after, judged-wrong, judged-cut}
 use Rattle.colour.specs.declared.space.Colour.{Colour}
 use Rattle.colour.specs.Spaces.{known}
@@ -25,10 +26,7 @@ use Rattle.aco.proofs.Fine.{version-fine, compared-fine}
 -- a heading that is cut: 2 at the version, or at the count
 pub heading-cut : (s : List ℕ) → Bytes s → (v : ℕ) → v < 256 ^ 2 → (count : ℕ → Judged) (at n : ℕ) → Stub s at (be 2 v ++ be 2 n) → heading v count s at ≡ refuse 2 (notWhole (2 ∷ 2 ∷ []) at (length s)) 0 0
 unfolding heading
-heading-cut s bytes v small count at n h =
-    let j : ℕ → Judged = version v in
-    step-cut s at (judged 2 j s at) _ (be 2 v) (be 2 n) (2 ∷ []) (2 ∷ []) (number-spans 2 {Ok = λ v. Unit} .span v tt) (judged-cuts s 2 {Ok = λ v. Unit} j .cut at v tt)
-    (λ x y. rw (judged-reads s bytes 2 j at v small (version-fine v) x) (judged-cuts s 2 {Ok = λ v. Unit} count .cut (at + length (be 2 v)) n tt y)) h
+heading-cut s bytes v small count at n h = judged-then-cut s bytes 2 _ at v (be 2 n) (2 ∷ []) small (judged-cuts s 2 {Ok = λ v. Unit} count .cut (at + length (be 2 v)) n tt) (version v) (version-fine v) h
 
 -- an unknown space: 4, before its samples are looked for
 pub unknown-space-first : (s : List ℕ) (at x : ℕ) → x < 256 ^ 2 → known x ≡ false → At s at (be 2 x) → colour s at ≡ refuse 4 at 0 0
