@@ -5,21 +5,18 @@ use mathlib.Core.List.{List, [], _++_, map, append-nil}
 use mathlib.Core.Bool.{Bool, true, false}
 use lib.Dec.{ltb, eqb}
 use lib.ListN.{length, length-append}
-use borrow.Author.Tests.{eqb-true, ltb-true, lt-ltb, ne-eqb}
+use borrow.Author.Tests.{eqb-true, ltb-true, lt-ltb}
 use native.Mathlib.Omega.{arith}
 use Rattle.algebra.specs.Numbers.{be, joined, At, Bytes, All}
-use Rattle.algebra.specs.Reader.{Reader, ok, refuse, pick, field, body, Judged, fine, judged, give, _>>=_, each}
+use Rattle.algebra.specs.Reader.{Reader, ok, pick, field, body, fine, judged, give, _>>=_, each}
 use Rattle.algebra.specs.Text.{Name}
 use Rattle.algebra.specs.Algebra.{Exact}
-use Rattle.algebra.proofs.Laws.{field-short, judged-short}
-use Rattle.algebra.proofs.Cuts.{judged-reads}
-use Rattle.algebra.proofs.Stops.{ended-left}
 use Rattle.algebra.proofs.Places.{at-in, at-left, at-right, at-next}
 use Rattle.algebra.proofs.Inverse.{then-inv, unless-fine, ok-value, ok-place}
-use Rattle.algebra.proofs.Exact.{all-map, map-id, judged-exact, body-exact, same-exact, one-exact, bind-exact, give-exact, each-exact}
-use Rattle.algebra.proofs.Sequence.{field-exact, then-exact}
+use Rattle.algebra.proofs.Exact.{all-map, map-id, judged-exact, body-exact, same-exact, give-exact, each-exact}
+use Rattle.algebra.proofs.Sequence.{field-exact, only-exact, then-exact}
 use Rattle.acb.specs.Grammar.{Colour, Space, rgb, cmyk, lab, String, Octets, Swatch, stringBytes, colourBytes}
-use Rattle.acb.specs.Reading.{string, Entry, colour, isSpace, componentsOf, pageSize, space, Numbers, Header, signature, version, opening, strings, numbers, header, colourOf, isTag, tagOf, tag, closing}
+use Rattle.acb.specs.Reading.{string, Entry, colour, isSpace, componentsOf, pageSize, space, Numbers, Header, signature, version, opening, strings, numbers, header, colourOf, isTag, tag}
 
 -- the same by another name of what was read
 view-exact : {A B : Type 0} {s : List ℕ} {p : Reader A} {view : A → B} {Ok : B → Type 0} {ser : B → List ℕ} → Exact s p view Ok ser → (see : A → B) → ((a : A) → view a ≡ see a) → Exact s p see Ok ser
@@ -76,21 +73,6 @@ space-fine {x} {n} h = rw (space-is h)
 
 pub tag-fine : (v : ℕ) → isTag v ≡ true → tag v ≡ fine
 tag-fine v known = rw known
-
--- ---- what stands behind the records, where it is not what it should be
-
-module _ (s : List ℕ) where
-  -- one to seven bytes, whatever they are: 2 there
-  pub short-stops : (at : ℕ) → at < length s → length s < at + 8 → closing s at ≡ refuse 2 at 0 0
-  unfolding closing
-  short-stops at more less =
-      rw (ne-eqb at (length s) (λ z. omega arith)) (rw (judged-short 8 s at tag (sym (field-short 8 s at (omega arith)))))
-
-  -- a tag and more: 6 behind it
-  pub left-stops : Bytes s → (v at : ℕ) → v < 256 ^ 8 → isTag v ≡ true → At s at (be 8 v) → at + length (be 8 v) < length s → closing s at ≡ refuse 6 (at + length (be 8 v)) 0 0
-  unfolding closing
-  left-stops bytes v at small known h more =
-      rw (ne-eqb at (length s) (λ z. omega arith)) (rw (judged-reads s bytes 8 tag at v small (tag-fine v known) h) (ended-left (tagOf v) s (at + length (be 8 v)) more))
 
 -- ---- a string
 
@@ -187,21 +169,11 @@ module _ (s : List ℕ) (bytes : Bytes s) where
 
   -- ---- the header
 
-  -- a field of which v alone is fine, and then more
-  only-exact : {A B : Type 0} {m : Reader A} {view : A → B} {Ok : B → Type 0} {rest : B → List ℕ} (w v : ℕ) (j : ℕ → Judged) → v < 256 ^ w → j v ≡ fine → ((x : ℕ) → j x ≡ fine → x ≡ v) → Exact s m view Ok rest
-      → Exact s (judged w j >>= (λ x. m)) view Ok (λ b. be w v ++ rest b)
-  only-exact {A} {B} {m} {view} {Ok} {rest} w v j small good only more =
-      same-exact
-      (bind-exact {k = λ x. m} {OkD = Ok} {rest = rest} (λ b. tt {0})
-      (one-exact (judged-exact s bytes w j) v (small, good) (λ x h. only x (h .1)))
-      (λ x. same-exact more (λ b. Ok b × (tt {0} ≡ tt)) rest (λ b h. (h, refl)) (λ b h. h .0) (λ b h. refl)))
-      Ok (λ b. be w v ++ rest b) (λ b h. h .1) (λ b h. (tt, h)) (λ b h. refl)
-
   pub opening-exact : Exact s opening (λ i. i) (λ i. i < 256 ^ 2) (λ i. be 4 0x3842_4342 ++ (be 2 1 ++ be 2 i))
   unfolding opening
   opening-exact =
-      only-exact 4 0x3842_4342 signature (omega arith) refl (λ x h. eqb-true x 0x3842_4342 (unless-fine (eqb x 0x3842_4342) _ h))
-      (only-exact 2 1 version (omega arith) refl (λ x h. eqb-true x 1 (unless-fine (eqb x 1) _ h)) (field-exact s bytes 2))
+      only-exact s bytes 4 0x3842_4342 signature (omega arith) refl (λ x h. eqb-true x 0x3842_4342 (unless-fine (eqb x 0x3842_4342) _ h))
+      (only-exact s bytes 2 1 version (omega arith) refl (λ x h. eqb-true x 1 (unless-fine (eqb x 1) _ h)) (field-exact s bytes 2))
 
   pub strings-exact : Exact s strings (map (λ (nm : Name). nm .units)) (λ ts. (length ts ≡ 4) × All (λ k us. String us) 0 ts) (joined stringBytes)
   unfolding strings

@@ -10,10 +10,10 @@ use native.Mathlib.Nat.{zero-add}
 use Rattle.algebra.specs.Numbers.{be, joined, At, Bytes, All}
 use Rattle.algebra.specs.Reader.{ok, refuse, each}
 use Rattle.algebra.specs.Cut.{notWhole, Stub}
-use Rattle.algebra.proofs.Places.{length-be, at-whole, bytes-append}
+use Rattle.algebra.proofs.Places.{length-be, bytes-append}
 use Rattle.algebra.proofs.Cuts.{stub-take, bytes-take}
 use Rattle.algebra.proofs.Stops.{each-stops}
-use Rattle.algebra.proofs.Tails.{Tail, tail-left, tail-after}
+use Rattle.algebra.proofs.Tails.{Tail, tail-left, tail-after, whole-tail}
 use Rattle.acb.specs.Grammar.{Tag, none, spot, process, Ending, tagged, Book, String, Swatch, Allowed, File, file, stringBytes, colourBytes, tagBytes, endingBytes, headBytes, fileBytes}
 use Rattle.acb.specs.Reading.{string, colour, componentsOf, Numbers, opening, strings, numbers, header, Contents, closing, book, acb, bookOf}
 use Rattle.acb.specs.Widths.{headWidths, colourWidths, endingWidths, fileWidths}
@@ -29,9 +29,6 @@ unfolding acb
 long-refused s long = simp (lt-leb (length s) 16777216 long)
 
 -- ---- damaged
-
-whole-tail : (s : List ℕ) → Tail s 0 s
-whole-tail s = record { stands = at-whole s; ends = sym (zero-add (length s)) }
 
 -- behind signature, version and identifier
 module _ (i : ℕ) (ts : List (List ℕ)) (x : List ℕ) (small : i < 256 ^ 2) (texts : All (λ k us. String us) 0 ts) (bytes : Bytes (opened i ts x)) where

@@ -9,10 +9,10 @@ use lib.ListN.{length, length-append}
 use borrow.Author.Tests.{leb-true, le-leb, ltb-true, ltb-false}
 use native.Mathlib.Omega.{arith}
 use Rattle.algebra.specs.Numbers.{be, joined, Bytes, All}
-use Rattle.algebra.specs.Reader.{Res, ok, refuse, pick, numberOf, limit}
+use Rattle.algebra.specs.Reader.{ok, refuse, pick, numberOf, limit}
 use Rattle.algebra.specs.Faults.{firstOf}
 use Rattle.algebra.proofs.Places.{length-be, length-bes}
-use Rattle.algebra.proofs.Inverse.{clash, ok-value}
+use Rattle.algebra.proofs.Inverse.{clash, refuse-same, ok-value}
 use Rattle.acb.specs.Grammar.{Colour, none, Ending, tagged, other, Unknown, Book, Space, Swatch, stringBytes, colourBytes, endingBytes, headBytes, fileBytes, File, file}
 use Rattle.acb.specs.Reading.{isSpace, Contents, book, acb, bookOf}
 use Rattle.acb.specs.Faults.{endingFault, EndingFits, bookFault, BookFits}
@@ -56,16 +56,12 @@ refused-damaged {s} bytes short {z} {p} {r} {f} e = go (file-or s bytes short)
     go : FileOr s → Damaged s z p × (r ≡ 0) × (f ≡ 0)
     go (is-file b g) = clash (sym e ∙ allowed-reads g .1)
     go (is-damaged y q d) =
-        let same : refuse y q 0 0 ≡ refuse z p r f = sym (damaged-refused d bytes short) ∙ e in
-        let a : y ≡ z = cc in
-        let b : q ≡ p = cc in
-        (subst₂ (λ (n m : ℕ). Damaged s n m) a b d, cc, cc)
+        let x = refuse-same (damaged-refused d bytes short) e in
+        (subst₂ (λ (n m : ℕ). Damaged s n m) (x .0) (x .1) d, sym (x .2), sym (x .3))
 
 -- no file is damaged in two ways: it has one number and one place
 pub damaged-unique : {s : List ℕ} → Bytes s → length s ≤ 16777216 → {z p y q : ℕ} → Damaged s z p → Damaged s y q → (z ≡ y) × (p ≡ q)
-damaged-unique bytes short {z} {p} {y} {q} d e =
-    let same : _≡_ {A = Res Contents} (refuse z p 0 0) (refuse y q 0 0) = sym (damaged-refused d bytes short) ∙ damaged-refused e bytes short in
-    (cc, cc)
+damaged-unique bytes short d e = let x = refuse-same (damaged-refused d bytes short) (damaged-refused e bytes short) in (x .0, x .1)
 
 -- no file of the grammar is damaged
 pub allowed-undamaged : {b : Book} {s : List ℕ} → File b s → {z p : ℕ} → Damaged s z p → ⊥

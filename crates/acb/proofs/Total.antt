@@ -1,44 +1,19 @@
 -- Every byte string within the limit is a file of the grammar or a damaged one. Nothing here reads. Assumes nothing.
-use Prim.Native.Nat.{ℕ, zero, suc, _+_, _^_, _≤_, _<_}
+use Prim.Native.Nat.{ℕ, _+_, _^_, _≤_, _<_}
 use mathlib.Core.Path.{_≡_, refl, sym, ap, _∙_, subst}
 use mathlib.Core.List.{List, [], _∷_, _++_, append-assoc, append-nil}
 use mathlib.Core.Bool.{Bool, true, false, true≢false}
 use lib.ListN.{length}
 use native.Mathlib.Omega.{arith}
 use native.Mathlib.Decide.{ℕ-discrete}
-use Rattle.algebra.specs.Numbers.{be, joined, At, Bytes, All}
-use Rattle.algebra.proofs.Places.{length-be, at-whole, num-be}
-use Rattle.algebra.proofs.Exact.{all-map, all-from}
-use Rattle.algebra.proofs.Begins.{First, fewer, number, first, Row, shorter, numbers, row}
+use Rattle.algebra.specs.Numbers.{be, joined, Bytes, All}
+use Rattle.algebra.proofs.Places.{length-be, be-same}
+use Rattle.algebra.proofs.Exact.{all-map}
+use Rattle.algebra.proofs.Begins.{First, fewer, number, first, Row, shorter, numbers, row, PartOr, bad-part, good-part, PartsOr, bad-parts, good-parts, parts-or}
 use Rattle.acb.specs.Grammar.{Colour, Tag, none, spot, process, tagged, Unknown, Book, Space, String, Octets, Swatch, Allowed, File, file, stringBytes, colourBytes, tagBytes, headBytes, fileBytes}
 use Rattle.acb.specs.Reading.{isSpace, componentsOf}
 use Rattle.acb.specs.Damaged.{Paged, signature-cut, wrong-signature, version-cut, wrong-version, identifier-cut, CutString, count-cut, units-cut, DamagedNumbers, colours-cut, size-cut, size-zero, offset-cut, space-cut, wrong-space, CutColour, name-cut, code-cut, component-cut, DamagedEnd, tag-cut, wrong-tag, left-over, opened, stringsEnd, counting, ending, tagAt, Damaged, wrong-opening, string-cut, wrong-numbers, record-cut, wrong-end}
 use Rattle.acb.proofs.Laws.{space-is, is-space}
-
--- ---- n parts of one kind, of which the first that is not there is cut
-
-data PartOr {A : Type 0} (Ok : A → Type 0) (ser : A → List ℕ) (Bad : List ℕ → ℕ → Type 0) : List ℕ → Type 0 where
-  bad-part : (l : List ℕ) (p : ℕ) → Bad l p → PartOr Ok ser Bad l
-  good-part : (a : A) (l : List ℕ) → Ok a → Bytes l → PartOr Ok ser Bad (ser a ++ l)
-
-data PartsOr {A : Type 0} (Ok : A → Type 0) (ser : A → List ℕ) (Bad : List ℕ → ℕ → Type 0) (n : ℕ) : List ℕ → Type 0 where
-  bad-parts : (before : List A) (l : List ℕ) (p : ℕ) → length before < n → All (λ k a. Ok a) 0 before → Bad l p → PartsOr Ok ser Bad n (joined ser before ++ l)
-  good-parts : (xs : List A) (l : List ℕ) → length xs ≡ n → All (λ k a. Ok a) 0 xs → Bytes l → PartsOr Ok ser Bad n (joined ser xs ++ l)
-
-module _ {A : Type 0} (Ok : A → Type 0) (ser : A → List ℕ) (Bad : List ℕ → ℕ → Type 0) where
-  part-more : (n : ℕ) (a : A) → Ok a → {l : List ℕ} → PartsOr Ok ser Bad n l → PartsOr Ok ser Bad (suc n) (ser a ++ l)
-  unfolding joined
-  part-more n a h (bad-parts before l p few ok d) = subst (PartsOr Ok ser Bad (suc n)) (append-assoc (ser a) (joined ser before) l) (bad-parts (a ∷ before) l p (omega arith) (h, all-from Ok 0 1 before ok) d)
-  part-more n a h (good-parts xs l all ok b) = subst (PartsOr Ok ser Bad (suc n)) (append-assoc (ser a) (joined ser xs) l) (good-parts (a ∷ xs) l (ap suc all) (h, all-from Ok 0 1 xs ok) b)
-
-  parts-or : ((l : List ℕ) → Bytes l → PartOr Ok ser Bad l) → (n : ℕ) (l : List ℕ) → Bytes l → PartsOr Ok ser Bad n l
-  unfolding joined
-  parts-or one zero l b = good-parts [] l refl tt b
-  parts-or one (suc n) l b = go (λ k x. parts-or one n k x) (one l b)
-    where
-      go : ((l : List ℕ) → Bytes l → PartsOr Ok ser Bad n l) → {l : List ℕ} → PartOr Ok ser Bad l → PartsOr Ok ser Bad (suc n) l
-      go more (bad-part l p d) = bad-parts [] l p (omega arith) tt d
-      go more (good-part a l h x) = part-more n a h (more l x)
 
 -- ---- a string
 
@@ -119,17 +94,13 @@ numbers-by (number n l fn b) = size-by n fn (first 2 l b)
 
 -- ---- what stands behind the records
 
--- the numbers of eight bytes that are equal are equal
-eight-same : (v w : ℕ) → v < 256 ^ 8 → w < 256 ^ 8 → be 8 v ≡ be 8 w → v ≡ w
-eight-same v w small few e = sym (num-be (be 8 v) 8 0 v small (at-whole (be 8 v))) ∙ num-be (be 8 v) 8 0 w few (subst (λ (l : List ℕ). At (be 8 v) 0 l) e (at-whole (be 8 v)))
-
 unknown : (v : ℕ) → v < 256 ^ 8 → (v ≡ 0x7370_666C_7370_6F74 → ⊥) → (v ≡ 0x7370_666C_7072_6F63 → ⊥) → Unknown v
 unknown v small a b = record { small = small; no-tag = λ t. go t }
   where
     go : (t : Tag) → be 8 v ≡ tagBytes t → ⊥
     go none e = omega (arith, length-be 8 v, ap length e)
-    go spot e = a (eight-same v 0x7370_666C_7370_6F74 small (omega arith) e)
-    go process e = b (eight-same v 0x7370_666C_7072_6F63 small (omega arith) e)
+    go spot e = a (be-same 8 v 0x7370_666C_7370_6F74 small (omega arith) e)
+    go process e = b (be-same 8 v 0x7370_666C_7072_6F63 small (omega arith) e)
 
 data EndOr : List ℕ → Type 0 where
   bad-end : {l : List ℕ} (z p : ℕ) → DamagedEnd l z p → EndOr l

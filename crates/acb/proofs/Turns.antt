@@ -18,7 +18,8 @@ use Rattle.algebra.proofs.Tails.{Tail, tail-left, tail-after, field-there, fiel
 use Rattle.acb.specs.Grammar.{none, spot, process, Unknown, Space, stringBytes}
 use Rattle.acb.specs.Reading.{string, colour, isSpace, componentsOf, pageSize, space, signature, version, opening, numbers, isTag, tagOf, tag, closing}
 use Rattle.acb.specs.Damaged.{DamagedOpening, signature-cut, wrong-signature, version-cut, wrong-version, identifier-cut, CutString, count-cut, units-cut, DamagedNumbers, colours-cut, size-cut, size-zero, offset-cut, space-cut, wrong-space, CutColour, name-cut, code-cut, component-cut, DamagedEnd, tag-cut, wrong-tag, left-over}
-use Rattle.acb.proofs.Laws.{is-space, size-fine, string-exact, short-stops, left-stops}
+use Rattle.acb.proofs.Answers.{code-cut-first, no-page-first, tag-cut-first, left-over-last}
+use Rattle.acb.proofs.Laws.{is-space, size-fine, string-exact}
 use Rattle.acb.proofs.Whole.{tag-is}
 
 -- what is no space of the grammar is none of the reader's
@@ -43,9 +44,6 @@ other-signature v ne = rw (ne-eqb v 0x3842_4342 ne)
 
 other-version : (v : ℕ) → (v ≡ 1 → ⊥) → version v ≡ fault 3 0 0
 other-version v ne = rw (ne-eqb v 1 ne)
-
-no-page : pageSize 0 ≡ fault 5 0 0
-no-page = refl
 
 other-space : (v : ℕ) → ((n : ℕ) → Space v n → ⊥) → space v ≡ fault 4 0 0
 other-space v out = rw (no-space v out)
@@ -108,7 +106,7 @@ module _ (s : List ℕ) where
     unfolding numbers
     numbers-stop (colours-cut l few) t = rw (field-cut s 2 at few t) (here 2 at)
     numbers-stop (size-cut n l fn few) t = let a = counted n l fn t in rw (a .0) (rw (judged-cut s 2 (at + 2) pageSize few (a .1)))
-    numbers-stop (size-zero n l fn) t = let a = counted n (be 2 0 ++ l) fn t in rw (a .0) (rw (judged-wrong s 2 (at + 2) pageSize 5 0 (omega arith) no-page (tail-left s (at + 2) (be 2 0) l (a .1))))
+    numbers-stop (size-zero n l fn) t = no-page-first s at n l fn t
     numbers-stop (offset-cut n z l h few) t =
         let a = counted n (be 2 z ++ l) (h .count) t in
         let b = sized z l (h .some) (h .size) (a .1) in
@@ -144,7 +142,7 @@ module _ (s : List ℕ) (bytes : Bytes s) (n at : ℕ) where
       let q : ℕ = at + length (stringBytes us) in
       let r = string-exact s bytes .reads at us fit (tail-left s at (stringBytes us) l t) in
       let u : Tail s q l = tail-after s at (stringBytes us) l q refl t in
-      rw (r .1) (rw (body-short 1 s q 6 (omega (arith, u .ends))))
+      code-cut-first s at n (r .0) q (r .1) (omega (arith, u .ends))
   colour-stops (component-cut us cs l fit six few) t =
       let c : List ℕ = joined (be 1) cs in
       let q : ℕ = at + length (stringBytes us) in
@@ -160,13 +158,12 @@ module _ (s : List ℕ) (bytes : Bytes s) (n at : ℕ) where
 module _ (s : List ℕ) (bytes : Bytes s) (at : ℕ) where
   left : (v : ℕ) (l : List ℕ) → v < 256 ^ 8 → isTag v ≡ true → 0 < length l → Tail s at (be 8 v ++ l) → closing s at ≡ refuse 6 (at + 8) 0 0
   left v l small known some t =
-      let e : at + length (be 8 v) ≡ at + 8 = ap (λ (k : ℕ). at + k) (length-be 8 v) in
       let u : Tail s (at + 8) l = behind s 8 v at l t in
-      left-stops s bytes v at small known (tail-left s at (be 8 v) l t) (omega (arith, u .ends)) ∙ ap (λ (k : ℕ). refuse 6 k 0 0) e
+      left-over-last s at v small known (tail-left s at (be 8 v) l t) (omega (arith, u .ends))
 
   pub end-stops : {l : List ℕ} {z p : ℕ} → DamagedEnd l z p → Tail s at l → closing s at ≡ refuse z (at + p) 0 0
   unfolding closing
-  end-stops (tag-cut l some few) t = short-stops s at (omega (arith, t .ends)) (omega (arith, t .ends)) ∙ here s 2 at
+  end-stops (tag-cut l some few) t = tag-cut-first s at (omega (arith, t .ends)) (omega (arith, t .ends)) ∙ here s 2 at
   end-stops (wrong-tag v l u) t =
       let x : Tail s (at + 8) l = behind s 8 v at l t in
       rw (ne-eqb at (length s) (λ z. omega (arith, x .ends))) (rw (judged-wrong s 8 at tag 3 v (u .small) (other-tag v u) (tail-left s at (be 8 v) l t)) (here s 3 at))

@@ -159,7 +159,7 @@ after-inv s cs r c q e = go (eqb r (length s)) refl e
 pub aco-inv : (s : List ℕ) {c : Contents} {q : ℕ} → aco s ≡ ok c q → (cs : List Colour) × (r : ℕ) × First s cs r × Then s cs r c q
 unfolding aco lists
 aco-inv s {c} {q} e =
-    let i = pick-inv (leb (length s) 16777216) (lists s 0) 1 0 0 0 e in
+    let i = pick-inv (leb (length s) 16777216) (lists s 0) _ _ _ _ e in
     let t = then-inv (heading 1 firstCount s 0) _ (i .1) in
     let u = then-inv (each (t .0) 0 (λ i. colour) s (t .1)) _ (t .3) in
     (u .0, u .1, first-of s (u .0) (u .1) (t .0) (t .1) (leb-true (length s) 16777216 (i .0)) (t .2) (u .2), after-inv s (u .0) (u .1) c q (u .3))

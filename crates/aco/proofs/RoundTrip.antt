@@ -9,9 +9,9 @@ use lib.ListN.{length, getD, List·getD-map}
 use native.Mathlib.Omega.{arith}
 use native.Mathlib.Nat.{zero-add}
 use Rattle.algebra.specs.Numbers.{num, nums, Bytes, All}
-use Rattle.algebra.specs.Reader.{Res, ok, refuse, pick, each, numberOf, limit}
+use Rattle.algebra.specs.Reader.{ok, refuse, pick, each, numberOf, limit}
 use Rattle.algebra.proofs.Places.{length-nums, at-whole}
-use Rattle.algebra.proofs.Inverse.{clash, each-length, ok-value}
+use Rattle.algebra.proofs.Inverse.{clash, refuse-same, each-length, ok-value}
 use Rattle.algebra.proofs.Exact.{length-map}
 use Rattle.algebra.proofs.Tells.{outcome-number}
 use Rattle.colour.specs.declared.space.Colour.{Colour}
@@ -65,18 +65,12 @@ refused-damaged {s} bytes short {z} {p} {r} {f} e = go (file-or s bytes short)
     go : FileOr s → Damaged s z p r f
     go (is-file l ws g) = clash (sym e ∙ allowed-reads g .1)
     go (is-damaged y q i g d) =
-        let same : refuse y q i g ≡ refuse z p r f = sym (damaged-refused d bytes short) ∙ e in
-        let a : y ≡ z = cc in
-        let b : q ≡ p = cc in
-        let c : i ≡ r = cc in
-        let h : g ≡ f = cc in
-        subst₂ (λ (n m : ℕ). Damaged s n m r f) a b (subst₂ (λ (n m : ℕ). Damaged s y q n m) c h d)
+        let x = refuse-same (damaged-refused d bytes short) e in
+        subst₂ (λ (n m : ℕ). Damaged s n m r f) (x .0) (x .1) (subst₂ (λ (n m : ℕ). Damaged s y q n m) (x .2) (x .3) d)
 
 -- no file is damaged in two ways: it has one number, one place, one record and one field
 pub damaged-unique : {s : List ℕ} → Bytes s → length s ≤ 16777216 → {z p r f y q i g : ℕ} → Damaged s z p r f → Damaged s y q i g → (z ≡ y) × (p ≡ q) × (r ≡ i) × (f ≡ g)
-damaged-unique bytes short {z} {p} {r} {f} {y} {q} {i} {g} d e =
-    let same : _≡_ {A = Res Contents} (refuse z p r f) (refuse y q i g) = sym (damaged-refused d bytes short) ∙ damaged-refused e bytes short in
-    (cc, cc, cc, cc)
+damaged-unique bytes short d e = refuse-same (damaged-refused d bytes short) (damaged-refused e bytes short)
 
 -- no file of the grammar is damaged
 pub allowed-undamaged : {l : ℕ} {ws : List Swatch} {s : List ℕ} → File l ws s → {z p r f : ℕ} → Damaged s z p r f → ⊥

@@ -3,8 +3,7 @@ use Prim.Native.Nat.{ℕ, _+_, _*_, _^_, _≤_, _<_}
 use mathlib.Core.Path.{_≡_, refl, sym, ap, _∙_, subst, subst₂}
 use mathlib.Core.List.{List, _++_, append-assoc}
 use mathlib.Core.Bool.{Bool, true, false}
-use lib.ListN.{length, getD, take}
-use lib.Seq.{length-take-le, getD-take}
+use lib.ListN.{length}
 use borrow.Author.Tests.{ne-eqb}
 use native.Mathlib.Omega.{arith}
 use native.Mathlib.Nat.{add-zero, zero-add}
@@ -12,15 +11,16 @@ use Rattle.algebra.specs.Numbers.{be, joined, Bytes, All}
 use Rattle.algebra.specs.Reader.{ok, refuse, Judged, fine, fault, judged, each}
 use Rattle.algebra.specs.Text.{name}
 use Rattle.algebra.proofs.Places.{length-be, length-bes}
-use Rattle.algebra.proofs.Exact.{all-map, all-from, all-at, all-by, judged-exact}
+use Rattle.algebra.proofs.Exact.{all-map, all-from, judged-exact}
 use Rattle.algebra.proofs.Stops.{judged-refuses, each-stops}
 use Rattle.algebra.proofs.Tails.{Tail, tail-left, tail-after, judged-there, judged-wrong, judged-cut, name-cut, name-none, name-units-cut, name-open}
 use Rattle.colour.specs.declared.space.Colour.{Colour}
 use Rattle.colour.specs.Spaces.{known, uses, allowed}
 use Rattle.aco.specs.Grammar.{Swatch, Space, Sample, colourBytes}
-use Rattle.aco.specs.Reading.{space, sample, samples, colour, version, heading, fieldOf, twin, entry, compared}
+use Rattle.aco.specs.Reading.{space, sample, samples, colour, version, heading, entry}
 use Rattle.aco.specs.Damaged.{DamagedHeading, version-cut, wrong-version, colours-cut, Begun, DamagedColour, space-cut, wrong-space, sample-cut, wrong-sample, DamagedName, count-cut, no-units, units-cut, unclosed, fieldsOf, DamagedRecord, field-cut, difference, wrong-name}
-use Rattle.aco.proofs.Fine.{space-fine, sample-fine, version-fine, compared-fine}
+use Rattle.aco.proofs.Fine.{space-fine, sample-fine, version-fine}
+use Rattle.aco.proofs.Answers.{unknown-space-first, field-cut-first, difference-first}
 use Rattle.aco.proofs.Laws.{hue, paint, Sized, space-known, space-uses, space-small, known-space, allowed-unused, unused-allowed, twins-exact}
 use Rattle.aco.proofs.Whole.{length-colour}
 
@@ -78,7 +78,7 @@ module _ (s : List ℕ) (bytes : Bytes s) (at : ℕ) where
   pub colour-stops : {l : List ℕ} {z p : ℕ} → DamagedColour l z p → Tail s at l → colour s at ≡ refuse z (at + p) 0 0
   unfolding colour
   colour-stops (space-cut l few) t = rw (judged-cut s 2 at space few t) (ap (λ (k : ℕ). refuse 2 k 0 0) (sym (add-zero at)))
-  colour-stops (wrong-space x l small none) t = rw (judged-wrong s 2 at space 4 x small (rw (no-space x none)) (tail-left s at (be 2 x) l t)) (ap (λ (k : ℕ). refuse 4 k 0 0) (sym (add-zero at)))
+  colour-stops (wrong-space x l small none) t = unknown-space-first s at x small (no-space x none) (tail-left s at (be 2 x) l t) ∙ ap (λ (k : ℕ). refuse 4 k 0 0) (sym (add-zero at))
   colour-stops (sample-cut x used vs l b few) t = samples-stop x used vs l b t 2 (judged-cut s 2 (at + (2 + 2 * length vs)) (sample x (length vs)) few)
   colour-stops (wrong-sample x used vs v l b small bad) t =
       samples-stop x used vs (be 2 v ++ l) b t 5 (λ u. judged-wrong s 2 (at + (2 + 2 * length vs)) (sample x (length vs)) 5 v small (rw (no-sample x used (length vs) v (b .space) small bad)) (tail-left s (at + (2 + 2 * length vs)) (be 2 v) l u))
@@ -94,33 +94,16 @@ name-stops s at (unclosed us l small fit o) t =
     name-open s 4 at us small fit o (tail-left s at (y ++ joined (be 2) us) l (subst (λ (x : List ℕ). Tail s at x) (sym (append-assoc y (joined (be 2) us) l)) t)) ∙ ap (λ (k : ℕ). refuse 8 k 0 0) (sym (add-zero at))
 
 module _ (s : List ℕ) (bytes : Bytes s) (i : ℕ) (w : Swatch) (sized : Sized (hue w)) (at : ℕ) where
-  -- f fields that are w's, and then one that is refused
-  fields-stop : (f : ℕ) (l : List ℕ) → f < 5 → Tail s at (joined (be 2) (take f (fieldsOf w)) ++ l) → (z r g : ℕ)
-      → (Tail s (at + 2 * f) l → twin i (hue w) f s (at + 2 * f) ≡ refuse z (at + 2 * f) r g) → entry i (hue w) s at ≡ refuse z (at + 2 * f) r g
-  unfolding entry
-  fields-stop f l h t z r g stop =
-      let c : Colour = hue w in
-      let vs : List ℕ = fieldsOf w in
-      let y : List ℕ = take f vs in
-      let ly : length y ≡ f = length-take-le f vs (omega (arith, sized .four)) in
-      let Twin : ℕ → ℕ → Type 0 = λ f v. (v < 256 ^ 2) × (compared i c f v ≡ fine) in
-      let all : All (λ k v. v < 256 ^ 2) 0 vs = (sized .small, all-from (λ v. v < 256 ^ 2) 0 1 (w .samples) (sized .each-small)) in
-      let fit : All Twin 0 y =
-      all-by Twin 0 0 y (λ k b.
-      let e : getD y k 0 ≡ getD vs k 0 = getD-take f vs k 0 (omega arith) in
-      let sm : getD vs k 0 < 256 ^ 2 = all-at (λ k v. v < 256 ^ 2) 0 0 vs all k (omega (arith, sized .four)) in
-      (subst (λ (n : ℕ). n < 256 ^ 2) (sym e) sm, compared-fine i c (0 + k) (getD y k 0) (e ∙ ap (λ (n : ℕ). getD vs n 0) (sym (zero-add k))))) in
-      let len : at + length (joined (be 2) y) ≡ at + 2 * f = omega (arith, length-bes 2 y) in
-      let e : each 5 0 (twin i c) s at ≡ refuse z (at + 2 * f) r g =
-      each-stops {p = twin i c} {Ok = Twin} (λ f. judged-exact s bytes 2 (compared i c f)) 5 0 at y (omega arith) fit (tail-left s at (joined (be 2) y) l t)
-      (subst₂ (λ (k m : ℕ). twin i c k s m ≡ refuse z (at + 2 * f) r g) (sym (zero-add (length y) ∙ ly)) (sym len) (stop (tail-after s at (joined (be 2) y) l (at + 2 * f) len t))) in
-      rw e
+  five : length (fieldsOf w) ≡ 5
+  five = omega (arith, sized .four)
+
+  small : All (λ k v. v < 256 ^ 2) 0 (fieldsOf w)
+  small = (sized .small, all-from (λ v. v < 256 ^ 2) 0 1 (w .samples) (sized .each-small))
 
   pub record-stops : {l : List ℕ} {z p r f : ℕ} → DamagedRecord i w l z p r f → Tail s at l → entry i (hue w) s at ≡ refuse z (at + p) r f
   unfolding entry colourBytes
-  record-stops (field-cut f l h few) t = fields-stop f l h t 2 0 0 (judged-cut s 2 (at + 2 * f) (compared i (hue w) f) few)
-  record-stops (difference f v l h small ne) t =
-      fields-stop f (be 2 v ++ l) h t 7 i f (λ u. judged-refuses s bytes 2 (compared i (hue w) f) (at + 2 * f) v 7 i f small (tail-left s (at + 2 * f) (be 2 v) l u) (rw (ne-eqb v (fieldOf (hue w) f) ne)))
+  record-stops (field-cut f l h few) t = field-cut-first s bytes i (hue w) five small at f l h few t
+  record-stops (difference f v l h fits ne) t = difference-first s bytes i (hue w) five small at f v l h fits ne t
   record-stops (wrong-name l z p d) t =
       let c : Colour = hue w in
       let ten : at + length (paint c) ≡ at + 10 = ap (λ (k : ℕ). at + k) (length-colour w (sized .four)) in

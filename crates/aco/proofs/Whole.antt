@@ -154,9 +154,10 @@ module _ (s : List ℕ) (bytes : Bytes s) (ws : List Swatch) (pal : Palette ws) 
   pub second-heads : (q : ℕ) (more : List ℕ) → At s q (be 2 2 ++ (be 2 (length ws) ++ more)) → (heading 2 (secondCount (length (map hue ws))) s q ≡ ok (length ws) (q + 4)) × At s (q + 4) more
   second-heads q more h = heads 2 (omega arith) (secondCount (length (map hue ws))) (second-fine (length (map hue ws)) (length ws) (sym (length-map hue ws))) q more h
 
-  -- list 2, before the file's end or more
-  pub second-passes : (q : ℕ) → At s q (listTwo ws) → (es : List Entry) × (second (map hue ws) s q ≡ ended (record { lists = 2; records = es }) s (q + length (listTwo ws))) × (map swatch es ≡ ws)
-  unfolding second listTwo
+  -- list 2, before the file's end or more: its heading, and its records es
+  pub second-passes : (q : ℕ) → At s q (listTwo ws) → (es : List Entry) × (heading 2 (secondCount (length (map hue ws))) s q ≡ ok (length ws) (q + 4))
+      × (each (length (map hue ws)) 0 (λ i. entry i (getD (map hue ws) i black)) s (q + 4) ≡ ok es (q + length (listTwo ws))) × (map swatch es ≡ ws)
+  unfolding listTwo
   second-passes q h =
       let n : ℕ = length ws in
       let cs : List Colour = map hue ws in
@@ -165,11 +166,11 @@ module _ (s : List ℕ) (bytes : Bytes s) (ws : List Swatch) (pal : Palette ws) 
       let y = each-exact {p = λ i. entry i (getD cs i black)} {Ok = Repeats ws} (record-exact s bytes ws pal) (length cs) 0 .reads (q + 4) ws (sym (length-map hue ws), own-records ws pal) (x .1) in
       let z : q + 4 + length l ≡ q + length (be 2 2 ++ (be 2 n ++ l)) =
       omega (arith, length-append (be 2 2) (be 2 n ++ l), length-append (be 2 n) l, length-be 2 2, length-be 2 n) in
-      (y .0, rw (x .0) (rw (y .1) (ap (λ (k : ℕ). ended (record { lists = 2; records = y .0 }) s k) z)), y .2)
+      (y .0, x .0, y .1 ∙ ap (λ (k : ℕ). ok (y .0) k) z, y .2)
 
   pub second-reads : (q : ℕ) → At s q (listTwo ws) → q + length (listTwo ws) ≡ length s → (es : List Entry) × (second (map hue ws) s q ≡ ok (record { lists = 2; records = es }) (length s)) × (map swatch es ≡ ws)
-  unfolding ended
-  second-reads q h end = let x = second-passes q h in (x .0, x .1 ∙ rw end (simp (eq-eqb (length s) (length s) refl)), x .2)
+  unfolding second ended
+  second-reads q h end = let x = second-passes q h in (x .0, rw (x .1) (rw (x .2 ∙ ap (λ (k : ℕ). ok (x .0) k) end) (simp (eq-eqb (length s) (length s) refl))), x .3)
 
 pub plain-reads : (ws : List Swatch) → Palette ws → length (listOne ws) ≤ 16777216 → aco (listOne ws) ≡ ok (record { lists = 1; records = map unnamed (map hue ws) }) (length (listOne ws))
 unfolding aco after

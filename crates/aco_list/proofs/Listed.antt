@@ -1,7 +1,7 @@
 -- A line for each record that a walk gives, and all of them for an accepted file. Assumes nothing.
 use Prim.Native.Nat.{ℕ, zero, suc, _+_, _-_, _*_, _≤_, _<_}
 use mathlib.Core.Path.{_≡_, refl, sym, ap, ap₂, _∙_, subst}
-use mathlib.Core.List.{List, [], _∷_, _++_}
+use mathlib.Core.List.{List, _++_}
 use mathlib.Core.Bool.{Bool, true, false}
 use lib.ListN.{length}
 use native.Mathlib.Omega.{arith}
@@ -14,9 +14,10 @@ use Rattle.algebra.proofs.Places.{at-take, bes-nums, length-bes, length-nums}
 use Rattle.colour.specs.declared.space.Colour.{Colour}
 use Rattle.aco.specs.Reading.{colour, Entry, Contents, unnamed, aco}
 use Rattle.aco_judge.specs.Answer.{accepted, refused as refusedFile, verdict}
-use Rattle.walk.specs.Walk.{Call, gives, over, refused, Step, placeAfter, call, inTurn}
+use Rattle.walk.specs.Walk.{Call, gives, over, refused, Step, given}
 use Rattle.walk.specs.Names.{namePart}
 use Rattle.walk.proofs.Calls.{step-read}
+use Rattle.walk.proofs.Turns.{given-all, given-start, given-none, given-next, given-over, given-refused}
 use Rattle.aco_walk.specs.Walking.{isPlain, firstPlace, titled, labelled, swatchFrom, walk}
 use Rattle.aco_walk.specs.Answer.{toldGiven, toldStep, handed}
 use Rattle.aco_walk.specs.declared.Given.{Given}
@@ -26,16 +27,9 @@ use Rattle.aco_walk.proofs.Walked.{colours-in-turn, given-name}
 use Rattle.listing.specs.Buffer.{Buffer, putAll}
 use Rattle.listing.specs.Text.{ascii, lines, refusal}
 use Rattle.listing.proofs.Putting.{lines-turn, lines-none}
-use Rattle.aco_list.specs.Listing.{heading, colourLine, line, listing, followed, given}
+use Rattle.aco_list.specs.Listing.{heading, colourLine, line, listing}
 
 -- ---- what the calls give
-
--- a walk whose calls are the items of a list gives that list
-pub given-all : {A : Type 0} (f : Step A) (xs : List A) (at : ℕ) → ((i : ℕ) → call f at i ≡ inTurn xs i) → given f (length xs) at ≡ xs
-unfolding given placeAfter inTurn
-given-all f [] at h = refl
-given-all f (a ∷ more) at h =
-    ap (λ (c : Call _). followed c (f at .1) (λ q. given f (length more) q)) (h 0) ∙ ap (λ (l : List _). a ∷ l) (given-all f more (f at .1) (λ i. h (suc i)))
 
 pub accepted-given : (s : List ℕ) {c : Contents} {q : ℕ} → aco s ≡ ok c q → given (walk s) (length (c .records)) (firstPlace s) ≡ c .records
 accepted-given s {c} e = given-all (walk s) (c .records) (firstPlace s) (colours-in-turn s e)
@@ -84,34 +78,24 @@ told-refused w {c} {y} {n} {q} h = go (w .0) (w .1) h
 -- ---- the loop
 
 pub lines-start : (f : Step Entry) (o : Buffer) (n : ℕ) {p at : ℕ} → p ≡ at → putAll o (lines line 0 (given f n at)) ≡ putAll o (lines line 0 (given f (n - 0) p))
-lines-start f o n {p} {at} e = let z : n ≡ n - 0 = omega arith in ap₂ (λ (k q : ℕ). putAll o (lines line 0 (given f k q))) z (sym e)
+lines-start f o n e = ap (λ (l : List Entry). putAll o (lines line 0 l)) (given-start f n e)
 
-pub lines-end : (f : Step Entry) (o : Buffer) (n i at : ℕ) {all : Buffer} → n ≤ i → all ≡ putAll o (lines line i (given f (n - i) at)) → all ≡ o
-unfolding given
-lines-end f o n i at {all} h e = let z : n - i ≡ 0 = omega arith in lines-none line all o i (e ∙ ap (λ (k : ℕ). putAll o (lines line i (given f k at))) z)
+module _ (f : Step Entry) (all o : Buffer) (n i at : ℕ) (all-is : all ≡ putAll o (lines line i (given f (n - i) at))) where
+  by : {l : List Entry} → given f (n - i) at ≡ l → all ≡ putAll o (lines line i l)
+  by e = all-is ∙ ap (λ (l : List Entry). putAll o (lines line i l)) e
 
-module _ (f : Step Entry) (all o : Buffer) (n i at : ℕ) (h : i < n) (all-is : all ≡ putAll o (lines line i (given f (n - i) at))) where
-  left-is : n - i ≡ suc (n - (i + 1))
-  left-is = omega arith
+  pub lines-end : n ≤ i → all ≡ o
+  lines-end h = lines-none line all o i (by (given-none f n i at h))
 
-  pub line-turn : {p : Buffer} {e : Entry} {q : ℕ} → f at ≡ (gives e, q) → p ≡ putAll o (line i e) → all ≡ putAll p (lines line (i + 1) (given f (n - (i + 1)) q))
-  unfolding given
-  line-turn {e = e} {q = q} g x =
-      lines-turn line all o i e (given f (n - (i + 1)) q)
-      (all-is ∙ ap (λ (k : ℕ). putAll o (lines line i (given f k at))) left-is ∙ ap (λ (w : Call Entry × ℕ). putAll o (lines line i (followed (w .0) (w .1) (λ r. given f (n - (i + 1)) r)))) g) x
+  module _ (h : i < n) where
+    pub line-turn : {p : Buffer} {e : Entry} {q : ℕ} → f at ≡ (gives e, q) → p ≡ putAll o (line i e) → all ≡ putAll p (lines line (i + 1) (given f (n - (i + 1)) q))
+    line-turn {e = e} {q = q} g x = lines-turn line all o i e (given f (n - (i + 1)) q) (by (given-next f n i at h g)) x
 
-  stops : (c : Call Entry) → f at .0 ≡ c → followed c (f at .1) (λ r. given f (n - (i + 1)) r) ≡ [] → all ≡ o
-  unfolding given
-  stops c g x =
-      lines-none line all o i
-      (all-is ∙ ap (λ (k : ℕ). putAll o (lines line i (given f k at))) left-is
-      ∙ ap (λ (a : Call Entry). putAll o (lines line i (followed a (f at .1) (λ r. given f (n - (i + 1)) r)))) g ∙ ap (λ (l : List Entry). putAll o (lines line i l)) x)
+    pub line-over : {c : Colour} {q : ℕ} → handed (f at) ≡ (c, over, q) → all ≡ o
+    line-over e = lines-none line all o i (by (given-over f n i at h (told-over (f at) e)))
 
-  pub line-over : {c : Colour} {q : ℕ} → handed (f at) ≡ (c, over, q) → all ≡ o
-  line-over e = stops over (told-over (f at) e) refl
-
-  pub line-refused : {c : Colour} {x y q : ℕ} → handed (f at) ≡ (c, refused x y, q) → all ≡ o
-  line-refused {x = x} {y = y} e = stops (refused x y) (told-refused (f at) e) refl
+    pub line-refused : {c : Colour} {x y q : ℕ} → handed (f at) ≡ (c, refused x y, q) → all ≡ o
+    line-refused e = lines-none line all o i (by (given-refused f n i at h (told-refused (f at) e)))
 
 -- ---- a name's bytes are those of its units
 

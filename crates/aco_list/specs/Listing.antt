@@ -1,13 +1,12 @@
 -- What is listed of an ACO file: docs/LISTINGS.md.
-use Prim.Native.Nat.{ℕ, zero, suc}
-use mathlib.Core.List.{List, [], _∷_, _++_}
+use Prim.Native.Nat.{ℕ}
+use mathlib.Core.List.{List, _++_}
 use lib.ListN.{length}
 use lib.Dec.{eqb}
 use Rattle.algebra.specs.Reader.{Res, ok, refuse, pick}
 use Rattle.algebra.specs.Numbers.{be, joined}
 use Rattle.colour.specs.declared.space.Colour.{Colour}
 use Rattle.aco.specs.Reading.{Entry, Contents}
-use Rattle.walk.specs.Walk.{Call, gives, over, refused, Step}
 use Rattle.listing.specs.Text.{ascii, decimal, word, name, lines, refusal}
 
 abbrev pub heading : ℕ → ℕ → List ℕ
@@ -24,15 +23,3 @@ line i e = colourLine i (e .colour) (joined (be 2) (e .name .units))
 abbrev pub listing : Res Contents → List ℕ
 listing (ok c q) = heading (length (c .records)) (c .lists) ++ lines line 0 (c .records) ++ ascii "end\n"
 listing (refuse x p r f) = refusal x p
-
--- ---- the records of a walk
-
-abbrev pub followed : {A : Type 0} → Call A → ℕ → (ℕ → List A) → List A
-followed (gives a) q next = a ∷ next q
-followed over q next = []
-followed (refused x p) q next = []
-
--- what the first n calls from a place give, up to one that gives nothing
-unfoldable pub given : {A : Type 0} → Step A → ℕ → ℕ → List A
-given f zero at = []
-given f (suc n) at = followed (f at .0) (f at .1) (λ q. given f n q)

@@ -1,7 +1,7 @@
--- A byte string by what it begins with: a number, numbers, so many bytes; and units that are closed or not. Nothing here reads. Assumes nothing.
-use Prim.Native.Nat.{ℕ, _+_, _*_, _^_, _<_}
-use mathlib.Core.Path.{_≡_, sym, subst}
-use mathlib.Core.List.{List, [], _∷_, _++_}
+-- A byte string by what it begins with: a number, numbers, so many bytes, parts of one kind; and units that are closed or not. Nothing here reads. Assumes nothing.
+use Prim.Native.Nat.{ℕ, zero, suc, _+_, _*_, _^_, _<_}
+use mathlib.Core.Path.{_≡_, refl, sym, ap, subst}
+use mathlib.Core.List.{List, [], _∷_, _++_, append-assoc}
 use mathlib.Core.Logic.{_⊎_, inl, inr}
 use lib.ListN.{length, drop}
 use lib.Seq.{getD-drop}
@@ -84,3 +84,28 @@ closed-or-open u (v ∷ us) = elim (ℕ-discrete u 0) [
     | inr o ↦ inr (open-more u o)
   ]
 ]
+
+-- ---- n parts of one kind, or some of them and then a bad one, of which y is told
+
+pub data PartOr {A Y : Type 0} (Ok : A → Type 0) (ser : A → List ℕ) (Bad : List ℕ → Y → Type 0) : List ℕ → Type 0 where
+  bad-part : (l : List ℕ) (y : Y) → Bad l y → PartOr Ok ser Bad l
+  good-part : (a : A) (l : List ℕ) → Ok a → Bytes l → PartOr Ok ser Bad (ser a ++ l)
+
+pub data PartsOr {A Y : Type 0} (Ok : A → Type 0) (ser : A → List ℕ) (Bad : List ℕ → Y → Type 0) (n : ℕ) : List ℕ → Type 0 where
+  bad-parts : (before : List A) (l : List ℕ) (y : Y) → length before < n → All (λ k a. Ok a) 0 before → Bad l y → PartsOr Ok ser Bad n (joined ser before ++ l)
+  good-parts : (xs : List A) (l : List ℕ) → length xs ≡ n → All (λ k a. Ok a) 0 xs → Bytes l → PartsOr Ok ser Bad n (joined ser xs ++ l)
+
+module _ {A Y : Type 0} (Ok : A → Type 0) (ser : A → List ℕ) (Bad : List ℕ → Y → Type 0) where
+  part-more : (n : ℕ) (a : A) → Ok a → {l : List ℕ} → PartsOr Ok ser Bad n l → PartsOr Ok ser Bad (suc n) (ser a ++ l)
+  unfolding joined
+  part-more n a h (bad-parts before l y few ok d) = subst (PartsOr Ok ser Bad (suc n)) (append-assoc (ser a) (joined ser before) l) (bad-parts (a ∷ before) l y (omega arith) (h, all-from Ok 0 1 before ok) d)
+  part-more n a h (good-parts xs l all ok b) = subst (PartsOr Ok ser Bad (suc n)) (append-assoc (ser a) (joined ser xs) l) (good-parts (a ∷ xs) l (ap suc all) (h, all-from Ok 0 1 xs ok) b)
+
+  pub parts-or : ((l : List ℕ) → Bytes l → PartOr Ok ser Bad l) → (n : ℕ) (l : List ℕ) → Bytes l → PartsOr Ok ser Bad n l
+  unfolding joined
+  parts-or one zero l b = good-parts [] l refl tt b
+  parts-or one (suc n) l b = go (λ k x. parts-or one n k x) (one l b)
+    where
+      go : ((l : List ℕ) → Bytes l → PartsOr Ok ser Bad n l) → {l : List ℕ} → PartOr Ok ser Bad l → PartsOr Ok ser Bad (suc n) l
+      go more (bad-part l y d) = bad-parts [] l y (omega arith) tt d
+      go more (good-part a l h x) = part-more n a h (more l x)

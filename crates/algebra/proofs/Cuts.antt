@@ -1,6 +1,6 @@
 -- A file that ends inside the bytes of a grammar is refused by 2 at the first field that is not whole: each combinator. Assumes nothing.
 use Prim.Native.Nat.{ℕ, zero, suc, _+_, _*_, _-_, _^_, _≤_, _<_}
-use mathlib.Core.Path.{_≡_, refl, sym, ap, _∙_, subst}
+use mathlib.Core.Path.{_≡_, refl, sym, ap, ap₂, _∙_, subst}
 use mathlib.Core.List.{List, [], _∷_, _++_}
 use mathlib.Core.Bool.{Bool}
 use lib.Dec.{ltb, eqb}
@@ -15,7 +15,7 @@ use Rattle.algebra.specs.Reader.{Res, ok, refuse, Reader, then, field, b
 use Rattle.algebra.specs.Text.{name, nameBytes, Named}
 use Rattle.algebra.specs.Algebra.{Exact}
 use Rattle.algebra.proofs.Laws.{field-in, field-short, body-short, judged-short, judged-ok}
-use Rattle.algebra.proofs.Places.{length-be, length-bes, at-left, at-right, at-whole, num-be}
+use Rattle.algebra.proofs.Places.{length-be, length-bes, at-in, at-left, at-right, at-whole, num-be}
 use Rattle.algebra.proofs.Exact.{length-nameBytes, judged-exact}
 use Rattle.algebra.specs.Cut.{total, notWhole, Stub, Cuts, Spans, nameWidths}
 
@@ -130,7 +130,13 @@ module _ (s : List ℕ) (w : ℕ) where
         body-short w s at n (omega (arith, h .inside)) ∙ ap (λ (k : ℕ). refuse 2 k 0 0) (sym (whole-here (n * w) [] at (length s) l));
   }
 
--- a judged field that stands in the file
+-- a field that stands in the file
+pub field-reads : (s : List ℕ) (w at v : ℕ) → v < 256 ^ w → At s at (be w v) → field w s at ≡ ok v (at + length (be w v))
+field-reads s w at v small h =
+    let l : at + w ≡ at + length (be w v) = omega (arith, length-be w v) in
+    field-in w s at (omega (arith, at-in s at (be w v) h, length-be w v)) ∙ ap₂ (λ (x y : ℕ). ok x y) (num-be s w at v small h) l
+
+-- one that is judged
 pub judged-reads : (s : List ℕ) → Bytes s → (w : ℕ) (j : ℕ → Judged) (at v : ℕ) → v < 256 ^ w → j v ≡ fine → At s at (be w v) → judged w j s at ≡ ok v (at + length (be w v))
 judged-reads s bytes w j at v small good h =
     let r = judged-exact s bytes w j .reads at v (small, good) h in
@@ -191,6 +197,17 @@ pub step-cut : {A B : Type 0} (s : List ℕ) (at : ℕ) (m : Res A) (k : A → �
     → Stub s at (x ++ y) → then m k ≡ refuse 2 (notWhole (v ++ w) at (length s)) 0 0
 step-cut s at m k x y v w e one two h = join-cut s at (then m k) x y v w e (λ f. ap (λ (r : Res _). then r k) (one f)) two h
 
+-- the same of a field that is n, and then of more
+module _ {A : Type 0} (s : List ℕ) (bytes : Bytes s) (w : ℕ) (k : ℕ → ℕ → Res A) (at n : ℕ) (y v : List ℕ) (small : n < 256 ^ w)
+    (more : Stub s (at + length (be w n)) y → k n (at + length (be w n)) ≡ refuse 2 (notWhole v (at + length (be w n)) (length s)) 0 0) where
+  pub field-then-cut : Stub s at (be w n ++ y) → then (field w s at) k ≡ refuse 2 (notWhole (w ∷ v) at (length s)) 0 0
+  field-then-cut h =
+      step-cut s at (field w s at) k (be w n) y (w ∷ []) v (number-spans w {Ok = λ v. Unit} .span n tt) (field-cuts s w {Ok = λ v. Unit} .cut at n tt) (λ f g. rw (field-reads s w at n small f) (more g)) h
+
+  pub judged-then-cut : (j : ℕ → Judged) → j n ≡ fine → Stub s at (be w n ++ y) → then (judged w j s at) k ≡ refuse 2 (notWhole (w ∷ v) at (length s)) 0 0
+  judged-then-cut j good h =
+      step-cut s at (judged w j s at) k (be w n) y (w ∷ []) v (number-spans w {Ok = λ v. Unit} .span n tt) (judged-cuts s w {Ok = λ v. Unit} j .cut at n tt) (λ f g. rw (judged-reads s bytes w j at n small good f) (more g)) h
+
 -- a step, then what depends on its value: `part` is the step's value in the whole
 module _ {A B C D : Type 0} {s : List ℕ} {m : Reader A} {k : A → Reader C} {view : A → B} {OkA : B → Type 0} {serA wA : B → List ℕ}
     {OkD : D → Type 0} {rest wD : D → List ℕ} (part : D → B) (one : Exact s m view OkA serA) (cutA : Cuts s m OkA serA wA) (size : Spans OkA serA wA)
@@ -205,12 +222,9 @@ module _ {A B C D : Type 0} {s : List ℕ} {m : Reader A} {k : A → Reader C} {
 -- a field that is v, else 3, and then more
 pub mark-cuts : {A B : Type 0} (s : List ℕ) → Bytes s → {m : Reader A} {Ok : B → Type 0} {rest more : B → List ℕ} (w v : ℕ) → v < 256 ^ w → Cuts s m Ok rest more
     → Cuts s (judged w (λ x. unless (eqb x v) 3) >>= (λ x. m)) Ok (λ b. be w v ++ rest b) (λ b. w ∷ more b)
-mark-cuts s bytes {m} {Ok} {rest} {more} w v small x =
-    let j : ℕ → Judged = λ x. unless (eqb x v) 3 in record {
-      cut = λ at b fit h.
-          step-cut s at (judged w j s at) _ (be w v) (rest b) (w ∷ []) (more b) (number-spans w {Ok = λ v. Unit} .span v tt) (judged-cuts s w {Ok = λ v. Unit} j .cut at v tt)
-          (λ f g. rw (judged-reads s bytes w j at v small (ap (λ (b : Bool). unless b 3) (eq-eqb v v refl)) f) (x .cut (at + length (be w v)) b fit g)) h;
-    }
+mark-cuts s bytes w v small x = record {
+  cut = λ at b fit h. judged-then-cut s bytes w _ at v _ _ small (x .cut (at + length (be w v)) b fit) (λ x. unless (eqb x v) 3) (ap (λ (b : Bool). unless b 3) (eq-eqb v v refl)) h;
+}
 
 -- ---- counted repetition
 

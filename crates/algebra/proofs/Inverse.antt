@@ -22,6 +22,10 @@ ok-value e = cc
 pub ok-place : {A : Type 0} {a b : A} {q r : ℕ} → ok a q ≡ ok b r → q ≡ r
 ok-place e = cc
 
+-- an answer is refused in one way
+pub refuse-same : {A : Type 0} {m : Res A} {y q i g z p r f : ℕ} → m ≡ refuse y q i g → m ≡ refuse z p r f → (y ≡ z) × (q ≡ p) × (i ≡ r) × (g ≡ f)
+refuse-same {A} {m} {y} {q} {i} {g} {z} {p} {r} {f} a b = let same : _≡_ {A = Res A} (refuse y q i g) (refuse z p r f) = sym a ∙ b in (cc, cc, cc, cc)
+
 -- ---- routing
 
 -- both steps accept
@@ -54,11 +58,11 @@ done-inv (refuse x p r f) e = clash e
 module _ (w : ℕ) (s : List ℕ) (at : ℕ) where
   pub field-inv : {v q : ℕ} → field w s at ≡ ok v q → (w ≤ length s - at) × (num w s at ≡ v) × (at + w ≡ q)
   unfolding field
-  field-inv e = let i = pick-inv (leb w (length s - at)) (ok (num w s at) (at + w)) 2 at 0 0 e in (leb-true _ _ (i .0), ok-value (i .1), ok-place (i .1))
+  field-inv e = let i = pick-inv (leb w (length s - at)) (ok (num w s at) (at + w)) _ _ _ _ e in (leb-true _ _ (i .0), ok-value (i .1), ok-place (i .1))
 
   pub body-inv : (n : ℕ) {vs : List ℕ} {q : ℕ} → body w n s at ≡ ok vs q → (n * w ≤ length s - at) × (nums w n s at ≡ vs) × (at + n * w ≡ q)
   unfolding body
-  body-inv n e = let i = pick-inv (leb (n * w) (length s - at)) (ok (nums w n s at) (at + n * w)) 2 at 0 0 e in (leb-true _ _ (i .0), ok-value (i .1), ok-place (i .1))
+  body-inv n e = let i = pick-inv (leb (n * w) (length s - at)) (ok (nums w n s at) (at + n * w)) _ _ _ _ e in (leb-true _ _ (i .0), ok-value (i .1), ok-place (i .1))
 
   pub judged-inv : (j : ℕ → Judged) {v q : ℕ} → judged w j s at ≡ ok v q → (w ≤ length s - at) × (num w s at ≡ v) × (at + w ≡ q) × (j v ≡ fine)
   judged-inv j e =
@@ -120,7 +124,7 @@ front-nums w (suc n) s at = ap (λ (l : List ℕ). num w s at ∷ l) (front-nums
 
 pub ended-inv : {A : Type 0} (a : A) (s : List ℕ) (at : ℕ) {b : A} {q : ℕ} → ended a s at ≡ ok b q → (at ≡ length s) × (a ≡ b) × (at ≡ q)
 unfolding ended
-ended-inv a s at e = let i = pick-inv (eqb at (length s)) (ok a at) 6 at 0 0 e in (eqb-true _ _ (i .0), ok-value (i .1), ok-place (i .1))
+ended-inv a s at e = let i = pick-inv (eqb at (length s)) (ok a at) _ _ _ _ e in (eqb-true _ _ (i .0), ok-value (i .1), ok-place (i .1))
 
 -- ---- counted repetition
 

@@ -5,7 +5,7 @@ use mathlib.Core.List.{List, _∷_}
 use mathlib.Core.Bool.{Bool, true, false}
 use lib.Dec.{leb, eqb}
 use lib.ListN.{length, getD}
-use borrow.Author.Tests.{le-leb, lt-leb, leb-true}
+use borrow.Author.Tests.{le-leb, lt-leb, leb-true, ne-eqb}
 use native.Mathlib.Omega.{arith}
 use native.Mathlib.Nat.{add-zero, add-suc, sub-zero, mul-assoc, pow-suc}
 use Rattle.algebra.specs.Numbers.{num, nums}
@@ -92,6 +92,11 @@ done-each (refuse x p r f) k K h = refl
 pub then-then : {A B C : Type 0} (m : Res A) (k : A → ℕ → Res B) (l : B → ℕ → Res C) → then (then m k) l ≡ then m (λ a q. then (k a q) l)
 then-then (ok a q) k l = refl
 then-then (refuse x p r f) k l = refl
+
+-- bytes behind the end are 6 where they begin
+pub ended-left : {A : Type 0} (a : A) (s : List ℕ) (at : ℕ) → at < length s → ended a s at ≡ refuse 6 at 0 0
+unfolding ended
+ended-left a s at h = simp (ne-eqb at (length s) (λ z. omega arith))
 
 ended-by : {A : Type 0} (b : Bool) (a : A) (q : ℕ) → done (pick b (ok a q) (refuse 6 q 0 0)) ≡ pick b (ok tt q) (refuse 6 q 0 0)
 ended-by true a q = refl

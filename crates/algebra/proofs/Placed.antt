@@ -96,13 +96,13 @@ module _ {ns s : List ℕ} where
   chain-placed next p g zero d at l = ends l
   chain-placed next p g (suc n) d at l = placed-then (p d s at) _ (g d at l) (λ a q h. placed-then (chain next p n (next d a) s q) _ (chain-placed next p g n (next d a) q h) (λ more e w. ends w))
 
-  -- ---- the file's end, and 1 where it is longer than the limit
+  -- ---- the file's end, and where it is longer than the limit
 
   pub ended-placed : {A : Type 0} → Of ns 6 → (a : A) (at : ℕ) → at ≤ length s → Placed ns s (ended a s at)
   unfolding ended
   ended-placed six a at l = placed-pick (eqb at (length s)) (ends l) (fails six l)
 
-  pub limited-placed : {A : Type 0} {m : Res A} → Of ns 1 → Placed ns s m → Placed ns s (pick (leb (length s) limit) m (refuse 1 0 0 0))
+  pub limited-placed : {A : Type 0} {m : Res A} {n : ℕ} → Of ns n → Placed ns s m → Placed ns s (pick (leb (length s) limit) m (refuse n 0 0 0))
   limited-placed one h = let i : 0 ≤ length s = omega arith in placed-pick (leb (length s) limit) h (fails one i)
 
 -- ---- fields, which give 2

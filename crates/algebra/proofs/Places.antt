@@ -130,6 +130,10 @@ num-be s (suc w) at v h k =
     let lo : getD s (at + w) 0 ≡ v % 256 = subst (λ (n : ℕ). getD s (at + n) 0 ≡ v % 256) (length-be w (v / 256)) (at-right s at (be w (v / 256)) (v % 256 ∷ []) k .1) in
     rw (hi, lo) (div-add-mod' v 256)
 
+-- numbers whose bytes are the same
+pub be-same : (w v u : ℕ) → v < 256 ^ w → u < 256 ^ w → be w v ≡ be w u → v ≡ u
+be-same w v u small few e = sym (num-be (be w v) w 0 v small (at-whole (be w v))) ∙ num-be (be w v) w 0 u few (subst (λ (l : List ℕ). At (be w v) 0 l) e (at-whole (be w v)))
+
 -- what is read is written back
 pub be-num : (s : List ℕ) → Bytes s → (w at : ℕ) → at + w ≤ length s → At s at (be w (num w s at))
 unfolding num be At

@@ -8,7 +8,7 @@ use lib.ListN.{length, length-append}
 use borrow.Author.Tests.{eqb-true, eq-eqb}
 use native.Mathlib.Omega.{arith}
 use Rattle.algebra.specs.Numbers.{be, At, Bytes}
-use Rattle.algebra.specs.Reader.{Res, ok, refuse, Reader, then, field, unless, judged, _>>=_}
+use Rattle.algebra.specs.Reader.{Res, ok, refuse, Reader, then, field, Judged, fine, unless, judged, _>>=_}
 use Rattle.algebra.specs.Algebra.{Exact}
 use Rattle.algebra.proofs.Laws.{field-in}
 use Rattle.algebra.proofs.Places.{length-be, at-in, at-next, at-left, at-right, num-be, be-num, num-lt}
@@ -38,15 +38,20 @@ module _ (s : List ℕ) (bytes : Bytes s) where
         (subst (λ (x : ℕ). x < 256 ^ w) (i .1) (num-lt s bytes w at), subst (λ (x : ℕ). At s at (be w x)) (i .1) (be-num s bytes w at (omega arith)), omega arith);
   }
 
-  -- a field that is v, else 3, and then more
-  pub mark-exact : {A B : Type 0} {m : Reader A} {view : A → B} {Ok : B → Type 0} {rest : B → List ℕ} (w v : ℕ) → v < 256 ^ w → Exact s m view Ok rest
-      → Exact s (judged w (λ x. unless (eqb x v) 3) >>= (λ x. m)) view Ok (λ b. be w v ++ rest b)
-  mark-exact {A} {B} {m} {view} {Ok} {rest} w v small more =
+  -- a field of which v alone is fine, and then more
+  pub only-exact : {A B : Type 0} {m : Reader A} {view : A → B} {Ok : B → Type 0} {rest : B → List ℕ} (w v : ℕ) (j : ℕ → Judged) → v < 256 ^ w → j v ≡ fine → ((x : ℕ) → j x ≡ fine → x ≡ v) → Exact s m view Ok rest
+      → Exact s (judged w j >>= (λ x. m)) view Ok (λ b. be w v ++ rest b)
+  only-exact {A} {B} {m} {view} {Ok} {rest} w v j small good only more =
       same-exact
       (bind-exact {k = λ x. m} {OkD = Ok} {rest = rest} (λ b. tt {0})
-      (one-exact (judged-exact s bytes w (λ x. unless (eqb x v) 3)) v (small, ap (λ (b : Bool). unless b 3) (eq-eqb v v refl)) (λ x h. eqb-true x v (unless-fine (eqb x v) 3 (h .1))))
+      (one-exact (judged-exact s bytes w j) v (small, good) (λ x h. only x (h .1)))
       (λ x. same-exact more (λ b. Ok b × (tt {0} ≡ tt)) rest (λ b h. (h, refl)) (λ b h. h .0) (λ b h. refl)))
       Ok (λ b. be w v ++ rest b) (λ b h. h .1) (λ b h. (tt, h)) (λ b h. refl)
+
+  -- a field that is v, else 3
+  pub mark-exact : {A B : Type 0} {m : Reader A} {view : A → B} {Ok : B → Type 0} {rest : B → List ℕ} (w v : ℕ) → v < 256 ^ w → Exact s m view Ok rest
+      → Exact s (judged w (λ x. unless (eqb x v) 3) >>= (λ x. m)) view Ok (λ b. be w v ++ rest b)
+  mark-exact w v small more = only-exact w v (λ x. unless (eqb x v) 3) small (ap (λ (b : Bool). unless b 3) (eq-eqb v v refl)) (λ x h. eqb-true x v (unless-fine (eqb x v) 3 h)) more
 
 -- a step, then what depends on its value b: what follows is allowed by b and the whole d, of which b is a part
 module _ {A B C D : Type 0} {s : List ℕ} {m : Reader A} {k : A → Reader C} {viewA : A → B} {OkA : B → Type 0} {serA : B → List ℕ}

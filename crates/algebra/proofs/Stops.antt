@@ -3,11 +3,10 @@ use Prim.Native.Nat.{ℕ, zero, suc, _+_, _^_, _<_}
 use mathlib.Core.Path.{_≡_, sym, ap, _∙_, subst, subst₂}
 use mathlib.Core.List.{List, [], _∷_, _++_}
 use lib.ListN.{length, length-append}
-use borrow.Author.Tests.{ne-eqb}
 use native.Mathlib.Omega.{arith}
 use native.Mathlib.Nat.{add-zero}
 use Rattle.algebra.specs.Numbers.{be, joined, At, Bytes, All, AllIn}
-use Rattle.algebra.specs.Reader.{ok, refuse, Reader, Judged, fault, judged, each, chain, stateAfter, ended}
+use Rattle.algebra.specs.Reader.{ok, refuse, Reader, Judged, fault, judged, each, chain, stateAfter}
 use Rattle.algebra.specs.Algebra.{Exact}
 use Rattle.algebra.proofs.Laws.{field-in, judged-bad}
 use Rattle.algebra.proofs.Places.{length-be, at-in, at-left, at-right, num-be}
@@ -20,11 +19,6 @@ module _ (s : List ℕ) (bytes : Bytes s) where
   judged-refuses w j at v x r f small h b =
       let l : length (be w v) ≡ w = length-be w v in
       judged-bad w s at j x r f (sym (field-in w s at (omega (arith, at-in s at (be w v) h)) ∙ ap (λ (k : ℕ). ok k (at + w)) (num-be s w at v small h))) b
-
--- bytes behind the end are 6 where they begin
-pub ended-left : {A : Type 0} (a : A) (s : List ℕ) (at : ℕ) → at < length s → ended a s at ≡ refuse 6 at 0 0
-unfolding ended
-ended-left a s at h = simp (ne-eqb at (length s) (λ z. omega arith))
 
 -- items that are sound, and then one that is refused
 module _ {A B : Type 0} {s : List ℕ} {p : ℕ → Reader A} {view : A → B} {Ok : ℕ → B → Type 0} {ser : B → List ℕ} (item : (i : ℕ) → Exact s (p i) view (Ok i) ser) {x q r f : ℕ} where

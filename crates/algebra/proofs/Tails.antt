@@ -7,12 +7,13 @@ use lib.Dec.{ltb, eqb}
 use lib.ListN.{length, length-append}
 use borrow.Author.Tests.{lt-ltb, ne-eqb}
 use native.Mathlib.Omega.{arith}
+use native.Mathlib.Nat.{zero-add}
 use Rattle.algebra.specs.Numbers.{be, joined, At, All}
 use Rattle.algebra.specs.Reader.{ok, refuse, pick, field, body, Judged, fine, fault, unless, judged}
 use Rattle.algebra.specs.Text.{isEmpty, closed, name}
 use Rattle.algebra.specs.Closing.{Open, last, early}
 use Rattle.algebra.proofs.Laws.{field-in, field-short, body-in, body-short, judged-short, judged-bad, judged-ok}
-use Rattle.algebra.proofs.Places.{length-be, length-bes, at-in, at-left, at-after, num-be, nums-bes}
+use Rattle.algebra.proofs.Places.{length-be, length-bes, at-in, at-left, at-after, at-whole, num-be, nums-bes}
 
 -- the file s ends with the bytes l, which stand from `at`
 pub record Tail (s : List ℕ) (at : ℕ) (l : List ℕ) : Type 0 where
@@ -24,6 +25,10 @@ tail-left s at a b t = at-left s at a b (t .stands)
 
 pub tail-after : (s : List ℕ) (at : ℕ) (a b : List ℕ) (next : ℕ) → at + length a ≡ next → Tail s at (a ++ b) → Tail s next b
 tail-after s at a b next e t = record { stands = at-after s at a b next e (t .stands); ends = omega (arith, t .ends, length-append a b) }
+
+-- a whole file
+pub whole-tail : (s : List ℕ) → Tail s 0 s
+whole-tail s = record { stands = at-whole s; ends = sym (zero-add (length s)) }
 
 -- ---- one field
 

@@ -1,4 +1,5 @@
 -- Laws of the definitions of specs/. The theorems that a user cares about stand in Refused and RoundTrip.
+pub mod Answers
 pub mod Tables
 pub mod Payload
 pub mod Turns

@@ -10,7 +10,7 @@ use borrow.Author.Tests.{leb-true}
 use Rattle.algebra.specs.Numbers.{At, Bytes, All}
 use Rattle.algebra.specs.Reader.{ok, refuse, pick, numberOf, limit}
 use Rattle.algebra.proofs.Places.{at-whole}
-use Rattle.algebra.proofs.Inverse.{clash, ok-value}
+use Rattle.algebra.proofs.Inverse.{clash, refuse-same, ok-value}
 use Rattle.algebra.proofs.Exact.{all-both}
 use Rattle.algebra.proofs.Tells.{outcome-number}
 use Rattle.ase.specs.Grammar.{Block, payload, fileBytes, File, file}
@@ -57,10 +57,8 @@ refused-damaged {s} bytes short {z} {p} {r} {f} e = go (file-or s bytes short)
     go : FileOr s → Damaged s z p × (r ≡ 0) × (f ≡ 0)
     go (is-file bs g) = clash (sym e ∙ allowed-reads g .1)
     go (is-damaged y q d) =
-        let same : refuse y q 0 0 ≡ refuse z p r f = sym (damaged-refused d bytes short) ∙ e in
-        let a : y ≡ z = cc in
-        let b : q ≡ p = cc in
-        (subst₂ (λ (n m : ℕ). Damaged s n m) a b d, cc, cc)
+        let x = refuse-same (damaged-refused d bytes short) e in
+        (subst₂ (λ (n m : ℕ). Damaged s n m) (x .0) (x .1) d, sym (x .2), sym (x .3))
 
 -- ---- what a writer may write
 

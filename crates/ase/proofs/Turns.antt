@@ -14,12 +14,14 @@ use Rattle.algebra.specs.Algebra.{Exact}
 use Rattle.algebra.proofs.Cuts.{bytes-take}
 use Rattle.algebra.proofs.Places.{length-be, length-bes, at-in, at-left, at-after}
 use Rattle.algebra.proofs.Exact.{length-nameBytes, map-id, judged-exact, each-exact, name-exact}
-use Rattle.algebra.proofs.Stops.{ended-left, each-stops}
+use Rattle.algebra.proofs.Laws.{ended-left}
+use Rattle.algebra.proofs.Stops.{each-stops}
 use Rattle.algebra.proofs.Tails.{Tail, tail-left, tail-after, field-there, field-cut, judged-there, judged-wrong, judged-cut, name-cut, name-none, name-units-cut, name-open}
 use Rattle.colour.specs.Models.{channelsOf}
 use Rattle.ase.specs.Grammar.{colour, payload, Known, starts, stops, colours, Unknown, Model, Channel}
 use Rattle.ase.specs.Reading.{Entry, coloured, group, model, channel, type, shade, inside, within, content, block, standingAfter, marked, heading, blocks, palette}
 use Rattle.ase.specs.Damaged.{DamagedHeading, signature-cut, wrong-signature, major-cut, wrong-major, minor-cut, wrong-minor, blocks-cut, DamagedName, count-cut, no-units, units-cut, unclosed, DamagedGroup, group-name, group-left, Begun, DamagedColour, colour-name, model-cut, wrong-model, channel-cut, wrong-channel, type-cut, wrong-type, colour-left, modelAt, channelAt, framed, loaded, DamagedBlock, block-cut, length-cut, unknown, payload-cut, too-deep, wrong-group, end-with-payload, end-without-group, wrong-colour}
+use Rattle.ase.proofs.Answers.{length-cut-first}
 use Rattle.ase.proofs.Payload.{at-cut}
 use Rattle.ase.proofs.Tables.{known-type, known-small, unknown-type, model-known, model-count, model-small, unknown-model, channel-refused, channels-fine}
 
@@ -227,9 +229,7 @@ module _ (s : List ℕ) (bytes : Bytes s) (d at : ℕ) where
   pub block-stops : {x : List ℕ} {z p : ℕ} → length s ≤ 16777216 → DamagedBlock d x z p → Tail s at x → block d s at ≡ refuse z (at + p) 0 0
   unfolding block content
   block-stops short (block-cut x few) h = rw (field-cut s 2 at few h) (here 2)
-  block-stops short (length-cut t x small few) h =
-      let r : Tail s (at + 2) x = tail-after s at (be 2 t) x (at + 2) (ap (λ (k : ℕ). at + k) (length-be 2 t)) h in
-      rw (field-there s 2 at t small (tail-left s at (be 2 t) x h)) (rw (field-cut s 4 (at + 2) few r))
+  block-stops short (length-cut t x small few) h = length-cut-first s d at t x small few h
   block-stops short (unknown t m x u few) h = unknown-stops t m x u few (h .stands) ∙ here 4
   block-stops short (payload-cut t m x known few less) h =
       let f = framed-there t m x (known-small known) few (h .stands) in

@@ -70,7 +70,7 @@ module _ (s : List ℕ) (bytes : Bytes s) where
 
   pub file-writes : (es : List Entry) (q : ℕ) → ase s ≡ ok es q → File (map blockOf es) s × (q ≡ length s)
   unfolding ase
-  file-writes es q e = let i = pick-inv (leb (length s) 16777216) (palette s 0) 1 0 0 0 e in palette-writes (leb-true (length s) 16777216 (i .0)) es q (i .1)
+  file-writes es q e = let i = pick-inv (leb (length s) 16777216) (palette s 0) _ _ _ _ e in palette-writes (leb-true (length s) 16777216 (i .0)) es q (i .1)
 
 -- the heading ends at 12
 pub heading-inv : (s : List ℕ) {n q : ℕ} → heading s 0 ≡ ok n q → (q ≡ 12) × (12 ≤ length s)

@@ -21,12 +21,13 @@ use Rattle.ase_walk.specs.Answer.{toldBlock, handing, handed}
 use Rattle.ase_walk.specs.declared.Block.{Block}
 use Rattle.ase_walk.specs.declared.Block.the-variants as vb
 use Rattle.ase_walk.proofs.Walked.{blocks-in-turn}
-use Rattle.walk.specs.Walk.{Call, Step, placeAfter, call, inTurn}
+use Rattle.walk.specs.Walk.{Call, placeAfter, call, inTurn, answers}
+use Rattle.walk.proofs.Turns.{answers-start, answers-none, answers-next}
 use Rattle.walk.specs.Names.{namePart}
 use Rattle.listing.specs.Buffer.{Buffer, putAll}
 use Rattle.listing.specs.Text.{ascii, name, lines, refusal}
 use Rattle.listing.proofs.Putting.{put-both, lines-turn, lines-none}
-use Rattle.ase_list.specs.Listing.{heading, model, tagged, channel, type, line, listing, shade, answer, answerLine, answers}
+use Rattle.ase_list.specs.Listing.{heading, model, tagged, channel, type, line, listing, shade, answer, answerLine, shownWalk}
 
 -- ---- a colour
 
@@ -65,42 +66,39 @@ module _ (s : List ℕ) (o : Buffer) (b : Block) where
 
 -- ---- the loop
 
-module _ (s : List ℕ) (f : Step Entry) (all o : Buffer) (n i at : ℕ) where
-  pub answers-start : {p : ℕ} → p ≡ at → all ≡ putAll o (lines (answerLine s) 0 (answers f n at)) → all ≡ putAll o (lines (answerLine s) 0 (answers f (n - 0) p))
-  answers-start {p} e g = let z : n ≡ n - 0 = omega arith in g ∙ ap₂ (λ (k q : ℕ). putAll o (lines (answerLine s) 0 (answers f k q))) z (sym e)
+module _ (s : List ℕ) (all o : Buffer) (n i at : ℕ) where
+  pub lines-start : {p : ℕ} → p ≡ at → all ≡ putAll o (lines (answerLine s) 0 (answers (shownWalk s) n at)) → all ≡ putAll o (lines (answerLine s) 0 (answers (shownWalk s) (n - 0) p))
+  lines-start e g = g ∙ ap (λ (l : List (Call Shown)). putAll o (lines (answerLine s) 0 l)) (answers-start (shownWalk s) n e)
 
-  pub answers-turn : (a : Call Shown) (q : ℕ) {p : Buffer} → i < n → all ≡ putAll o (lines (answerLine s) i (answers f (n - i) at)) → (a, q) ≡ handed (f at) → p ≡ putAll o (answerLine s i a) → all ≡ putAll p (lines (answerLine s) (i + 1) (answers f (n - (i + 1)) q))
-  unfolding answers
-  answers-turn a q {p} h e g x =
-      let z : n - i ≡ suc (n - (i + 1)) = omega arith in
-      let next : f at .1 ≡ q = sym (ap (λ (w : Call Shown × ℕ). w .1) g) in
-      let first : handed (f at) .0 ≡ a = ap (λ (w : Call Shown × ℕ). w .0) (sym g) in
-      lines-turn (answerLine s) all o i a (answers f (n - (i + 1)) q)
-      (e ∙ ap (λ (k : ℕ). putAll o (lines (answerLine s) i (answers f k at))) z ∙ ap₂ (λ (c : Call Shown) (r : ℕ). putAll o (lines (answerLine s) i (c ∷ answers f (n - (i + 1)) r))) first next) x
+  module _ (all-is : all ≡ putAll o (lines (answerLine s) i (answers (shownWalk s) (n - i) at))) where
+    by : {l : List (Call Shown)} → answers (shownWalk s) (n - i) at ≡ l → all ≡ putAll o (lines (answerLine s) i l)
+    by e = all-is ∙ ap (λ (l : List (Call Shown)). putAll o (lines (answerLine s) i l)) e
 
-  pub answers-end : n ≤ i → all ≡ putAll o (lines (answerLine s) i (answers f (n - i) at)) → all ≡ o
-  unfolding answers
-  answers-end h e = let z : n - i ≡ 0 = omega arith in lines-none (answerLine s) all o i (e ∙ ap (λ (k : ℕ). putAll o (lines (answerLine s) i (answers f k at))) z)
+    pub line-turn : (a : Call Shown) (q : ℕ) {p : Buffer} → i < n → (a, q) ≡ handed (blockWalk s at) → p ≡ putAll o (answerLine s i a) → all ≡ putAll p (lines (answerLine s) (i + 1) (answers (shownWalk s) (n - (i + 1)) q))
+    line-turn a q h g x = lines-turn (answerLine s) all o i a (answers (shownWalk s) (n - (i + 1)) q) (by (answers-next (shownWalk s) n i at h (sym g))) x
+
+    pub lines-end : n ≤ i → all ≡ o
+    lines-end h = lines-none (answerLine s) all o i (by (answers-none (shownWalk s) n i at h))
 
 -- ---- the whole listing
 
-answers-lines : (s : List ℕ) (f : Step Entry) (es : List Entry) (at i : ℕ) → ((k : ℕ) → call f at k ≡ inTurn es k) → lines (answerLine s) i (answers f (length es) at) ≡ lines (line s) i es
+answers-lines : (s : List ℕ) (es : List Entry) (at i : ℕ) → ((k : ℕ) → call (blockWalk s) at k ≡ inTurn es k) → lines (answerLine s) i (answers (shownWalk s) (length es) at) ≡ lines (line s) i es
 unfolding answers lines placeAfter inTurn
-answers-lines s f [] at i h = refl
-answers-lines s f (e ∷ more) at i h =
-    ap (λ (c : Call Entry). answerLine s i (handing c) ++ lines (answerLine s) (i + 1) (answers f (length more) (f at .1))) (h 0)
-    ∙ ap (λ (l : List ℕ). line s i e ++ l) (answers-lines s f more (f at .1) (i + 1) (λ k. h (suc k)))
+answers-lines s [] at i h = refl
+answers-lines s (e ∷ more) at i h =
+    ap (λ (c : Call Entry). answerLine s i (handing c) ++ lines (answerLine s) (i + 1) (answers (shownWalk s) (length more) (blockWalk s at .1))) (h 0)
+    ∙ ap (λ (l : List ℕ). line s i e ++ l) (answers-lines s more (blockWalk s at .1) (i + 1) (λ k. h (suc k)))
 
 pub listed-refused : (s : List ℕ) (m : Res (List Entry)) {x p : ℕ} → refusedFile x p ≡ verdict m → refusal x p ≡ listing s m
 listed-refused s (ok c q) e = let z : _≡_ {A = ℕ} 0 1 = cc in absurd (omega arith)
 listed-refused s (refuse y k r f) {x = x} {p = p} e = let a : x ≡ y = cc in let b : p ≡ k = cc in ap₂ refusal a b
 
-pub listed-accepted : (s : List ℕ) {n l : ℕ} → accepted n l ≡ verdict (ase s) → heading n ++ lines (answerLine s) 0 (answers (blockWalk s) n (firstPlace s)) ++ ascii "end\n" ≡ listing s (ase s)
+pub listed-accepted : (s : List ℕ) {n l : ℕ} → accepted n l ≡ verdict (ase s) → heading n ++ lines (answerLine s) 0 (answers (shownWalk s) n (firstPlace s)) ++ ascii "end\n" ≡ listing s (ase s)
 listed-accepted s {n} {l} e = go (ase s) refl e
   where
-    go : (m : Res (List Entry)) → ase s ≡ m → accepted n l ≡ verdict m → heading n ++ lines (answerLine s) 0 (answers (blockWalk s) n (firstPlace s)) ++ ascii "end\n" ≡ listing s m
+    go : (m : Res (List Entry)) → ase s ≡ m → accepted n l ≡ verdict m → heading n ++ lines (answerLine s) 0 (answers (shownWalk s) n (firstPlace s)) ++ ascii "end\n" ≡ listing s m
     go (ok es q) g h =
         let a : n ≡ length es = cc in
-        ap (λ (n : ℕ). heading n ++ lines (answerLine s) 0 (answers (blockWalk s) n (firstPlace s)) ++ ascii "end\n") a
-        ∙ ap (λ (x : List ℕ). heading (length es) ++ x ++ ascii "end\n") (answers-lines s (blockWalk s) es (firstPlace s) 0 (blocks-in-turn s g))
+        ap (λ (n : ℕ). heading n ++ lines (answerLine s) 0 (answers (shownWalk s) n (firstPlace s)) ++ ascii "end\n") a
+        ∙ ap (λ (x : List ℕ). heading (length es) ++ x ++ ascii "end\n") (answers-lines s es (firstPlace s) 0 (blocks-in-turn s g))
     go (refuse x p r f) g h = let z : _≡_ {A = ℕ} 0 1 = cc in absurd (omega arith)

@@ -1,6 +1,6 @@
 -- What is listed of an ASE file: docs/LISTINGS.md.
-use Prim.Native.Nat.{ℕ, zero, suc}
-use mathlib.Core.List.{List, [], _∷_, _++_}
+use Prim.Native.Nat.{ℕ}
+use mathlib.Core.List.{List, [], _++_}
 use lib.ListN.{length, take}
 use lib.Dec.{eqb}
 use Rattle.algebra.specs.Reader.{Res, ok, refuse, pick}
@@ -14,6 +14,7 @@ use Rattle.colour.specs.declared.model.Known.the-variants.{Is, Unknown}
 use Rattle.colour.specs.declared.channel.Channels.{Channels}
 use Rattle.ase.specs.Reading.{Entry}
 use Rattle.ase_read.specs.Answer.{Shown, group, close, colour, refusal as missing, entryShown}
+use Rattle.ase_walk.specs.Walking.{blockWalk}
 use Rattle.ase_walk.specs.Answer.{handed}
 use Rattle.walk.specs.Walk.{Call, gives, over, refused, Step}
 use Rattle.walk.specs.Names.{namePart}
@@ -71,7 +72,6 @@ answer s (refused x p) = []
 abbrev pub answerLine : List ℕ → ℕ → Call Shown → List ℕ
 answerLine s i a = decimal i ++ answer s a ++ ascii "\n"
 
--- what the first n calls from a place answer
-unfoldable pub answers : Step Entry → ℕ → ℕ → List (Call Shown)
-answers f zero at = []
-answers f (suc n) at = handed (f at) .0 ∷ answers f n (f at .1)
+-- a block as it is handed out, one a call
+abbrev pub shownWalk : List ℕ → Step Shown
+shownWalk s at = handed (blockWalk s at)

@@ -4,11 +4,12 @@ ghost use Prim.Native.Nat.{_≤_, _<_};
 ghost use lib.ListN.{length, take};
 ghost use Rattle.algebra.specs.Numbers.{joined};
 ghost use Rattle.ase.specs.Reading.{ase};
-ghost use Rattle.ase_walk.specs.Walking.{firstPlace, blockWalk};
+ghost use Rattle.ase_walk.specs.Walking.{firstPlace};
+ghost use Rattle.walk.specs.Walk.{answers};
 ghost use Rattle.ase_walk.specs.Answer.{toldBlock};
 ghost use Rattle.listing.specs.Buffer.{putAll};
 ghost use Rattle.listing.specs.Text.{lines, taken};
-ghost use Rattle.ase_list.specs.Listing.{channel, shade, answer, answerLine, answers, listing};
+ghost use Rattle.ase_list.specs.Listing.{channel, shade, answer, answerLine, shownWalk, listing};
 ghost use Rattle.ase_list.specs.Listing.{model as Listing·model, type as Listing·type};
 use ase_judge::Answer;
 use ase_walk::Block;
@@ -106,7 +107,7 @@ fn put_block(out: &mut [u8], n: usize, file: &[u8], block: Block) -> usize
 
 // The blocks of an accepted file, one a step.
 fn put_blocks(out: &mut [u8], n: usize, file: &[u8], blocks: usize) -> usize
-    ensures { λ r. ⌜ (now (out .exit), r) ≡ putAll (now (out .entry), n) (lines (answerLine (now (file .entry))) 0 (answers (blockWalk (now (file .entry))) blocks (firstPlace (now (file .entry))))) ⌝ }
+    ensures { λ r. ⌜ (now (out .exit), r) ≡ putAll (now (out .entry), n) (lines (answerLine (now (file .entry))) 0 (answers (shownWalk (now (file .entry))) blocks (firstPlace (now (file .entry))))) ⌝ }
 {
     let mut at = n;
     let mut i: usize = 0;

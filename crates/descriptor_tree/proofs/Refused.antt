@@ -14,8 +14,8 @@ use Rattle.algebra.specs.Reader.{ok, refuse, pick, ended}
 use Rattle.algebra.specs.Cut.{notWhole, Stub}
 use Rattle.algebra.proofs.Places.{at-left, at-whole, at-drop, bytes-append}
 use Rattle.algebra.proofs.Inverse.{clash}
-use Rattle.algebra.proofs.Stops.{ended-left}
 use Rattle.algebra.proofs.Cuts.{stub-take, bytes-take}
+use Rattle.descriptor.proofs.Answers.{left-over-last}
 use Rattle.descriptor.specs.Reading.{Row, root, whole, descriptor}
 use Rattle.descriptor_tree.specs.Tree.{Descriptor, count, rootHead, fileBytes, Place, File, file}
 use Rattle.descriptor_tree.specs.Tree as tree
@@ -40,14 +40,14 @@ cut-refused (file {t} c few a octets short) n h =
 
 -- bytes behind a file are 6 where they begin
 pub left-over-refused : {t : Descriptor} {b : List ℕ} → File t b → (x : List ℕ) → Bytes x → 0 < length x → length (b ++ x) ≤ 16777216 → descriptor (b ++ x) ≡ refuse 6 (length b) 0 0
-unfolding descriptor whole fileBytes rootHead
+unfolding descriptor fileBytes rootHead
 left-over-refused (file {t} c few a octets short) x bytes some fits =
     let b : List ℕ = fileBytes t in
     let s : List ℕ = b ++ x in
     let e = append-assoc (be 4 16) (t .class ++ be 4 (count (t .pairs))) (tree.bytes (t .pairs)) in
     let h : At s 0 (be 4 16 ++ ((t .class ++ be 4 (count (t .pairs))) ++ tree.bytes (t .pairs))) = subst (λ (z : List ℕ). At s 0 z) e (at-left s 0 b x (at-whole s)) in
     let r = root-reads s (bytes-append b x octets bytes) t c few a h in
-    simp (le-leb (length s) 16777216 fits) (rw (r .1 ∙ ap (λ (z : List ℕ). ok (r .0) (length z)) (sym e)) (ended-left (r .0) s (length b) (omega (arith, length-append b x))))
+    simp (le-leb (length s) 16777216 fits) (left-over-last s 0 (r .0) (length b) (r .1 ∙ ap (λ (z : List ℕ). ok (r .0) (length z)) (sym e)) (omega (arith, length-append b x)))
 
 -- a damaged field, behind what is allowed and before any bytes, or where the file ends if it is cut: its number, where it stands
 pub damaged-refused : {b : List ℕ} {x p : ℕ} → DamagedFile b x p → (more : List ℕ) → (x ≡ 2 → more ≡ []) → Bytes (b ++ more) → length (b ++ more) ≤ 16777216 → descriptor (b ++ more) ≡ refuse x p 0 0

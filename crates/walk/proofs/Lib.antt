@@ -1,5 +1,6 @@
 -- The law of a walk's calls, and where names lie; and the two functions over a walker that every format has, proved by hand once: Started makes it, Handed takes a step with it.
 pub mod Calls
+pub mod Turns
 pub mod Names
 pub mod Kind
 pub mod Started

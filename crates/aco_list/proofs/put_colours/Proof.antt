@@ -6,7 +6,8 @@ use lib.ListN.{length}
 use Rattle.aco_walk.specs.Walking.{firstPlace, walk}
 use Rattle.listing.specs.Buffer.{putAll}
 use Rattle.listing.specs.Text.{lines}
-use Rattle.aco_list.specs.Listing.{line, given}
+use Rattle.walk.specs.Walk.{given}
+use Rattle.aco_list.specs.Listing.{line}
 use Rattle.aco_list.proofs.Listed.{told-is, line-over, line-refused, line-turn, line-put, lines-start, lines-end}
 use Rattle.aco_list.proofs.put_colours.Statement.{statement}
 use Rattle.aco_list.proofs.put_colours.Tie as tie
@@ -38,7 +39,7 @@ returns : tie.Need-returns Inv-loop μ-loop
 returns c =
     let w = c .before .before .before .before in
     let a = w .before .before .before .before .args in
-    sym (line-over (walk (a .file .now)) _ (w .loop .out, w .loop .at) (a .colours) (w .loop .i) (w .loop .p) (c .before .before .before .loop-test .taken) (w .loop .inv .2) (told-is (c .before .before .step-at .result) (walk (a .file .now) (w .loop .p)) (c .before .before .step-at .ensures) (c .enum-told .given .1)))
+    sym (line-over (walk (a .file .now)) _ (w .loop .out, w .loop .at) (a .colours) (w .loop .i) (w .loop .p) (w .loop .inv .2) (c .before .before .before .loop-test .taken) (told-is (c .before .before .step-at .result) (walk (a .file .now) (w .loop .p)) (c .before .before .step-at .ensures) (c .enum-told .given .1)))
 
 enum-told-2 : tie.Need-enum-told-2 Inv-loop μ-loop
 enum-told-2 c = search needs
@@ -50,7 +51,7 @@ returns-2 : tie.Need-returns-2 Inv-loop μ-loop
 returns-2 c =
     let w = c .before .before .before .before in
     let a = w .before .before .before .before .args in
-    sym (line-refused (walk (a .file .now)) _ (w .loop .out, w .loop .at) (a .colours) (w .loop .i) (w .loop .p) (c .before .before .before .loop-test .taken) (w .loop .inv .2) (told-is (c .before .before .step-at .result) (walk (a .file .now) (w .loop .p)) (c .before .before .step-at .ensures) (c .enum-told2 .given .1)))
+    sym (line-refused (walk (a .file .now)) _ (w .loop .out, w .loop .at) (a .colours) (w .loop .i) (w .loop .p) (w .loop .inv .2) (c .before .before .before .loop-test .taken) (told-is (c .before .before .step-at .result) (walk (a .file .now) (w .loop .p)) (c .before .before .step-at .ensures) (c .enum-told2 .given .1)))
 
 enum-known-given : tie.Need-enum-known-given Inv-loop μ-loop
 enum-known-given c = search needs
@@ -74,7 +75,7 @@ loop-again c =
     let w = r .before .before in
     let a = w .before .before .before .before .args in
     let x = line-put (a .file .now) (λ k. omega (arith, w .before .before .shared-slice-known .given k)) (w .loop .out, w .loop .at) (w .loop .i) (w .loop .p) (r .step-at .result) (r .step-at .ensures) (v .given .given .1) (c .before .before .before .before .name-part .ensures) (c .before .before .put-colour .ensures) in
-    (omega arith, search needs, line-turn (walk (a .file .now)) _ (w .loop .out, w .loop .at) (a .colours) (w .loop .i) (w .loop .p) (r .before .loop-test .taken) (w .loop .inv .2) (x .1) (x .2))
+    (omega arith, search needs, line-turn (walk (a .file .now)) _ (w .loop .out, w .loop .at) (a .colours) (w .loop .i) (w .loop .p) (w .loop .inv .2) (r .before .loop-test .taken) (x .1) (x .2))
 
 same-length-3 : tie.Need-same-length-3 Inv-loop μ-loop
 same-length-3 c = search needs
@@ -82,7 +83,7 @@ same-length-3 c = search needs
 returns-3 : tie.Need-returns-3 Inv-loop μ-loop
 returns-3 c =
     let a = c .before .before .before .before .before .args in
-    sym (lines-end (walk (a .file .now)) (c .before .loop .out, c .before .loop .at) (a .colours) (c .before .loop .i) (c .before .loop .p) (c .loop-test .left) (c .before .loop .inv .2))
+    sym (lines-end (walk (a .file .now)) _ (c .before .loop .out, c .before .loop .at) (a .colours) (c .before .loop .i) (c .before .loop .p) (c .before .loop .inv .2) (c .loop-test .left))
 
 pub put-colours-spec : {M : Type 1} → statement M
 put-colours-spec =
