@@ -21,16 +21,6 @@ rowAt h p e = record { kind = h .kind; parent = p; first = h .first; size = e - 
 abbrev pub filledOut : List ℕ → ℕ → ℕ → ℕ → Opened → ℕ → Res (List Row)
 filledOut s d p k h q = then (siblings (member (h .below) d k) (h .count) (k + 1) s q) (λ rs e. ok (rowAt (h .head) p e ∷ rs) e)
 
--- ---- laws of `then`
-
-pub then-then : {A B C : Type 0} (m : Res A) (f : A → ℕ → Res B) (g : B → ℕ → Res C) → then (then m f) g ≡ then m (λ a q. then (f a q) g)
-then-then (ok a q) f g = refl
-then-then (refuse x p r c) f g = refl
-
-pub then-cong : {A B : Type 0} (m : Res A) (f g : A → ℕ → Res B) → ((a : A) (q : ℕ) → f a q ≡ g a q) → then m f ≡ then m g
-then-cong (ok a q) f g h = h a q
-then-cong (refuse x p r c) f g h = refl
-
 -- a head, from what opens its value
 abbrev made : ℕ → ℕ → ℕ → ℕ → (Due × ℕ) → ℕ → Res Opened
 made t first d v o q = ok (record { head = record { kind = t; first = first; depth = d; value = v }; below = o .0; count = o .1 }) q

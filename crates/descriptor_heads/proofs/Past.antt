@@ -11,7 +11,7 @@ use Rattle.algebra.proofs.Inverse.{pick-inv}
 use Rattle.algebra.specs.Reader.{Res, ok, refuse, Reader, then, pick, field, Judged, judged}
 use Rattle.descriptor.specs.Reading.{Known, is, unknown, known, id, class, Sort, leaf, list, object, reference, array, sortOf, formOf, refValue, column, columnType, version}
 use Rattle.descriptor.proofs.Ends.{Accepts, yes, no, accepted, accepts-then, Past, lower, field-past, judged-past, id-past, class-past, column-past, leaf-takes, form-takes, ref-past}
-use Rattle.descriptor_heads.specs.Heads.{Due, items, pairs, forms, columns, Opened, opens, itemHead, bare, memberHead, headAt, rootHead}
+use Rattle.descriptor_heads.specs.Heads.{Due, items, pairs, forms, columns, Opened, opens, itemHead, bare, memberHead, deepest, headAt, rootHead}
 
 module _ (s : List ℕ) where
   ended-at : {A : Type 0} (lo q : ℕ) (a : A) → lo ≤ q → q ≤ length s → Accepts (Past s lo) (ok a q)
@@ -54,7 +54,7 @@ module _ (s : List ℕ) where
 
   pub head-past : (d : ℕ) (c : Due) (at : ℕ) → at ≤ length s → Accepts (Past s (at + 5)) (headAt d c s at)
   unfolding headAt
-  head-past d c at l = go (leb d 32)
+  head-past d c at l = go (leb d deepest)
     where
       go : (b : Bool) → Accepts (Past s (at + 5)) (pick b (memberHead d c s at) (refuse 10 at 0 0))
       go true = at-past d c at l
@@ -122,9 +122,9 @@ module _ (s : List ℕ) where
       go (refuse x p r f) = no
 
   -- a head that is accepted is not too deep
-  pub head-inv : (d : ℕ) (c : Due) (at : ℕ) (o : Opened) (q : ℕ) → headAt d c s at ≡ ok o q → (d ≤ 32) × (memberHead d c s at ≡ ok o q) × (o .head .first ≡ at) × (o .head .depth ≡ d)
+  pub head-inv : (d : ℕ) (c : Due) (at : ℕ) (o : Opened) (q : ℕ) → headAt d c s at ≡ ok o q → (d ≤ deepest) × (memberHead d c s at ≡ ok o q) × (o .head .first ≡ at) × (o .head .depth ≡ d)
   unfolding headAt
   head-inv d c at o q e =
-      let i = pick-inv (leb d 32) (memberHead d c s at) 10 at 0 0 e in
+      let i = pick-inv (leb d deepest) (memberHead d c s at) 10 at 0 0 e in
       let l = accepted (at-lies d c at) o q (i .1) in
-      (leb-true d 32 (i .0), i .1, l .0, l .1)
+      (leb-true d deepest (i .0), i .1, l .0, l .1)

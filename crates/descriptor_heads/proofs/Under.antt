@@ -10,9 +10,9 @@ use native.Mathlib.Omega.{arith}
 use Rattle.algebra.specs.Reader.{Res, ok, refuse, Reader, then, pick, until, mapRes}
 use Rattle.descriptor.specs.Reading.{Row, siblings, item, keyed, refItem, arrayPair}
 use Rattle.descriptor.proofs.Ends.{Accepts, yes, no, Past, accepted}
-use Rattle.descriptor_heads.specs.Heads.{Due, items, pairs, forms, columns, Head, Opened, memberHead, headAt, Stack, over, nextHead, settled, after}
+use Rattle.descriptor_heads.specs.Heads.{Due, items, pairs, forms, columns, Head, Opened, memberHead, deepest, headAt, Stack, over, nextHead, settled, after}
 use Rattle.descriptor_heads.specs.Rows.{headsOf}
-use Rattle.descriptor_heads.proofs.Members.{member, rowAt, filledOut, then-then, then-cong, headed-then}
+use Rattle.descriptor_heads.proofs.Members.{member, rowAt, filledOut, headed-then}
 use Rattle.descriptor_heads.proofs.Past.{head-past}
 
 -- a row's head
@@ -112,14 +112,14 @@ module _ (s : List ℕ) where
   step c n p k at st = go (32 - length st) refl
     where
       go : (l : ℕ) → 32 - length st ≡ l → marks (below (member c (32 - length st) p) (suc n) st k at)
-          ≡ then (pick (leb (suc (length st)) 32) (memberHead (suc (length st)) c s at) (refuse 10 at 0 0)) (λ h q. mapRes (λ (hs : List Head). h .head ∷ hs) (marks (under ((h .below, h .count, k) ∷ (c, n, p) ∷ st) (k + 1) s q)))
+          ≡ then (pick (leb (suc (length st)) deepest) (memberHead (suc (length st)) c s at) (refuse 10 at 0 0)) (λ h q. mapRes (λ (hs : List Head). h .head ∷ hs) (marks (under ((h .below, h .count, k) ∷ (c, n, p) ∷ st) (k + 1) s q)))
       go zero e =
-          let a : leb (suc (length st)) 32 ≡ false = lt-leb (suc (length st)) 32 (omega arith) in
+          let a : leb (suc (length st)) deepest ≡ false = lt-leb (suc (length st)) deepest (omega arith) in
           ap (λ (l : ℕ). marks (below (member c l p) (suc n) st k at)) e
           ∙ ap (λ (m : Res (List Row)). marks (then (then m (λ rs q. then (siblings (member c 0 p) n (k + length rs) s q) (λ qs e. ok (rs ++ qs) e))) (λ rs q. then (under st (k + length rs) s q) (λ qs e. ok (rs ++ qs) e)))) (no-level c p k at)
           ∙ ap (λ (b : Bool). then (pick b (memberHead (suc (length st)) c s at) (refuse 10 at 0 0)) (λ h q. mapRes (λ (hs : List Head). h .head ∷ hs) (marks (under ((h .below, h .count, k) ∷ (c, n, p) ∷ st) (k + 1) s q)))) (sym a)
       go (suc d) e =
-          let a : leb (suc (length st)) 32 ≡ true = le-leb (suc (length st)) 32 (omega arith) in
+          let a : leb (suc (length st)) deepest ≡ true = le-leb (suc (length st)) deepest (omega arith) in
           let i : 32 - d ≡ suc (length st) = omega arith in
           let j : d ≡ 32 - suc (length st) = omega arith in
           ap (λ (l : ℕ). marks (below (member c l p) (suc n) st k at)) e

@@ -71,9 +71,13 @@ memberHead depth (columns m) s at =
     then (judged 4 columnType s e) (λ t v.
     then (column m s v) (λ u q. ok (bare t at depth v) q)))
 
--- a child at depth 33 is 10 at its first byte, before any of it is read
+-- the greatest depth
+abbrev pub deepest : ℕ
+deepest = 32
+
+-- a child that is deeper is 10 at its first byte, before any of it is read
 unfoldable pub headAt : (depth : ℕ) → Due → Reader Opened
-headAt depth c s at = pick (leb depth 32) (memberHead depth c s at) (refuse 10 at 0 0)
+headAt depth c s at = pick (leb depth deepest) (memberHead depth c s at) (refuse 10 at 0 0)
 
 -- ---- heads one after the other
 
