@@ -1,4 +1,5 @@
--- Descriptors as they are read: what each field must be, which fault is found first, and the rows.
+-- Descriptors as they are read, by recursion: what each field must be, which fault is found first, and the rows. The readable account of a file is its tree
+-- (descriptor_tree/Tree); descriptor_heads/Heads reads it as heads one after the other. Theorems tie the three.
 use Prim.Native.Nat.{ℕ, zero, suc, _+_, _-_}
 use mathlib.Core.List.{List, [], _∷_, _++_}
 use mathlib.Core.Bool.{Bool, true}
@@ -153,9 +154,9 @@ pub record Row : Type 0 where
   pub depth : ℕ
   pub value : ℕ
 
--- the row of a member under the row p, with d levels left below it, before the rows below it, which end where it ends
-abbrev pub headed : ℕ → ℕ → ℕ → ℕ → ℕ → Res (List Row) → Res (List Row)
-headed t d p first v m = then m (λ rs q. ok (record { kind = t; parent = p; first = first; size = q - first; depth = 32 - d; value = v } ∷ rs) q)
+-- the row of a member, with `left` levels left below it, before the rows below it, which end where it ends
+abbrev pub headed : (kind left parent first value : ℕ) → Res (List Row) → Res (List Row)
+headed kind left parent first value m = then m (λ rs q. ok (record { kind = kind; parent = parent; first = first; size = q - first; depth = 32 - left; value = value } ∷ rs) q)
 
 -- fields with no member among them
 abbrev pub plain : Reader Unit → Reader (List Row)
@@ -163,18 +164,18 @@ plain p = do
   u ← p
   give []
 
--- n members one after the other, the first with row number k; f reads one, given its row number
-unfoldable pub siblings : (ℕ → Reader (List Row)) → ℕ → ℕ → Reader (List Row)
-siblings f zero k s at = ok [] at
-siblings f (suc n) k s at = then (f k s at) (λ rs q. then (siblings f n (k + length rs) s q) (λ qs e. ok (rs ++ qs) e))
+-- n members one after the other, the first with the number `row`; f reads one, given its row number
+unfoldable pub siblings : (f : (row : ℕ) → Reader (List Row)) (n row : ℕ) → Reader (List Row)
+siblings f zero row s at = ok [] at
+siblings f (suc n) row s at = then (f row s at) (λ rs q. then (siblings f n (row + length rs) s q) (λ qs e. ok (rs ++ qs) e))
 
--- a count and that many children of the row k
-unfoldable pub children : (ℕ → Reader (List Row)) → ℕ → Reader (List Row)
-children f k = do
+-- a count and that many children of the row `row`
+unfoldable pub children : (f : (row : ℕ) → Reader (List Row)) (row : ℕ) → Reader (List Row)
+children f row = do
   n ← field 4
-  siblings f n (k + 1)
+  siblings f n (row + 1)
 
--- ---- references. In each reader of members the first number is the levels left: with none, a child is 10 at its first byte, before any of it is read
+-- ---- references. In each reader of members `left` is the levels left: with none, a child is 10 at its first byte, before any of it is read
 
 -- after the form: a class, and the form's value
 unfoldable pub refValue : Reader Unit → Reader Unit
@@ -182,14 +183,14 @@ refValue r = do
   c ← class
   r
 
--- the reference item with row number k under the row p
-unfoldable pub refItem : ℕ → ℕ → ℕ → Reader (List Row)
-refItem zero p k s at = refuse 10 at 0 0
-refItem (suc d) p k s at = then (field 4 s at) (λ t v. known (formOf t) at (λ r. headed t d p at v (plain (refValue r) s v)))
+-- one reference item
+unfoldable pub refItem : (left parent row : ℕ) → Reader (List Row)
+refItem zero parent row s at = refuse 10 at 0 0
+refItem (suc left) parent row s at = then (field 4 s at) (λ t v. known (formOf t) at (λ r. headed t left parent at v (plain (refValue r) s v)))
 
--- the items of the reference with row number k
-abbrev pub referenceOf : ℕ → ℕ → Reader (List Row)
-referenceOf d k = children (refItem d k) k
+-- the items of the reference `row`
+abbrev pub referenceOf : (left row : ℕ) → Reader (List Row)
+referenceOf left row = children (refItem left row) row
 
 -- ---- object arrays
 
@@ -198,7 +199,7 @@ abbrev pub doubles : ℕ → ℕ → Judged
 doubles m n = unless (eqb n m) 5
 
 -- after `UnFl`: a unit, a count of doubles, and the doubles
-unfoldable pub column : ℕ → Reader Unit
+unfoldable pub column : (objects : ℕ) → Reader Unit
 column m = do
   u ← judged 4 arrayUnit
   n ← judged 4 (doubles m)
@@ -209,51 +210,55 @@ abbrev pub columnType : ℕ → Judged
 columnType t = unless (eqb t 0x556e_466c) 4
 
 -- a key, `UnFl`, and its column
-unfoldable pub arrayPair : ℕ → ℕ → ℕ → ℕ → Reader (List Row)
-arrayPair m zero p k s at = refuse 10 at 0 0
-arrayPair m (suc d) p k s at =
+unfoldable pub arrayPair : (objects left parent row : ℕ) → Reader (List Row)
+arrayPair m zero parent row s at = refuse 10 at 0 0
+arrayPair m (suc left) parent row s at =
     then (id s at) (λ u e.
     then (judged 4 columnType s e) (λ t v.
-    headed t d p at v (plain (column m) s v)))
+    headed t left parent at v (plain (column m) s v)))
 
 -- the number of objects, a class, and the pairs
-unfoldable pub arrayOf : ℕ → ℕ → Reader (List Row)
-arrayOf d k = do
+unfoldable pub arrayOf : (left row : ℕ) → Reader (List Row)
+arrayOf left row = do
   m ← field 4
   c ← class
-  children (arrayPair m d k) k
+  children (arrayPair m left row) row
 
--- ---- items. A reader of items takes the parent's row number, the row's own and the row's first byte, which in a pair is the key's
+-- ---- items
+
+-- a reader of items is told the row's first byte, which in a pair is the key's
+abbrev pub Items : Type 0
+Items = (parent row first : ℕ) → Reader (List Row)
 
 -- a key and an item
-unfoldable pub keyed : (ℕ → ℕ → ℕ → Reader (List Row)) → ℕ → ℕ → ℕ → Reader (List Row)
-keyed f zero p k s at = refuse 10 at 0 0
-keyed f (suc d) p k s at = then (id s at) (λ u e. f p k at s e)
+unfoldable pub keyed : (f : Items) (left parent row : ℕ) → Reader (List Row)
+keyed f zero parent row s at = refuse 10 at 0 0
+keyed f (suc left) parent row s at = then (id s at) (λ u e. f parent row at s e)
 
-abbrev pub listOf : (ℕ → ℕ → ℕ → Reader (List Row)) → ℕ → Reader (List Row)
-listOf f k = children (λ j s q. f k j q s q) k
+abbrev pub listOf : (f : Items) (row : ℕ) → Reader (List Row)
+listOf f row = children (λ child s q. f row child q s q) row
 
 -- a class and the pairs
-unfoldable pub objectOf : (ℕ → ℕ → ℕ → Reader (List Row)) → ℕ → ℕ → Reader (List Row)
-objectOf f d k = do
+unfoldable pub objectOf : (f : Items) (left row : ℕ) → Reader (List Row)
+objectOf f left row = do
   c ← class
-  children (keyed f d k) k
+  children (keyed f left row) row
 
--- what follows the type of the row k, with d levels left below it; f reads an item below
-abbrev pub valueOf : (ℕ → ℕ → ℕ → Reader (List Row)) → ℕ → ℕ → Sort → Reader (List Row)
-valueOf f d k (leaf p) = plain p
-valueOf f d k list = listOf f k
-valueOf f d k object = objectOf f d k
-valueOf f d k reference = referenceOf d k
-valueOf f d k array = arrayOf d k
+-- what follows the type of the row `row`, with `left` levels left below it; f reads an item below
+abbrev pub valueOf : (f : Items) (left row : ℕ) → Sort → Reader (List Row)
+valueOf f left row (leaf p) = plain p
+valueOf f left row list = listOf f row
+valueOf f left row object = objectOf f left row
+valueOf f left row reference = referenceOf left row
+valueOf f left row array = arrayOf left row
 
-unfoldable pub item : ℕ → ℕ → ℕ → ℕ → Reader (List Row)
-item zero p k first s at = refuse 10 first 0 0
-item (suc d) p k first s at = then (field 4 s at) (λ t v. known (sortOf t) at (λ sort. headed t d p first v (valueOf (item d) d k sort s v)))
+unfoldable pub item : (left parent row first : ℕ) → Reader (List Row)
+item zero parent row first s at = refuse 10 first 0 0
+item (suc left) parent row first s at = then (field 4 s at) (λ t v. known (sortOf t) at (λ sort. headed t left parent first v (valueOf (item left) left row sort s v)))
 
 -- a key and an item, with as many levels left
-abbrev pub pair : ℕ → ℕ → ℕ → Reader (List Row)
-pair d p k = keyed (item d) d p k
+abbrev pub pair : (left parent row : ℕ) → Reader (List Row)
+pair left parent row = keyed (item left) left parent row
 
 -- ---- the file
 

@@ -17,7 +17,7 @@ use Rattle.descriptor.proofs.Tiling.{five-each}
 use Rattle.descriptor.proofs.Rows.{rows-laid}
 use Rattle.descriptor_read.specs.Table.{numbers}
 use Rattle.descriptor_read.specs.Filled.{filled}
-use Rattle.descriptor_read.specs.Answer.{Verdict, accepted, refused as refusedFile}
+use Rattle.descriptor_judge.specs.Answer.{Verdict, accepted, refused as refusedFile}
 use Rattle.listing.specs.Buffer.{Buffer, putAll}
 use Rattle.listing.specs.Text.{ascii, decimal, word, lines, refusal}
 use Rattle.listing.proofs.Putting.{items-turn, items-end, lines-turn, lines-none}

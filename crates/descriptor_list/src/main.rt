@@ -10,7 +10,7 @@ ghost use Rattle.listing.specs.Buffer.{putAll};
 ghost use Rattle.listing.specs.Text.{word, lines, taken};
 ghost use Rattle.descriptor_list.specs.Listing.{line, listing};
 ghost use Rattle.descriptor_list.specs.Listing.{kind as Listing·kind};
-use descriptor_read::Answer;
+use descriptor_judge::Answer;
 use listing::finish;
 use listing::put;
 use listing::put_number;

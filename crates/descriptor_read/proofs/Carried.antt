@@ -1,44 +1,24 @@
 -- Answers in one number. Assumes nothing.
-use Prim.Native.Nat.{ℕ, _+_, _*_, _-_, _/_, _%_, _≤_, _<_}
-use mathlib.Core.Path.{_≡_, ap₂, subst, sym, _∙_}
+use Prim.Native.Nat.{ℕ, _+_, _≤_}
+use mathlib.Core.Path.{_≡_, subst, sym, _∙_}
 use mathlib.Core.List.{List}
 use mathlib.Core.Bool.{Bool, true, false}
 use lib.ListN.{length}
-use borrow.Author.Tests.{lt-ltb, le-ltb}
 use native.Mathlib.Omega.{arith}
 use Rattle.algebra.specs.Reader.{Res, ok, refuse}
-use Rattle.algebra.specs.Refusal.{Of, Placed, ends, fails}
-use Rattle.algebra.proofs.Placed.{of-each, refusal-placed}
+use Rattle.algebra.specs.Refusal.{Placed, ends, fails}
+use Rattle.algebra.proofs.Placed.{refusal-placed}
 use Rattle.descriptor.specs.Reading.{Row, item, refItem}
 use Rattle.descriptor.specs.Refusals.{refusals}
 use Rattle.descriptor.proofs.Ends.{Accepts, yes}
 use Rattle.descriptor.proofs.Tiling.{Reach, list-reach, object-reach, reference-reach, array-reach}
 use Rattle.descriptor.proofs.Placed.{children-placed, ref-placed, array-placed, object-placed, item-placed}
+use Rattle.descriptor_judge.proofs.Counting.{few}
 use Rattle.descriptor_read.specs.declared.Walk.{Walk}
 use Rattle.descriptor_read.specs.declared.Walk.the-variants as vw
 use Rattle.descriptor_read.specs.Table.{walked, Done, Below}
-use Rattle.descriptor_read.specs.Cycle.{holderOf, heldOf}
+use Rattle.descriptor_judge.specs.Cycle.{holderOf, heldOf}
 use Rattle.descriptor_read.specs.Carried.{Small, carried}
-
-pub next-is : (n : ℕ) → n < 0x8000_0000_0000_0000 → carried n ≡ vw.Next (n % 0x1_0000_0000) (n / 0x1_0000_0000)
-unfolding carried
-next-is n h = rw (lt-ltb n 0x8000_0000_0000_0000 h)
-
-pub refused-is : (n : ℕ) → 0x8000_0000_0000_0000 ≤ n → carried n ≡ vw.Refused ((n - 0x8000_0000_0000_0000) / 0x1_0000_0000) (n % 0x1_0000_0000)
-unfolding carried
-refused-is n h = rw (le-ltb n 0x8000_0000_0000_0000 h)
-
-pub next-carried : (q k : ℕ) → q < 0x1_0000_0000 → k < 0x8000_0000 → carried (k * 0x1_0000_0000 + q) ≡ vw.Next q k
-next-carried q k a b =
-    let e : (k * 0x1_0000_0000 + q) % 0x1_0000_0000 ≡ q = omega arith in
-    let f : (k * 0x1_0000_0000 + q) / 0x1_0000_0000 ≡ k = omega arith in
-    next-is (k * 0x1_0000_0000 + q) (omega arith) ∙ ap₂ (λ (x y : ℕ). vw.Next x y) e f
-
-pub refused-carried : (x p : ℕ) → p < 0x1_0000_0000 → x < 0x8000_0000 → carried (0x8000_0000_0000_0000 + x * 0x1_0000_0000 + p) ≡ vw.Refused x p
-refused-carried x p a b =
-    let e : (0x8000_0000_0000_0000 + x * 0x1_0000_0000 + p - 0x8000_0000_0000_0000) / 0x1_0000_0000 ≡ x = omega arith in
-    let f : (0x8000_0000_0000_0000 + x * 0x1_0000_0000 + p) % 0x1_0000_0000 ≡ p = omega arith in
-    refused-is (0x8000_0000_0000_0000 + x * 0x1_0000_0000 + p) (omega arith) ∙ ap₂ (λ (y z : ℕ). vw.Refused y z) e f
 
 -- what was done by an answer was done by the number that carries it
 pub carry : (n : ℕ) {from : ℕ} {w : Walk} {t u : List ℕ} {k : ℕ} {m : Res (List Row)} → carried n ≡ w → Done w from t u k m → Done (carried n) from t u k m
@@ -46,10 +26,6 @@ carry n e d = record { answer = e ∙ d .answer; rows = d .rows }
 
 pub taken : (n : ℕ) {from : ℕ} {w : Walk} {t u : List ℕ} {k : ℕ} {m : Res (List Row)} → w ≡ carried n → Done (carried n) from t u k m → Done w from t u k m
 taken n e d = record { answer = e ∙ d .answer; rows = d .rows }
-
--- no refusal's number is past the table's
-few : (x : ℕ) → Of refusals x → x ≤ 14
-few x h = of-each (λ n. n ≤ 14) refusals (omega arith, (omega arith, (omega arith, (omega arith, (omega arith, (omega arith, (omega arith, (omega arith, tt)))))))) h
 
 -- places and row numbers in a file within the limit are small
 walked-small : (s : List ℕ) (lo k : ℕ) (m : Res (List Row)) → length s ≤ 16777216 → k ≤ lo → Placed refusals s m → Accepts (Reach s lo) m → Small (walked k m)

@@ -5,7 +5,6 @@ use mathlib.Core.List.{List, [], _∷_, _++_, append-nil, append-assoc}
 use mathlib.Core.Bool.{true, false}
 use native.Mathlib.Omega.{arith}
 use borrow.Author.Tests.{le-leb, lt-leb}
-use borrow.Rule.Slice.PartMut.{midOf, putMid, mid-len, put-same}
 use lib.Dec.{leb}
 use lib.ListN.{length, take, drop, set, length-append, take-append-drop}
 use lib.Seq.{sets, sets-eq, drop-set-lt, take-at, length-take-le}
@@ -15,7 +14,7 @@ use Rattle.descriptor.specs.Reading.{Row, root, descriptor}
 use Rattle.descriptor.proofs.Rows.{of-root, rows-laid}
 use Rattle.descriptor_read.specs.declared.Walk.{Walk}
 use Rattle.descriptor_read.specs.Table.{numbers, putRow, putRows, Done}
-use Rattle.descriptor_read.specs.Answer.{accepted, refused, verdict}
+use Rattle.descriptor_judge.specs.Answer.{accepted, refused, verdict}
 use Rattle.descriptor_read.specs.Filled.{filled}
 use Rattle.descriptor_read.proofs.Table.{length-putRow, room}
 use Rattle.descriptor_read.proofs.Values.{accepted-rows, refused-by}
@@ -47,19 +46,6 @@ rows-at (r ∷ rs) t k h =
     ∙ ap (λ (l : List ℕ). take (5 * (k + 1)) (putRow 0 t k r) ++ joined numbers rs ++ l) d
     ∙ ap (λ (l : List ℕ). l ++ joined numbers rs ++ drop (5 * (k + suc (length rs))) t) (take-row t k r room)
     ∙ ap (λ (l : List ℕ). l ++ drop (5 * (k + suc (length rs))) t) (append-assoc (take (5 * k) t) (numbers r) (joined numbers rs))
-
--- ---- a reading over an empty part of the table
-
-none-in : (l : List ℕ) → length l ≡ 0 → l ≡ []
-none-in [] e = refl
-none-in (x ∷ xs) e = absurd (omega arith)
-
--- it leaves the table as it was
-pub part-kept : (t u : List ℕ) → length u ≡ length (midOf (length t) (length t - length t) t) → putMid (length t) (length t - length t) t u ≡ t
-part-kept t u e =
-    let n : length (midOf (length t) (length t - length t) t) ≡ length t - length t = mid-len (length t) (length t) t (omega arith) in
-    ap (putMid (length t) (length t - length t) t) (none-in u (omega (arith, e, n)) ∙ sym (none-in (midOf (length t) (length t - length t) t) (omega (arith, n))))
-    ∙ put-same (length t) (length t - length t) t
 
 -- ---- what is answered
 

@@ -2,7 +2,6 @@ pub mod Table
 pub mod Steps
 pub mod Going
 pub mod Carried
-pub mod Whole
 pub mod Values
 pub mod Filled
 pub mod Typing

@@ -12,7 +12,7 @@ use Rattle.descriptor.proofs.Tiling.{five-each}
 use Rattle.descriptor.proofs.Rows.{of-root, rows-laid}
 use Rattle.descriptor_read.specs.declared.Walk.{Walk}
 use Rattle.descriptor_read.specs.Table.{extent, putRow, putRows, Done}
-use Rattle.descriptor_read.specs.Answer.{accepted, refused as refusedIn, verdict}
+use Rattle.descriptor_judge.specs.Answer.{accepted, refused as refusedIn, verdict}
 use Rattle.descriptor_read.specs.Values.{Found, found, missing, rowAt, rowIn, valueSize, is, refused, extentOf, lies, refusal, placeOf, valueIn}
 use Rattle.descriptor_read.proofs.Table.{length-putRow, three, not-yet, no-room}
 

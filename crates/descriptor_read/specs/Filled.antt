@@ -7,7 +7,7 @@ use Rattle.algebra.specs.Numbers.{joined}
 use Rattle.algebra.specs.Reader.{Res, ok, refuse, pick}
 use Rattle.descriptor.specs.Reading.{Row}
 use Rattle.descriptor_read.specs.Table.{numbers}
-use Rattle.descriptor_read.specs.Answer.{Verdict, accepted, refused}
+use Rattle.descriptor_judge.specs.Answer.{Verdict, accepted, refused}
 
 -- where the table t has room for fewer rows than there are, 11; else its first numbers are the rows', five each, and the rest keep their contents. A refusal changes nothing
 abbrev pub filled : Res (List Row) → List ℕ → Verdict × List ℕ

@@ -2,8 +2,8 @@
 //
 // The readers of item, list, object and pair call each other in a cycle while the remaining bytes
 // fall. Siblings are read in loops, so that the stack grows with the nesting alone, and that stops
-// at 32. A row is written after those below it, where the table has room: a first reading, over no
-// table, judges and counts; a second one fills.
+// at 32. A row is written after those below it, where the table has room. Judging and counting come
+// first (`descriptor_judge`), and then this reading fills.
 //
 // In the cycle only `list` is called at several places; `object`, which only hands on to it, counts
 // for nothing. The compiler then makes one function of all, and a member without members costs no
@@ -21,9 +21,10 @@ ghost use Rattle.fields.specs.Answer.{toldStep};
 ghost use Rattle.descriptor.specs.Leaves.{Leafed};
 ghost use Rattle.descriptor.specs.Reading.{id, class, children, refItem, referenceOf, arrayPair, arrayOf, item, objectOf, root, descriptor};
 ghost use Rattle.descriptor_read.specs.Table.{putRow, Done, Within, Below};
-ghost use Rattle.descriptor_read.specs.Cycle.{optional, memberOf, holderOf, valued, heldOf};
+ghost use Rattle.descriptor_judge.specs.Answer.{told};
+ghost use Rattle.descriptor_judge.specs.Cycle.{optional, memberOf, holderOf, heldOf};
+ghost use Rattle.descriptor_read.specs.Cycle.{valued};
 ghost use Rattle.descriptor_read.specs.Carried.{Small, carried};
-ghost use Rattle.descriptor_read.specs.Answer.{verdict, told, closing};
 ghost use Rattle.descriptor_read.specs.Filled.{filled, rowsIn};
 ghost use Rattle.descriptor_read.specs.Values.{rowIn, extentOf, toldExtent, placeOf, toldValue, valueIn};
 ghost use Rattle.descriptor_read.specs.Typed.{typedIn, typedOf};
@@ -34,21 +35,13 @@ use descriptor::KnownForm;
 use descriptor::LONG;
 use descriptor::UNIT_DOUBLE;
 use descriptor::Value;
+use descriptor_judge::Answer;
 use fields::Number8;
 use fields::Number32;
 use fields::Step;
 
-// The longest file that is read.
-pub const LIMIT: usize = 16777216;
-
 // How many numbers a row has in a table: kind, parent, first byte, length, depth.
 pub const WIDTH: usize = 5;
-
-// How many rows a file has, or a refusal.
-pub enum Answer {
-    Accepted { rows: usize },
-    Refused { number: u32, place: usize },
-}
 
 // Where a row's value lies: its first byte and its length; or a refusal.
 pub enum ValueAt {
@@ -494,53 +487,12 @@ fn root(file: &[u8], table: &mut [u32], base: usize) -> Walk
     }
 }
 
-// What is answered of a file of `length` bytes.
-fn ended(walk: Walk, length: usize) -> Answer
-    ensures { λ r. ⌜ told r ≡ closing length walk ⌝ }
-{
-    match walk {
-        Walk::Refused(number, place) => Answer::Refused { number, place },
-        Walk::Next(end, rows) => {
-            if end != length {
-                return Answer::Refused {
-                    number: 6,
-                    place: end,
-                };
-            }
-            Answer::Accepted { rows }
-        }
-    }
-}
-
-// How many rows a file has, or the refusal.
-pub fn judge(file: &[u8]) -> Answer
-    ensures { λ r. ⌜ told r ≡ verdict (descriptor (now (file .entry))) ⌝ }
-{
-    if LIMIT < file.len() {
-        return Answer::Refused {
-            number: 1,
-            place: 0,
-        };
-    }
-    let mut none = [0u32; 1];
-    let walk = root(file, &mut none[..0], LIMIT);
-    ended(walk, file.len())
-}
-
 // Reads a file into the table, five numbers a row: how many rows it has, or the refusal, which
 // changes nothing; 11 where the table has room for fewer. Past the rows the table keeps its contents.
 pub fn read(file: &[u8], table: &mut [u32]) -> Answer
     ensures { λ r. ⌜ ((told r, now (table .exit)) ≡ filled (descriptor (now (file .entry))) (now (table .entry))) × (rowsIn (told r) ≤ length (now (file .entry)) / 5) ⌝ }
 {
-    if LIMIT < file.len() {
-        return Answer::Refused {
-            number: 1,
-            place: 0,
-        };
-    }
-    let from = table.len();
-    let walk = root(file, &mut table[from..], LIMIT);
-    match ended(walk, file.len()) {
+    match descriptor_judge::judge(file) {
         Answer::Refused { number, place } => Answer::Refused { number, place },
         Answer::Accepted { rows } => {
             if table.len() < WIDTH * rows {
@@ -561,7 +513,7 @@ pub fn read(file: &[u8], table: &mut [u32]) -> Answer
 fn extent_at(file: &[u8], row: usize) -> Extent
     ensures { λ r. ⌜ toldExtent r ≡ extentOf (rowIn row (descriptor (now (file .entry)))) ⌝ }
 {
-    match judge(file) {
+    match descriptor_judge::judge(file) {
         Answer::Refused { number, place } => Extent::Refused(number, place),
         Answer::Accepted { rows } => {
             if rows <= row {

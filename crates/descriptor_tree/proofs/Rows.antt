@@ -13,7 +13,7 @@ use Rattle.algebra.proofs.Places.{length-joined}
 use Rattle.algebra.proofs.Joined.{part-joined}
 use Rattle.descriptor.specs.Reading.{Row, descriptor}
 use Rattle.descriptor.proofs.Tiling.{heads-sum, heads-length, five-each, five-heads, in-order}
-use Rattle.descriptor_read.specs.Answer.{Verdict, accepted, refused, verdict}
+use Rattle.descriptor_judge.specs.Answer.{Verdict, accepted, refused, verdict}
 use Rattle.descriptor_read.specs.Table.{numbers}
 use Rattle.descriptor_read.specs.Filled.{filled}
 use Rattle.descriptor_tree.specs.Tree.{Descriptor, count, rootHead, fileHeads, fileRows, rowCount, File}

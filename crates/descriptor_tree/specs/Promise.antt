@@ -7,7 +7,7 @@ use Rattle.algebra.specs.Reader.{ok}
 use Rattle.algebra.specs.Store.{part}
 use Rattle.descriptor.specs.Reading.{Row, descriptor}
 use Rattle.descriptor.specs.Tiles.{heads, Laid}
-use Rattle.descriptor_read.specs.Answer.{Verdict, accepted, refused}
+use Rattle.descriptor_judge.specs.Answer.{Verdict, accepted, refused}
 use Rattle.descriptor_read.specs.Table.{numbers}
 use Rattle.descriptor_tree.specs.Tree.{Descriptor, fileHeads, fileRows, rowCount}
 

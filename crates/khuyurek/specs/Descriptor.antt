@@ -3,7 +3,7 @@ use Prim.Native.Nat.{ℕ}
 use mathlib.Core.List.{List}
 use mathlib.Core.Bool.{Bool, true, false}
 use lib.Ieee.{binary64, toBits}
-use Rattle.descriptor_read.specs.Answer.{Verdict, accepted, refused}
+use Rattle.descriptor_judge.specs.Answer.{Verdict, accepted, refused}
 use Rattle.descriptor_read.specs.Values.{Place, lies, refusal}
 use Rattle.descriptor_read.specs.declared.Typed.{Typed}
 use Rattle.descriptor_read.specs.declared.Typed.the-variants as vt

@@ -2,7 +2,7 @@
 ghost use mathlib.Core.Path.{_≡_};
 ghost use lib.Ieee.{binary64, toBits};
 ghost use Rattle.descriptor.specs.Reading.{descriptor};
-ghost use Rattle.descriptor_read.specs.Answer.{verdict, told};
+ghost use Rattle.descriptor_judge.specs.Answer.{verdict, told};
 ghost use Rattle.descriptor_read.specs.Filled.{filled};
 ghost use Rattle.descriptor_read.specs.Values.{rowIn, placeOf, toldValue};
 ghost use Rattle.descriptor_read.specs.Typed.{typedOf};
@@ -12,7 +12,7 @@ use descriptor::COMP;
 use descriptor::DOUBLE;
 use descriptor::LONG;
 use descriptor::UNIT_DOUBLE;
-use descriptor_read::Answer;
+use descriptor_judge::Answer;
 use descriptor_read::Typed;
 use descriptor_read::ValueAt;
 
@@ -74,7 +74,7 @@ fn exported_value(v: ValueAt) -> DescriptorValue
 pub extern "C" fn khuyurek_descriptor_judge(file: &[u8]) -> DescriptorAnswer
     ensures { λ r. ⌜ r ≡ answerOf (verdict (descriptor (now (file .entry)))) ⌝ }
 {
-    exported(descriptor_read::judge(file))
+    exported(descriptor_judge::judge(file))
 }
 
 // Reads a descriptor into a table, five numbers a row.

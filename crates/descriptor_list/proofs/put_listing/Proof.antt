@@ -1,7 +1,7 @@
 use borrow.Author.Needs.{needs}
 use mathlib.Core.Path.{sym, ap, _∙_}
-use Rattle.descriptor_read.specs.Answer.{told}
-use Rattle.descriptor_read.specs.declared.Answer.{Answer}
+use Rattle.descriptor_judge.specs.Answer.{told}
+use Rattle.descriptor_judge.specs.declared.Answer.{Answer}
 use Rattle.listing.specs.Buffer.{putAll}
 use Rattle.listing.proofs.Wording.{taken-beyond, taken-within}
 use Rattle.listing.proofs.Putting.{put-both, put-last}

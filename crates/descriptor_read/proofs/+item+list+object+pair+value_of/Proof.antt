@@ -12,8 +12,9 @@ use Rattle.descriptor.specs.Reading.{leaf, list as list-sort, object as object-
 use Rattle.descriptor.proofs.Ends.{accepted}
 use Rattle.descriptor.proofs.Tiling.{reach, value-past}
 use Rattle.descriptor.proofs.Fields.{then-no, then-to}
-use Rattle.descriptor_read.specs.Cycle.{memberOf}
-use Rattle.descriptor_read.proofs.Steps as S
+use Rattle.descriptor_judge.specs.Cycle.{memberOf}
+use Rattle.descriptor_judge.proofs.Steps as S
+use Rattle.descriptor_read.proofs.Steps.{item-value, value-is, value-unknown}
 use Rattle.descriptor_read.proofs.Going.{Going, going-start, going-length, turn, turn-no, all-done, done-no, done-eq, done-past, leaf-done, row-done, row-no}
 use Rattle.descriptor_read.proofs.Carried.{carry, taken, holder-cut, holder-small}
 use borrow.Fn.Kinds.{In}
@@ -148,7 +149,7 @@ item-returns-3 t c =
     let a = c .before .before .before .before .before .before .before .before .before .before .before .before .before .before .args in
     let e = sym (ap (told32 _) (c .before .before .before .before .before .before .before .before .kind .given .1)) ∙ c .before .before .before .before .before .before .before .before .before .before .u32-at .ensures in
     let h = field-next 4 (a .file .now) (a .at) _ _ e in
-    done-eq (S.item-value (a .parent) (a .row) (a .first) (a .file .now) (a .at) (a .left) _ _ (c .before .before .before .before .before .before .before .before .before .before .before .if1 .left) e (omega arith)) (row-no _ (a .left - 1) (a .parent) (a .first) _ (c .before .before .before .before .before .value-of .ensures) (c .before .x .given .1))
+    done-eq (item-value (a .parent) (a .row) (a .first) (a .file .now) (a .at) (a .left) _ _ (c .before .before .before .before .before .before .before .before .before .before .before .if1 .left) e (omega arith)) (row-no _ (a .left - 1) (a .parent) (a .first) _ (c .before .before .before .before .before .value-of .ensures) (c .before .x .given .1))
 
 item-same-length-2 : (t : ℕ) → item-lts.Need-same-length-2 (item-cs t) (item-at t) item.Post
 item-same-length-2 t c = c .before .before .put-row .kept .0 ∙ c .before .before .before .before .before .before .before .before .before .value-of .kept .1 .0
@@ -158,7 +159,7 @@ item-returns-4 t c =
     let a = c .before .before .before .before .before .before .before .before .before .before .before .before .before .before .before .before .before .before .args in
     let e = sym (ap (told32 _) (c .before .before .before .before .before .before .before .before .before .before .before .before .kind .given .1)) ∙ c .before .before .before .before .before .before .before .before .before .before .before .before .before .before .u32-at .ensures in
     let h = field-next 4 (a .file .now) (a .at) _ _ e in
-    done-eq (S.item-value (a .parent) (a .row) (a .first) (a .file .now) (a .at) (a .left) _ _ (c .before .before .before .before .before .before .before .before .before .before .before .before .before .before .before .if1 .left) e (omega arith)) (row-done _ (a .left - 1) (a .parent) (a .first) _ _ _ (c .before .before .before .before .before .before .before .before .before .value-of .ensures) (c .before .before .before .before .before .end .given .1) (c .before .before .put-row .ensures))
+    done-eq (item-value (a .parent) (a .row) (a .first) (a .file .now) (a .at) (a .left) _ _ (c .before .before .before .before .before .before .before .before .before .before .before .before .before .before .before .if1 .left) e (omega arith)) (row-done _ (a .left - 1) (a .parent) (a .first) _ _ _ (c .before .before .before .before .before .before .before .before .before .value-of .ensures) (c .before .before .before .before .before .end .given .1) (c .before .before .put-row .ensures))
 
 abbrev list-cs : ℕ → list-lts.Claims
 list-cs t = (class-if-reads.Asked, class-if-reads.Learnt, refused-in-reads.Asked, refused-in-reads.Learnt, u32-at-reads.Asked, u32-at-reads.Learnt, pair-below t, pair.Post, next-in-reads.Asked, next-in-reads.Learnt)
@@ -406,7 +407,7 @@ value-of-returns : (t : ℕ) → value-of-lts.Need-returns (value-of-cs t) (valu
 value-of-returns t c =
     let a = c .before .before .before .before .before .before .args in
     let k = S.begun-ends (a .file .now) (a .at) _ _ (sym (c .before .before .before .begin .ensures) ∙ c .before .end .given .1) in
-    leaf-done _ (S.value-is (a .left) (a .row) (a .kind) (a .file .now) (a .at) (leaf (k .0)) (k .1) ∙ then-to (k .0 (a .file .now) (a .at)) _ (k .2))
+    leaf-done _ (value-is (a .left) (a .row) (a .kind) (a .file .now) (a .at) (leaf (k .0)) (k .1) ∙ then-to (k .0 (a .file .now) (a .at)) _ (k .2))
 
 value-of-same-length : (t : ℕ) → value-of-lts.Need-same-length (value-of-cs t) (value-of-at t) value-of.Post
 value-of-same-length t c = c .before .before .before .list .kept .1 .0
@@ -414,7 +415,7 @@ value-of-same-length t c = c .before .before .before .list .kept .1 .0
 value-of-returns-2 : (t : ℕ) → value-of-lts.Need-returns-2 (value-of-cs t) (value-of-at t) value-of.Post
 value-of-returns-2 t c =
     let a = c .before .before .before .before .before .before .before .before .before .before .args in
-    done-eq (S.value-is (a .left) (a .row) (a .kind) (a .file .now) (a .at) list-sort (S.begun-list (a .file .now) (a .at) _ (sym (c .before .before .before .before .before .before .before .begin .ensures) ∙ c .before .before .before .before .before .enum-told .given .1))) (taken _ (c .unpack .ensures) (c .before .before .before .list .ensures))
+    done-eq (value-is (a .left) (a .row) (a .kind) (a .file .now) (a .at) list-sort (S.begun-list (a .file .now) (a .at) _ (sym (c .before .before .before .before .before .before .before .begin .ensures) ∙ c .before .before .before .before .before .enum-told .given .1))) (taken _ (c .unpack .ensures) (c .before .before .before .list .ensures))
 
 value-of-same-length-2 : (t : ℕ) → value-of-lts.Need-same-length-2 (value-of-cs t) (value-of-at t) value-of.Post
 value-of-same-length-2 t c = c .before .before .before .object .kept .1 .0
@@ -422,7 +423,7 @@ value-of-same-length-2 t c = c .before .before .before .object .kept .1 .0
 value-of-returns-3 : (t : ℕ) → value-of-lts.Need-returns-3 (value-of-cs t) (value-of-at t) value-of.Post
 value-of-returns-3 t c =
     let a = c .before .before .before .before .before .before .before .before .before .before .args in
-    done-eq (S.value-is (a .left) (a .row) (a .kind) (a .file .now) (a .at) object-sort (S.begun-object (a .file .now) (a .at) _ (sym (c .before .before .before .before .before .before .before .begin .ensures) ∙ c .before .before .before .before .before .enum-told2 .given .1))) (taken _ (c .unpack2 .ensures) (c .before .before .before .object .ensures))
+    done-eq (value-is (a .left) (a .row) (a .kind) (a .file .now) (a .at) object-sort (S.begun-object (a .file .now) (a .at) _ (sym (c .before .before .before .before .before .before .before .begin .ensures) ∙ c .before .before .before .before .before .enum-told2 .given .1))) (taken _ (c .unpack2 .ensures) (c .before .before .before .object .ensures))
 
 value-of-same-length-3 : (t : ℕ) → value-of-lts.Need-same-length-3 (value-of-cs t) (value-of-at t) value-of.Post
 value-of-same-length-3 t c = c .before .before .before .held .kept .1 .0
@@ -430,7 +431,7 @@ value-of-same-length-3 t c = c .before .before .before .held .kept .1 .0
 value-of-returns-4 : (t : ℕ) → value-of-lts.Need-returns-4 (value-of-cs t) (value-of-at t) value-of.Post
 value-of-returns-4 t c =
     let a = c .before .before .before .before .before .before .before .before .before .before .args in
-    done-eq (S.value-is (a .left) (a .row) (a .kind) (a .file .now) (a .at) reference-sort (S.begun-reference (a .file .now) (a .at) _ (sym (c .before .before .before .before .before .before .before .begin .ensures) ∙ c .before .before .before .before .before .enum-told3 .given .1))) (taken _ (c .unpack3 .ensures) (c .before .before .before .held .ensures))
+    done-eq (value-is (a .left) (a .row) (a .kind) (a .file .now) (a .at) reference-sort (S.begun-reference (a .file .now) (a .at) _ (sym (c .before .before .before .before .before .before .before .begin .ensures) ∙ c .before .before .before .before .before .enum-told3 .given .1))) (taken _ (c .unpack3 .ensures) (c .before .before .before .held .ensures))
 
 value-of-same-length-4 : (t : ℕ) → value-of-lts.Need-same-length-4 (value-of-cs t) (value-of-at t) value-of.Post
 value-of-same-length-4 t c = c .before .before .before .held2 .kept .1 .0
@@ -438,18 +439,18 @@ value-of-same-length-4 t c = c .before .before .before .held2 .kept .1 .0
 value-of-returns-5 : (t : ℕ) → value-of-lts.Need-returns-5 (value-of-cs t) (value-of-at t) value-of.Post
 value-of-returns-5 t c =
     let a = c .before .before .before .before .before .before .before .before .before .before .args in
-    done-eq (S.value-is (a .left) (a .row) (a .kind) (a .file .now) (a .at) array-sort (S.begun-array (a .file .now) (a .at) _ (sym (c .before .before .before .before .before .before .before .begin .ensures) ∙ c .before .before .before .before .before .enum-told4 .given .1))) (taken _ (c .unpack4 .ensures) (c .before .before .before .held2 .ensures))
+    done-eq (value-is (a .left) (a .row) (a .kind) (a .file .now) (a .at) array-sort (S.begun-array (a .file .now) (a .at) _ (sym (c .before .before .before .before .before .before .before .begin .ensures) ∙ c .before .before .before .before .before .enum-told4 .given .1))) (taken _ (c .unpack4 .ensures) (c .before .before .before .held2 .ensures))
 
 value-of-returns-6 : (t : ℕ) → value-of-lts.Need-returns-6 (value-of-cs t) (value-of-at t) value-of.Post
 value-of-returns-6 t c =
     let a = c .before .before .before .before .before .args in
-    done-no (S.value-unknown (a .left) (a .row) (a .kind) (a .file .now) (a .at) (S.begun-unknown (a .file .now) (a .at) _ (sym (c .before .before .begin .ensures) ∙ c .enum-told5 .given .1)))
+    done-no (value-unknown (a .left) (a .row) (a .kind) (a .file .now) (a .at) (S.begun-unknown (a .file .now) (a .at) _ (sym (c .before .before .begin .ensures) ∙ c .enum-told5 .given .1)))
 
 value-of-returns-7 : (t : ℕ) → value-of-lts.Need-returns-7 (value-of-cs t) (value-of-at t) value-of.Post
 value-of-returns-7 t c =
     let a = c .before .before .before .before .before .before .args in
     let k = S.begun-no (a .file .now) (a .at) _ _ _ (sym (c .before .before .before .begin .ensures) ∙ c .before .x .given .1) in
-    done-no (S.value-is (a .left) (a .row) (a .kind) (a .file .now) (a .at) (leaf (k .0)) (k .1) ∙ then-no (k .0 (a .file .now) (a .at)) _ (k .4))
+    done-no (value-is (a .left) (a .row) (a .kind) (a .file .now) (a .at) (leaf (k .0)) (k .1) ∙ then-no (k .0 (a .file .now) (a .at)) _ (k .4))
 
 pub +item+list+object+pair+value-of-spec : {M : Type 1} → statement M
 +item+list+object+pair+value-of-spec =

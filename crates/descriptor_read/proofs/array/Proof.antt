@@ -1,5 +1,5 @@
 use Rattle.descriptor_read.proofs.Going.{done-no, done-eq}
-use Rattle.descriptor_read.proofs.Steps.{array-cut, array-no, array-in}
+use Rattle.descriptor_judge.proofs.Steps.{array-cut, array-no, array-in}
 use Rattle.descriptor.proofs.Ends.{accepted, class-past}
 use Rattle.algebra.proofs.Laws.{field-next}
 use Rattle.fields.specs.Answer.{told32, toldStep}

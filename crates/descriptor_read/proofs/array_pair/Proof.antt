@@ -1,6 +1,6 @@
 use Rattle.descriptor.proofs.Fields.{then-no, then-to}
 use Rattle.descriptor_read.proofs.Going.{done-no, done-eq, headed-no, closed}
-use Rattle.descriptor_read.proofs.Steps.{array-deep, array-id, array-short, array-other, array-is}
+use Rattle.descriptor_judge.proofs.Steps.{array-deep, array-id, array-short, array-other, array-is}
 use Rattle.descriptor.proofs.Ends.{accepted, id-past, column-past}
 use Rattle.descriptor.specs.Reading.{column}
 use Rattle.algebra.proofs.Laws.{field-next}

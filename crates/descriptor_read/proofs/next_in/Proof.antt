@@ -1,5 +1,5 @@
 use borrow.Author.Needs.{needs}
-use Rattle.descriptor_read.proofs.Carried.{next-carried}
+use Rattle.descriptor_judge.proofs.Counting.{next-packed}
 use Rattle.descriptor_read.proofs.next_in.Statement.{statement}
 use Rattle.descriptor_read.proofs.next_in.Tie as tie
 
@@ -10,7 +10,7 @@ add-result : tie.Need-add-result
 add-result c = search needs
 
 returns : tie.Need-returns
-returns c = next-carried _ _ (c .pre .0) (c .pre .1)
+returns c = next-packed _ _ _ _ (c .pre .0) (c .pre .1)
 
 pub next-in-spec : {M : Type 1} → statement M
 next-in-spec = tie.close (tie.spec mul-result add-result returns)

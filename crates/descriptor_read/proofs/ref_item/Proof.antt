@@ -1,6 +1,6 @@
 use Rattle.descriptor.proofs.Fields.{then-no, then-to}
 use Rattle.descriptor_read.proofs.Going.{done-no, done-eq, headed-no, closed}
-use Rattle.descriptor_read.proofs.Steps.{ref-deep, ref-short, ref-unknown, ref-is}
+use Rattle.descriptor_judge.proofs.Steps.{ref-deep, ref-short, ref-unknown, ref-is}
 use Rattle.descriptor.proofs.Ends.{accepted, form-takes, ref-past}
 use Rattle.descriptor.specs.Answer.{known, readerOf}
 use Rattle.descriptor.specs.Reading.{refValue}

@@ -1,6 +1,6 @@
 use Rattle.descriptor.specs.Reading.{refItem}
 use Rattle.descriptor_read.proofs.Going.{Going, going-start, going-length, turn, turn-no, all-done, done-no, done-eq}
-use Rattle.descriptor_read.proofs.Steps.{children-short, children-is}
+use Rattle.descriptor_judge.proofs.Steps.{children-short, children-is}
 use Rattle.descriptor.proofs.Tiling.{reach, ref-rows}
 use Rattle.algebra.proofs.Laws.{field-next}
 use Rattle.fields.specs.Answer.{told32}

@@ -1,6 +1,6 @@
 use Rattle.descriptor_read.proofs.Going.{done-no, done-eq, done-past, row-done, row-no}
 use Rattle.descriptor_read.proofs.Carried.{taken}
-use Rattle.descriptor_read.proofs.Steps.{root-short, root-other, root-is}
+use Rattle.descriptor_judge.proofs.Steps.{root-short, root-other, root-is}
 use Rattle.descriptor.proofs.Tiling.{object-past}
 use Rattle.algebra.proofs.Laws.{field-next}
 use Rattle.fields.specs.Answer.{told32}

@@ -1,6 +1,6 @@
 use mathlib.Core.Path.{sym, ap}
 use Rattle.khuyurek.specs.Descriptor.{answerOf}
-use Rattle.descriptor_read.specs.Answer.{told}
+use Rattle.descriptor_judge.specs.Answer.{told}
 use borrow.Author.Needs.{needs}
 use Rattle.khuyurek.proofs.descriptors.exported.Statement.{statement}
 use Rattle.khuyurek.proofs.descriptors.exported.Tie as tie

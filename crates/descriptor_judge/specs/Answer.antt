@@ -5,10 +5,10 @@ use lib.Dec.{eqb}
 use lib.ListN.{length}
 use Rattle.algebra.specs.Reader.{Res, ok, refuse, pick}
 use Rattle.descriptor.specs.Reading.{Row}
-use Rattle.descriptor_read.specs.declared.Answer.{Answer}
-use Rattle.descriptor_read.specs.declared.Answer.the-variants as va
-use Rattle.descriptor_read.specs.declared.Walk.{Walk}
-use Rattle.descriptor_read.specs.declared.Walk.the-variants as vw
+use Rattle.descriptor_judge.specs.declared.Answer.{Answer}
+use Rattle.descriptor_judge.specs.declared.Answer.the-variants as va
+use Rattle.descriptor_judge.specs.declared.Walk.{Walk}
+use Rattle.descriptor_judge.specs.declared.Walk.the-variants as vw
 
 -- accepted: the number of rows; refused: number and place
 pub data Verdict : Type 0 where

@@ -1,9 +1,9 @@
-use Rattle.descriptor_read.specs.Answer.{closing}
+use Rattle.descriptor_judge.specs.Answer.{closing}
 use borrow.Author.Tests.{eq-eqb, ne-eqb}
 use mathlib.Core.Path.{sym, ap, _∙_}
 use borrow.Author.Needs.{needs}
-use Rattle.descriptor_read.proofs.ended.Statement.{statement}
-use Rattle.descriptor_read.proofs.ended.Tie as tie
+use Rattle.descriptor_judge.proofs.ended.Statement.{statement}
+use Rattle.descriptor_judge.proofs.ended.Tie as tie
 
 enum-known-walk : tie.Need-enum-known-walk
 enum-known-walk c = search needs

@@ -1,0 +1,9 @@
+pub mod Members
+pub mod Past
+pub mod Under
+pub mod Tiles
+pub mod Theorem
+pub mod Local
+pub mod Scalars
+pub mod Lockstep
+pub mod Examples
