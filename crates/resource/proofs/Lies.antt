@@ -12,7 +12,7 @@ use Rattle.resource.specs.Reading.{Part, Entry, run, zeroed, pad, follow
 use Rattle.resource.specs.Tiling.{sizeOf, Lies}
 
 module _ (s : List ℕ) where
-  run-lies : (n at : ℕ) {p : Part} {q : ℕ} → run n s at ≡ ok p q → (p .first ≡ at) × (length (p .bytes) ≡ n) × (at + n ≡ q)
+  pub run-lies : (n at : ℕ) {p : Part} {q : ℕ} → run n s at ≡ ok p q → (p .first ≡ at) × (length (p .bytes) ≡ n) × (at + n ≡ q)
   unfolding run
   run-lies n at {p} {q} e = go (body 1 n s at) refl e
     where
