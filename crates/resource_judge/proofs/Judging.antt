@@ -1,19 +1,16 @@
 -- The reading in the form in which the code goes. Assumes nothing.
-use Prim.Native.Nat.{ℕ, zero, suc, _+_, _-_, _*_, _%_, _≤_, _<_}
-use mathlib.Core.Path.{_≡_, refl, sym, ap, ap₂, _∙_, subst}
-use mathlib.Core.List.{List, [], _∷_}
-use mathlib.Core.Bool.{Bool, true, false}
-use lib.Dec.{leb, eqb}
+use Prim.Native.Nat.{ℕ, suc, _+_, _%_, _≤_, _<_}
+use mathlib.Core.Path.{_≡_, refl, sym, ap, ap₂, _∙_}
+use mathlib.Core.List.{List, _∷_}
 use lib.ListN.{length}
 use borrow.Author.Tests.{le-leb, lt-leb, ne-eqb, eq-eqb}
 use native.Mathlib.Omega.{arith}
 use native.Mathlib.Nat.{add-zero, zero-add}
 use Rattle.algebra.specs.Numbers.{num}
-use Rattle.algebra.specs.Reader.{Res, ok, refuse, then, pick, field, body, judged, rule, unless, done, mapRes, limit}
+use Rattle.algebra.specs.Reader.{Res, ok, refuse, then, field, body, judged, done, mapRes, limit}
 use Rattle.algebra.specs.Table.{Verdict, accepted, refused, verdict}
 use Rattle.algebra.proofs.Laws.{field-in, judged-short, judged-bad, judged-ok}
 use Rattle.algebra.proofs.Inverse.{clash, ok-value, ok-place}
-use Rattle.algebra.proofs.Sequence.{step-no, step-on}
 use Rattle.resource.specs.Reading.{Part, Entry, run, zeroed, pad, followed, counted, marked, block, blocks, resources}
 use Rattle.resource.specs.Rows.{recordOf}
 use Rattle.resource.specs.declared.Record.{Record}
