@@ -1,0 +1,47 @@
+use mathlib.Core.Path.{sym, ap, _∙_}
+use Rattle.fields.specs.Answer.{toldStep}
+use Rattle.resource_judge.proofs.Judging.{followed-done}
+use Rattle.algebra.proofs.Sequence.{step-no, step-on}
+use borrow.Author.Needs.{needs}
+use Rattle.resource_judge.proofs.followed_at.Statement.{statement}
+use Rattle.resource_judge.proofs.followed_at.Tie as tie
+
+run-at-requires : tie.Need-run-at-requires
+run-at-requires c κs = search needs
+
+enum-known-x : tie.Need-enum-known-x
+enum-known-x c = search needs
+
+enum-known-q : tie.Need-enum-known-q
+enum-known-q c = search needs
+
+add-pad-at : tie.Need-add-pad-at
+add-pad-at c = search needs
+
+pad-at-requires : tie.Need-pad-at-requires
+pad-at-requires c κs = search needs
+
+returns : tie.Need-returns
+returns c =
+    let call = c .before .before .before in
+    let a = call .before .before .args in
+    step-no _ _ (sym (ap toldStep (c .before .x .given .1)) ∙ call .run-at .ensures) ∙ sym (followed-done (a .file .now) (a .k) (a .n) (a .at))
+
+returns-2 : tie.Need-returns-2
+returns-2 c =
+    let q = c .before .before in
+    let call = q .before .before in
+    let a = call .before .before .args in
+    step-on _ _ (sym (ap toldStep (q .q .given .1)) ∙ call .run-at .ensures) (c .pad-at .ensures) ∙ sym (followed-done (a .file .now) (a .k) (a .n) (a .at))
+
+pub followed-at-spec : {M : Type 1} → statement M
+followed-at-spec =
+    tie.close
+    (tie.spec
+    run-at-requires
+    enum-known-x
+    enum-known-q
+    add-pad-at
+    pad-at-requires
+    returns
+    returns-2)

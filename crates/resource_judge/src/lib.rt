@@ -1,0 +1,180 @@
+// Image resource blocks: judging a section by the layout.
+ghost use mathlib.Core.Path.{_≡_};
+ghost use Prim.Native.Nat.{_+_, _<_};
+ghost use lib.ListN.{length};
+ghost use Rattle.algebra.specs.Reader.{done, mapRes};
+ghost use Rattle.algebra.specs.Table.{verdict};
+ghost use Rattle.fields.specs.Answer.{toldStep};
+ghost use Rattle.resource.specs.Reading.{pad, followed, counted, block, blocks, resources};
+ghost use Rattle.resource.specs.Rows.{recordOf};
+ghost use Rattle.resource_judge.specs.Answer.{partOf, toldRun, partsFrom, toldFound, told};
+use fields::Number8;
+use fields::Number16;
+use fields::Number32;
+use fields::Step;
+use resource::Record;
+
+// The number of blocks, or a refusal.
+pub enum Answer {
+    Accepted { blocks: usize },
+    Refused { number: u32, place: usize },
+}
+
+// A block's record and the place behind the block, or a refusal.
+pub enum Found {
+    Is { given: Record, next: usize },
+    Refused { number: u32, place: usize },
+}
+
+// Where counted bytes lie, and the place behind their pad; or a refusal's number and place.
+enum Run {
+    Is {
+        first: usize,
+        size: usize,
+        next: usize,
+    },
+    Refused(u32, usize),
+}
+
+// The place behind the pad of n bytes.
+fn pad_at(file: &[u8], at: usize, n: usize) -> Step
+    ensures { λ r. ⌜ toldStep r ≡ done (pad n (now (file .entry)) at) ⌝ }
+{
+    if n % 2 == 0 {
+        return Step::Next(at);
+    }
+    let Number8::Is(v, next) = fields::u8_at(file, at) else {
+        return Step::Refused(2, at);
+    };
+    if v != 0 {
+        return Step::Refused(5, at);
+    }
+    Step::Next(next)
+}
+
+// The place behind n bytes and their pad, where k bytes before them count with them.
+fn followed_at(file: &[u8], at: usize, k: usize, n: usize) -> Step
+    requires { ⌜ k + n < 18446744073709551616 ⌝ }
+    ensures { λ r. ⌜ toldStep r ≡ done (followed k n (now (file .entry)) at) ⌝ }
+{
+    match fields::run_at(file, at, n) {
+        Step::Refused(x, p) => Step::Refused(x, p),
+        Step::Next(q) => pad_at(file, q, k + n),
+    }
+}
+
+// A name: its length byte counts for its pad.
+fn name_at(file: &[u8], at: usize) -> Run
+    ensures { λ r. ⌜ toldRun r ≡ mapRes partOf (counted 1 1 (now (file .entry)) at) ⌝ }
+{
+    let Number8::Is(v, first) = fields::u8_at(file, at) else {
+        return Run::Refused(2, at);
+    };
+    let size = v as usize;
+    match followed_at(file, first, 1, size) {
+        Step::Refused(x, p) => Run::Refused(x, p),
+        Step::Next(next) => Run::Is { first, size, next },
+    }
+}
+
+// A block's data.
+fn payload_at(file: &[u8], at: usize) -> Run
+    ensures { λ r. ⌜ toldRun r ≡ mapRes partOf (counted 4 0 (now (file .entry)) at) ⌝ }
+{
+    let Number32::Is(v, first) = fields::u32_at(file, at) else {
+        return Run::Refused(2, at);
+    };
+    let size = v as usize;
+    match followed_at(file, first, 0, size) {
+        Step::Refused(x, p) => Run::Refused(x, p),
+        Step::Next(next) => Run::Is { first, size, next },
+    }
+}
+
+// The name and the data of a block from `at`, whose ID was read.
+fn parts_at(file: &[u8], at: usize, id: u32) -> Found
+    ensures { λ r. ⌜ toldFound r ≡ partsFrom id (now (file .entry)) at ⌝ }
+{
+    match name_at(file, at) {
+        Run::Refused(number, place) => Found::Refused { number, place },
+        Run::Is {
+            first: name,
+            size: letters,
+            next: p,
+        } => match payload_at(file, p) {
+            Run::Refused(number, place) => Found::Refused { number, place },
+            Run::Is {
+                first: payload,
+                size,
+                next,
+            } => Found::Is {
+                given: Record {
+                    id,
+                    name,
+                    letters,
+                    payload,
+                    size,
+                },
+                next,
+            },
+        },
+    }
+}
+
+// The block at `at`.
+pub fn block_at(file: &[u8], at: usize) -> Found
+    ensures { λ r. ⌜ toldFound r ≡ mapRes recordOf (block (now (file .entry)) at) ⌝ }
+{
+    let Number32::Is(signature, a) = fields::u32_at(file, at) else {
+        return Found::Refused {
+            number: 2,
+            place: at,
+        };
+    };
+    if signature != resource::SIGNATURE {
+        return Found::Refused {
+            number: 3,
+            place: at,
+        };
+    }
+    let Number16::Is(id, b) = fields::u16_at(file, a) else {
+        return Found::Refused {
+            number: 2,
+            place: a,
+        };
+    };
+    parts_at(file, b, id as u32)
+}
+
+// The blocks from the first to the section's end.
+fn blocks_in(file: &[u8]) -> Answer
+    ensures { λ r. ⌜ told r ≡ verdict length (blocks (now (file .entry)) 0) ⌝ }
+{
+    let mut at: usize = 0;
+    let mut n: usize = 0;
+    while at != file.len() {
+        match block_at(file, at) {
+            Found::Refused { number, place } => {
+                return Answer::Refused { number, place };
+            }
+            Found::Is { given: _, next } => {
+                at = next;
+            }
+        }
+        n += 1;
+    }
+    Answer::Accepted { blocks: n }
+}
+
+// Judges a whole section.
+pub fn judge(file: &[u8]) -> Answer
+    ensures { λ r. ⌜ told r ≡ verdict length (resources (now (file .entry))) ⌝ }
+{
+    if resource::LIMIT < file.len() {
+        return Answer::Refused {
+            number: 1,
+            place: 0,
+        };
+    }
+    blocks_in(file)
+}
