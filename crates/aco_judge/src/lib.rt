@@ -33,7 +33,7 @@ pub enum Answer {
 }
 
 // A list's count and the next place, or a refusal.
-enum Heading {
+pub enum Heading {
     Is(u16, usize),
     Refused(u32, usize),
 }
@@ -97,7 +97,7 @@ fn is_sound(file: &[u8], at: usize) -> bool
 }
 
 // The colour at `at`. Nearly all are sound, and only another is looked into.
-fn colour_at(file: &[u8], at: usize) -> Step
+pub fn colour_at(file: &[u8], at: usize) -> Step
     requires { ⌜ at ≤ length (now file) ⌝ }
     ensures { λ r. ⌜ toldStep r ≡ done (colour (now (file .entry)) at) ⌝ }
 {
@@ -190,7 +190,7 @@ fn entries_at(file: &[u8], at: usize, n: u16) -> Walk
 }
 
 // A list's version, which must be this one, and its count, which is not judged here.
-fn heading_at(file: &[u8], at: usize, version: u16) -> Heading
+pub fn heading_at(file: &[u8], at: usize, version: u16) -> Heading
     ensures { λ r. ⌜ toldHeading r ≡ headed version (now (file .entry)) at ⌝ }
 {
     match fields::u16_is(file, at, version, 3) {
