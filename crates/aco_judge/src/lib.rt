@@ -80,10 +80,13 @@ fn fields_at(file: &[u8], at: usize) -> Step
 // Whether a colour stands at `at` that is whole and has no fault. A part of known length is loaded
 // from without tests.
 fn is_sound(file: &[u8], at: usize) -> bool
-    requires { ⌜ at ≤ length (now file) ⌝ }
     ensures { λ r. ⌜ (r ≡ true → SoundAt (now (file .entry)) at) ⌝ }
 {
-    if file.len() - at < 10 {
+    let n = file.len();
+    if n < 10 {
+        return false;
+    }
+    if n - 10 < at {
         return false;
     }
     let end = at + 10;
@@ -98,7 +101,6 @@ fn is_sound(file: &[u8], at: usize) -> bool
 
 // The colour at `at`. Nearly all are sound, and only another is looked into.
 pub fn colour_at(file: &[u8], at: usize) -> Step
-    requires { ⌜ at ≤ length (now file) ⌝ }
     ensures { λ r. ⌜ toldStep r ≡ done (colour (now (file .entry)) at) ⌝ }
 {
     if is_sound(file, at) {

@@ -33,6 +33,11 @@ unitsPassed (v.Unit n i at m y) k z = v.Unit n i at (m - k) (pick z true y)
 unitsPassed (v.End n) k z = v.End n
 unitsPassed (v.Fault x p r f) k z = v.Fault x p r f
 
+-- ---- a stream that has not ended
+
+abbrev pub openStream : Stage → ℕ → ℕ → List ℕ → Stream
+openStream g total got carry = record { stage = g; total = total; got = got; carry = carry; ended = false }
+
 -- ---- a chunk and the end, over a store of any length that is looked at whole
 
 abbrev pub FeedsInBy : Bool → Bool → Stream → List ℕ → List ℕ → Stream → ℕ → List ℕ → Type 0

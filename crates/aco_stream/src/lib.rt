@@ -10,7 +10,7 @@ ghost use lib.ListN.{length};
 ghost use Rattle.algebra.specs.Reader.{limit, ok};
 ghost use Rattle.aco_stream.specs.Chunks.{size, item, next, after, kept, entryHead, loaded, colours, entries, unitDone, isFault, chunk, cut, ending};
 ghost use Rattle.aco_stream.specs.Answer.{progress, told, Starts, Feeds, Finishes};
-ghost use Rattle.aco_stream.specs.Parts.{Sparing, unitsPassed, FeedsIn, FinishesIn};
+ghost use Rattle.aco_stream.specs.Parts.{Sparing, unitsPassed, openStream, FeedsIn, FinishesIn};
 ghost use Rattle.algebra.specs.Numbers.{nums};
 ghost use Rattle.algebra.specs.Text.{anyZero};
 ghost use mathlib.Core.Bool.{false};
@@ -30,40 +30,19 @@ pub const STORE: usize = 40960;
 pub enum Stage {
     // list 1's version and count
     First,
-    // colour `index` of list 1, which has `count`
-    Colour {
-        count: u16,
-        index: u16,
-    },
-    // the file's end, or list 2's version and count
-    Second {
-        count: u16,
-    },
-    // record `index` of list 2: its colour and its name's count of units
-    Entry {
-        count: u16,
-        index: u16,
-    },
-    // a unit of record `index`'s name, whose count stands at `place`: `left` units are still to
-    // come, and `zero` says that one before them was zero
-    Unit {
-        count: u16,
-        index: u16,
-        place: u32,
-        left: u32,
-        zero: bool,
-    },
-    // the file's end
-    End {
-        count: u16,
-    },
-    // the first fault
-    Fault {
-        number: u32,
-        place: usize,
-        record: u16,
-        field: u16,
-    },
+    // a colour of list 1: how many there are, and its number
+    Colour(u16, u16),
+    // the file's end, or list 2's version and count: how many colours list 1 has
+    Second(u16),
+    // a record of list 2, its colour and its name's count of units: how many there are, and its number
+    Entry(u16, u16),
+    // a unit of a record's name: how many records there are, the record's number, the place of the
+    // name's count, how many units are still to come, and whether one before them was zero
+    Unit(u16, u16, u32, u32, bool),
+    // the file's end: how many colours there are
+    End(u16),
+    // the first fault: its number and place, and for 7 the record and field
+    Fault(u32, usize, u16, u16),
 }
 
 // What is kept between two chunks.
@@ -78,12 +57,7 @@ pub struct Stream {
 // What an item is found to be: a number and the next place, or a refusal.
 enum Item {
     Is(u32, usize),
-    Refused {
-        number: u32,
-        place: usize,
-        record: u16,
-        field: u16,
-    },
+    Refused(u32, usize, u16, u16),
 }
 
 // The bytes of a stage's item.
@@ -92,23 +66,12 @@ fn size_of(stage: Stage) -> usize
 {
     match stage {
         Stage::First => 4,
-        Stage::Colour { count: _, index: _ } => 10,
-        Stage::Second { count: _ } => 4,
-        Stage::Entry { count: _, index: _ } => 14,
-        Stage::Unit {
-            count: _,
-            index: _,
-            place: _,
-            left: _,
-            zero: _,
-        } => 2,
-        Stage::End { count: _ } => 1,
-        Stage::Fault {
-            number: _,
-            place: _,
-            record: _,
-            field: _,
-        } => 1,
+        Stage::Colour(_, _) => 10,
+        Stage::Second(_) => 4,
+        Stage::Entry(_, _) => 14,
+        Stage::Unit(_, _, _, _, _) => 2,
+        Stage::End(_) => 1,
+        Stage::Fault(_, _, _, _) => 1,
     }
 }
 
@@ -121,39 +84,19 @@ fn entry_of(bytes: &[u8], store: &[u8], index: u16) -> Item
     let mut p: usize = 0;
     while f < 5 {
         let Number16::Is(v, next) = fields::u16_at(bytes, p) else {
-            return Item::Refused {
-                number: 2,
-                place: p,
-                record: 0,
-                field: 0,
-            };
+            return Item::Refused(2, p, 0, 0);
         };
         if v != fields::u16_or_zero(store, first + 2 * (f as usize)) {
-            return Item::Refused {
-                number: 7,
-                place: p,
-                record: index,
-                field: f,
-            };
+            return Item::Refused(7, p, index, f);
         }
         p = next;
         f += 1;
     }
     let Number32::Is(n, next) = fields::u32_at(bytes, p) else {
-        return Item::Refused {
-            number: 2,
-            place: p,
-            record: 0,
-            field: 0,
-        };
+        return Item::Refused(2, p, 0, 0);
     };
     if n == 0 {
-        return Item::Refused {
-            number: 8,
-            place: p,
-            record: 0,
-            field: 0,
-        };
+        return Item::Refused(8, p, 0, 0);
     }
     Item::Is(n, next)
 }
@@ -164,85 +107,34 @@ fn item_of(stage: Stage, store: &[u8], bytes: &[u8]) -> Item
 {
     match stage {
         Stage::First => match aco_judge::heading_at(bytes, 0, 1) {
-            Heading::Refused(x, q) => Item::Refused {
-                number: x,
-                place: q,
-                record: 0,
-                field: 0,
-            },
+            Heading::Refused(x, q) => Item::Refused(x, q, 0, 0),
             Heading::Is(n, next) => {
                 if MOST < n {
-                    return Item::Refused {
-                        number: 5,
-                        place: 2,
-                        record: 0,
-                        field: 0,
-                    };
+                    return Item::Refused(5, 2, 0, 0);
                 }
                 Item::Is(n as u32, next)
             }
         },
-        Stage::Colour { count: _, index: _ } => match aco_judge::colour_at(bytes, 0) {
+        Stage::Colour(_, _) => match aco_judge::colour_at(bytes, 0) {
             Step::Next(next) => Item::Is(0, next),
-            Step::Refused(x, q) => Item::Refused {
-                number: x,
-                place: q,
-                record: 0,
-                field: 0,
-            },
+            Step::Refused(x, q) => Item::Refused(x, q, 0, 0),
         },
-        Stage::Second { count } => match aco_judge::heading_at(bytes, 0, 2) {
-            Heading::Refused(x, q) => Item::Refused {
-                number: x,
-                place: q,
-                record: 0,
-                field: 0,
-            },
+        Stage::Second(count) => match aco_judge::heading_at(bytes, 0, 2) {
+            Heading::Refused(x, q) => Item::Refused(x, q, 0, 0),
             Heading::Is(n, next) => {
                 if n != count {
-                    return Item::Refused {
-                        number: 7,
-                        place: 2,
-                        record: 0,
-                        field: 5,
-                    };
+                    return Item::Refused(7, 2, 0, 5);
                 }
                 Item::Is(n as u32, next)
             }
         },
-        Stage::Entry { count: _, index } => entry_of(bytes, store, index),
-        Stage::Unit {
-            count: _,
-            index: _,
-            place: _,
-            left: _,
-            zero: _,
-        } => match fields::u16_at(bytes, 0) {
+        Stage::Entry(_, index) => entry_of(bytes, store, index),
+        Stage::Unit(_, _, _, _, _) => match fields::u16_at(bytes, 0) {
             Number16::Is(u, next) => Item::Is(u as u32, next),
-            Number16::Short => Item::Refused {
-                number: 2,
-                place: 0,
-                record: 0,
-                field: 0,
-            },
+            Number16::Short => Item::Refused(2, 0, 0, 0),
         },
-        Stage::End { count: _ } => Item::Refused {
-            number: 6,
-            place: 0,
-            record: 0,
-            field: 0,
-        },
-        Stage::Fault {
-            number: _,
-            place: _,
-            record: _,
-            field: _,
-        } => Item::Refused {
-            number: 6,
-            place: 0,
-            record: 0,
-            field: 0,
-        },
+        Stage::End(_) => Item::Refused(6, 0, 0, 0),
+        Stage::Fault(_, _, _, _) => Item::Refused(6, 0, 0, 0),
     }
 }
 
@@ -252,13 +144,10 @@ fn colours_of(count: u16, index: u16) -> Stage
 {
     if index < count {
         if 1 < count - index {
-            return Stage::Colour {
-                count: count,
-                index: index + 1,
-            };
+            return Stage::Colour(count, index + 1);
         }
     }
-    Stage::Second { count: count }
+    Stage::Second(count)
 }
 
 // The record behind record `index`, or the end.
@@ -267,13 +156,10 @@ fn entries_of(count: u16, index: u16) -> Stage
 {
     if index < count {
         if 1 < count - index {
-            return Stage::Entry {
-                count: count,
-                index: index + 1,
-            };
+            return Stage::Entry(count, index + 1);
         }
     }
-    Stage::End { count: count }
+    Stage::End(count)
 }
 
 // One less, or 0.
@@ -293,39 +179,17 @@ fn unit_of(count: u16, index: u16, place: u32, left: u32, zero: bool, u: u32) ->
     if left == 1 {
         if u == 0 {
             if zero {
-                return Stage::Fault {
-                    number: 8,
-                    place: place as usize,
-                    record: 0,
-                    field: 0,
-                };
+                return Stage::Fault(8, place as usize, 0, 0);
             }
             return entries_of(count, index);
         }
-        return Stage::Fault {
-            number: 8,
-            place: place as usize,
-            record: 0,
-            field: 0,
-        };
+        return Stage::Fault(8, place as usize, 0, 0);
     }
     let rest = less(left);
     if u == 0 {
-        return Stage::Unit {
-            count: count,
-            index: index,
-            place: place,
-            left: rest,
-            zero: true,
-        };
+        return Stage::Unit(count, index, place, rest, true);
     }
-    Stage::Unit {
-        count: count,
-        index: index,
-        place: place,
-        left: rest,
-        zero: zero,
-    }
+    Stage::Unit(count, index, place, rest, zero)
 }
 
 // The stage behind an item that began at `from` and gave u.
@@ -337,49 +201,21 @@ fn next_of(stage: Stage, from: usize, u: u32) -> Stage
         Stage::First => {
             let count = u as u16;
             if 0 < count {
-                return Stage::Colour {
-                    count: count,
-                    index: 0,
-                };
+                return Stage::Colour(count, 0);
             }
-            Stage::Second { count: count }
+            Stage::Second(count)
         }
-        Stage::Colour { count, index } => colours_of(count, index),
-        Stage::Second { count } => {
+        Stage::Colour(count, index) => colours_of(count, index),
+        Stage::Second(count) => {
             if 0 < count {
-                return Stage::Entry {
-                    count: count,
-                    index: 0,
-                };
+                return Stage::Entry(count, 0);
             }
-            Stage::End { count: count }
+            Stage::End(count)
         }
-        Stage::Entry { count, index } => Stage::Unit {
-            count: count,
-            index: index,
-            place: (from + 10) as u32,
-            left: u,
-            zero: false,
-        },
-        Stage::Unit {
-            count,
-            index,
-            place,
-            left,
-            zero,
-        } => unit_of(count, index, place, left, zero, u),
-        Stage::End { count } => Stage::End { count: count },
-        Stage::Fault {
-            number,
-            place,
-            record,
-            field,
-        } => Stage::Fault {
-            number: number,
-            place: place,
-            record: record,
-            field: field,
-        },
+        Stage::Entry(count, index) => Stage::Unit(count, index, (from + 10) as u32, u, false),
+        Stage::Unit(count, index, place, left, zero) => unit_of(count, index, place, left, zero, u),
+        Stage::End(count) => Stage::End(count),
+        Stage::Fault(number, place, record, field) => Stage::Fault(number, place, record, field),
     }
 }
 
@@ -388,26 +224,15 @@ fn keep(stage: Stage, store: &mut [u8], bytes: &[u8])
     ensures { λ _. ⌜ now (store .exit) ≡ kept stage (ok 0 0) (now (bytes .entry)) (now (store .entry)) ⌝ }
 {
     match stage {
-        Stage::Colour { count: _, index } => {
+        Stage::Colour(_, index) => {
             fields::put_run(store, 10 * (index as usize), bytes);
         }
         Stage::First => {}
-        Stage::Second { count: _ } => {}
-        Stage::Entry { count: _, index: _ } => {}
-        Stage::Unit {
-            count: _,
-            index: _,
-            place: _,
-            left: _,
-            zero: _,
-        } => {}
-        Stage::End { count: _ } => {}
-        Stage::Fault {
-            number: _,
-            place: _,
-            record: _,
-            field: _,
-        } => {}
+        Stage::Second(_) => {}
+        Stage::Entry(_, _) => {}
+        Stage::Unit(_, _, _, _, _) => {}
+        Stage::End(_) => {}
+        Stage::Fault(_, _, _, _) => {}
     }
 }
 
@@ -417,17 +242,12 @@ fn settle(stage: Stage, store: &mut [u8], bytes: &[u8], from: usize) -> Stage
     ensures { λ r. ⌜ (r ≡ after stage from (item (now (store .entry)) stage (now (bytes .entry)) 0)) × (now (store .exit) ≡ kept stage (item (now (store .entry)) stage (now (bytes .entry)) 0) (now (bytes .entry)) (now (store .entry))) ⌝ }
 {
     match item_of(stage, store, bytes) {
-        Item::Refused {
+        Item::Refused(number, place, record, field) => Stage::Fault(
             number,
-            place,
+            from + place,
             record,
             field,
-        } => Stage::Fault {
-            number: number,
-            place: from + place,
-            record: record,
-            field: field,
-        },
+        ),
         Item::Is(u, _) => {
             keep(stage, store, bytes);
             next_of(stage, from, u)
@@ -441,13 +261,7 @@ fn spare(stage: Stage, n: usize) -> u32
     ensures { λ r. ⌜ (Sparing stage r) × (r * 2 ≤ n) ⌝ }
 {
     match stage {
-        Stage::Unit {
-            count: _,
-            index: _,
-            place: _,
-            left,
-            zero: _,
-        } => {
+        Stage::Unit(_, _, _, left, _) => {
             let rest = less(left);
             let k = n / 2;
             if k < (rest as usize) {
@@ -456,16 +270,11 @@ fn spare(stage: Stage, n: usize) -> u32
             rest
         }
         Stage::First => 0,
-        Stage::Colour { count: _, index: _ } => 0,
-        Stage::Second { count: _ } => 0,
-        Stage::Entry { count: _, index: _ } => 0,
-        Stage::End { count: _ } => 0,
-        Stage::Fault {
-            number: _,
-            place: _,
-            record: _,
-            field: _,
-        } => 0,
+        Stage::Colour(_, _) => 0,
+        Stage::Second(_) => 0,
+        Stage::Entry(_, _) => 0,
+        Stage::End(_) => 0,
+        Stage::Fault(_, _, _, _) => 0,
     }
 }
 
@@ -475,52 +284,18 @@ fn passed(stage: Stage, k: u32, found: bool) -> Stage
     ensures { λ r. ⌜ r ≡ unitsPassed stage k found ⌝ }
 {
     match stage {
-        Stage::Unit {
-            count,
-            index,
-            place,
-            left,
-            zero,
-        } => {
+        Stage::Unit(count, index, place, left, zero) => {
             if found {
-                return Stage::Unit {
-                    count: count,
-                    index: index,
-                    place: place,
-                    left: left - k,
-                    zero: true,
-                };
+                return Stage::Unit(count, index, place, left - k, true);
             }
-            Stage::Unit {
-                count: count,
-                index: index,
-                place: place,
-                left: left - k,
-                zero: zero,
-            }
+            Stage::Unit(count, index, place, left - k, zero)
         }
         Stage::First => Stage::First,
-        Stage::Colour { count, index } => Stage::Colour {
-            count: count,
-            index: index,
-        },
-        Stage::Second { count } => Stage::Second { count: count },
-        Stage::Entry { count, index } => Stage::Entry {
-            count: count,
-            index: index,
-        },
-        Stage::End { count } => Stage::End { count: count },
-        Stage::Fault {
-            number,
-            place,
-            record,
-            field,
-        } => Stage::Fault {
-            number: number,
-            place: place,
-            record: record,
-            field: field,
-        },
+        Stage::Colour(count, index) => Stage::Colour(count, index),
+        Stage::Second(count) => Stage::Second(count),
+        Stage::Entry(count, index) => Stage::Entry(count, index),
+        Stage::End(count) => Stage::End(count),
+        Stage::Fault(number, place, record, field) => Stage::Fault(number, place, record, field),
     }
 }
 
@@ -539,24 +314,13 @@ fn is_fault(stage: Stage) -> bool
     ensures { λ r. ⌜ r ≡ isFault stage ⌝ }
 {
     match stage {
-        Stage::Fault {
-            number: _,
-            place: _,
-            record: _,
-            field: _,
-        } => true,
+        Stage::Fault(_, _, _, _) => true,
         Stage::First => false,
-        Stage::Colour { count: _, index: _ } => false,
-        Stage::Second { count: _ } => false,
-        Stage::Entry { count: _, index: _ } => false,
-        Stage::Unit {
-            count: _,
-            index: _,
-            place: _,
-            left: _,
-            zero: _,
-        } => false,
-        Stage::End { count: _ } => false,
+        Stage::Colour(_, _) => false,
+        Stage::Second(_) => false,
+        Stage::Entry(_, _) => false,
+        Stage::Unit(_, _, _, _, _) => false,
+        Stage::End(_) => false,
     }
 }
 
@@ -569,6 +333,19 @@ fn item_start(total: usize, got: usize) -> usize
         return 0;
     }
     total - got
+}
+
+// A stream that has not ended.
+fn opened(stage: Stage, total: usize, got: usize, carry: [u8; 14]) -> Stream
+    ensures { λ r. ⌜ r ≡ openStream stage total got carry ⌝ }
+{
+    Stream {
+        stage,
+        total,
+        got,
+        carry,
+        ended: false,
+    }
 }
 
 // Bytes that stay within the limit.
@@ -610,13 +387,7 @@ fn run(state: Stream, store: &mut [u8], bytes: &[u8]) -> Stream
             }
         }
     }
-    Stream {
-        stage: stage,
-        total: start + end,
-        got: got,
-        carry: carry,
-        ended: false,
-    }
+    opened(stage, start + end, got, carry)
 }
 
 // What a chunk is answered: 0, or 5 for a state that has ended or is none, or 11.
@@ -629,13 +400,7 @@ pub struct Fed {
 pub fn start(store: &[u8]) -> Fed
     ensures { λ r. ⌜ Starts (now (store .entry)) (r .state) (r .number) ⌝ }
 {
-    let mut state = Stream {
-        stage: Stage::First,
-        total: 0,
-        got: 0,
-        carry: [0u8; 14],
-        ended: false,
-    };
+    let mut state = opened(Stage::First, 0, 0, [0u8; 14]);
     if store.len() < STORE {
         state.ended = true;
         return Fed { state, number: 11 };
@@ -649,28 +414,16 @@ fn feed_in(state: Stream, store: &mut [u8], bytes: &[u8]) -> Fed
     let stage = state.stage;
     let total = state.total;
     if state.ended {
-        return Fed {
-            state: state,
-            number: 5,
-        };
+        return Fed { state, number: 5 };
     }
     if size_of(stage) <= state.got {
-        return Fed {
-            state: state,
-            number: 5,
-        };
+        return Fed { state, number: 5 };
     }
     if store.len() < STORE {
-        return Fed {
-            state: state,
-            number: 11,
-        };
+        return Fed { state, number: 11 };
     }
     if bytes.len() == 0 {
-        return Fed {
-            state: state,
-            number: 0,
-        };
+        return Fed { state, number: 0 };
     }
     if LIMIT < total {
         let mut over = state;
@@ -697,16 +450,10 @@ fn feed_in(state: Stream, store: &mut [u8], bytes: &[u8]) -> Fed
 }
 
 pub enum Answer {
-    Accepted {
-        colours: u16,
-        lists: u16,
-    },
-    Refused {
-        number: u32,
-        place: usize,
-        record: u16,
-        field: u16,
-    },
+    // how many colours and lists
+    Accepted(u16, u16),
+    // number and place, and for 7 the record and field
+    Refused(u32, usize, u16, u16),
 }
 
 pub struct Finished {
@@ -719,23 +466,13 @@ fn cut_of(stage: Stage, store: &[u8], bytes: &[u8], from: usize) -> Answer
     ensures { λ r. ⌜ told r ≡ cut from (item (now (store .entry)) stage (now (bytes .entry)) 0) ⌝ }
 {
     match item_of(stage, store, bytes) {
-        Item::Refused {
+        Item::Refused(number, place, record, field) => Answer::Refused(
             number,
-            place,
+            from + place,
             record,
             field,
-        } => Answer::Refused {
-            number: number,
-            place: from + place,
-            record: record,
-            field: field,
-        },
-        Item::Is(_, _) => Answer::Refused {
-            number: 5,
-            place: 0,
-            record: 0,
-            field: 0,
-        },
+        ),
+        Item::Is(_, _) => Answer::Refused(5, 0, 0, 0),
     }
 }
 
@@ -744,45 +481,18 @@ fn ending_of(stage: Stage, store: &[u8], bytes: &[u8], from: usize) -> Answer
     ensures { λ r. ⌜ told r ≡ ending stage from (now (bytes .entry)) (now (store .entry)) ⌝ }
 {
     match stage {
-        Stage::Second { count } => {
+        Stage::Second(count) => {
             if bytes.len() == 0 {
-                return Answer::Accepted {
-                    colours: count,
-                    lists: 1,
-                };
+                return Answer::Accepted(count, 1);
             }
             cut_of(stage, store, bytes, from)
         }
-        Stage::Unit {
-            count: _,
-            index: _,
-            place,
-            left: _,
-            zero: _,
-        } => Answer::Refused {
-            number: 2,
-            place: (place as usize) + 4,
-            record: 0,
-            field: 0,
-        },
-        Stage::End { count } => Answer::Accepted {
-            colours: count,
-            lists: 2,
-        },
-        Stage::Fault {
-            number,
-            place,
-            record,
-            field,
-        } => Answer::Refused {
-            number: number,
-            place: place,
-            record: record,
-            field: field,
-        },
+        Stage::Unit(_, _, place, _, _) => Answer::Refused(2, (place as usize) + 4, 0, 0),
+        Stage::End(count) => Answer::Accepted(count, 2),
+        Stage::Fault(number, place, record, field) => Answer::Refused(number, place, record, field),
         Stage::First => cut_of(stage, store, bytes, from),
-        Stage::Colour { count: _, index: _ } => cut_of(stage, store, bytes, from),
-        Stage::Entry { count: _, index: _ } => cut_of(stage, store, bytes, from),
+        Stage::Colour(_, _) => cut_of(stage, store, bytes, from),
+        Stage::Entry(_, _) => cut_of(stage, store, bytes, from),
     }
 }
 
@@ -795,35 +505,20 @@ fn finish_in(state: Stream, store: &[u8]) -> Finished
     let carry = state.carry;
     if state.ended {
         return Finished {
-            state: state,
-            answer: Answer::Refused {
-                number: 5,
-                place: 0,
-                record: 0,
-                field: 0,
-            },
+            state,
+            answer: Answer::Refused(5, 0, 0, 0),
         };
     }
     if size_of(stage) <= got {
         return Finished {
-            state: state,
-            answer: Answer::Refused {
-                number: 5,
-                place: 0,
-                record: 0,
-                field: 0,
-            },
+            state,
+            answer: Answer::Refused(5, 0, 0, 0),
         };
     }
     if store.len() < STORE {
         return Finished {
-            state: state,
-            answer: Answer::Refused {
-                number: 11,
-                place: 0,
-                record: 0,
-                field: 0,
-            },
+            state,
+            answer: Answer::Refused(11, 0, 0, 0),
         };
     }
     let mut last = state;
@@ -831,12 +526,7 @@ fn finish_in(state: Stream, store: &[u8]) -> Finished
     if LIMIT < total {
         return Finished {
             state: last,
-            answer: Answer::Refused {
-                number: 1,
-                place: 0,
-                record: 0,
-                field: 0,
-            },
+            answer: Answer::Refused(1, 0, 0, 0),
         };
     }
     let from = item_start(total, got);

@@ -14,6 +14,8 @@ use borrow.Author.Tests.{leb-true}
 use Rattle.algebra.specs.Numbers.{nums}
 use Rattle.algebra.specs.Text.{anyZero}
 use Rattle.aco_stream.proofs.Feeds.{G, Rest, turn-fault, turn-item, turn-push, turn-full, turn-units, carried, size-some, size-most, settled, length-kept, length-take-most, rest-over}
+use Rattle.aco_stream.specs.declared.Stream.{Stream}
+use Rattle.aco_stream.specs.Answer.{progress}
 use Rattle.aco_stream.proofs.run.Statement.{statement}
 use Rattle.aco_stream.proofs.run.Tie as tie
 use Rattle.aco_stream.proofs.run.Reads as reads
@@ -263,8 +265,11 @@ loop-again-5 c =
     )
 
 -- src/lib.rt:638:16
-add-t39 : tie.Need-add-t39 Inv-loop μ-loop
-add-t39 c = search needs
+add-opened : tie.Need-add-opened Inv-loop μ-loop
+add-opened c = search needs
+
+opened-requires : tie.Need-opened-requires Inv-loop μ-loop
+opened-requires c κs = search needs
 
 -- src/lib.rt:598:1
 same-length : tie.Need-same-length Inv-loop μ-loop
@@ -273,10 +278,16 @@ same-length c = search needs
 -- src/lib.rt:598:1
 returns : tie.Need-returns Inv-loop μ-loop
 returns c =
-    let l = c .before .loop in
-    let a = c .before .before .before .before .before .args in
+    let l = c .before .before .loop in
+    let a = c .before .before .before .before .before .before .args in
     let i = l .inv in
-    (sym (i .6 ∙ rest-over _ _ _ _ _ _ (omega (arith, i .0, i .1, c .loop-test .left))), i .3, refl, i .4)
+    let e = c .opened .ensures in
+    let o : Stream = c .opened .result in (
+      ap (λ (x : Stream). progress x (l .store)) e ∙ sym (i .6 ∙ rest-over _ _ _ _ _ _ (omega (arith, i .0, i .1, c .before .loop-test .left))),
+      subst (λ (x : Stream). x .got < size (x .stage)) (sym e) (i .3),
+      ap (λ (x : Stream). x .ended) e,
+      i .4,
+    )
 
 pub run-spec : {M : Type 1} → statement M
 run-spec =
@@ -318,6 +329,7 @@ run-spec =
     loop-again-4
     loop-less-5
     loop-again-5
-    add-t39
+    add-opened
+    opened-requires
     same-length
     returns)
