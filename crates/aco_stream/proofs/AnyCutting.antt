@@ -12,11 +12,11 @@ use Rattle.algebra.specs.Store.{part}
 use Rattle.aco.specs.Reading.{aco}
 use Rattle.aco_judge.specs.Answer.{Verdict, verdict}
 use Rattle.aco_stream.specs.declared.Stream.{Stream}
-use Rattle.aco_stream.specs.Chunks.{Progress, chunk, chunks, begin, answer, join, soundColours, held}
+use Rattle.aco_chunks.specs.Chunks.{Progress, chunk, chunks, begin, answer, join, soundColours, held}
 use Rattle.aco_stream.specs.Answer.{progress, usable, roomy, room, Starts, StartsBy, Feeds, FeedsBy, Finishes, FinishesBy}
 use Rattle.aco_stream.proofs.Calls.{is-roomy}
-use Rattle.aco_stream.proofs.Cutting.{any-cutting}
-use Rattle.aco_stream.proofs.Small.{few-sound}
+use Rattle.aco_chunks.proofs.Cutting.{any-cutting}
+use Rattle.aco_chunks.proofs.Small.{few-sound}
 
 -- chunks fed one after the other, each with the stream and the store that the one before gave back; ns are the numbers that they are answered
 abbrev pub Runs : Stream → List ℕ → List (List ℕ) → List ℕ → Stream → List ℕ → Type 0

@@ -11,7 +11,7 @@ use native.Mathlib.Omega.{arith}
 use Rattle.algebra.specs.Reader.{pick}
 use Rattle.aco_judge.specs.Answer.{Verdict, refused}
 use Rattle.aco_stream.specs.declared.Stream.{Stream}
-use Rattle.aco_stream.specs.Chunks.{size, begin, chunk, answer}
+use Rattle.aco_chunks.specs.Chunks.{size, begin, chunk, answer}
 use Rattle.aco_stream.specs.Answer.{progress, usable, roomy, room, ended, Starts, StartsBy, Feeds, FeedsBy, Finishes, FinishesBy}
 use Rattle.aco_stream.specs.Parts.{FeedsIn, FeedsInBy, FinishesIn, FinishesInBy}
 

@@ -17,12 +17,12 @@ use Rattle.algebra.specs.Store.{part}
 use Rattle.algebra.specs.Text.{anyZero}
 use Rattle.algebra.proofs.Laws.{field-in}
 use Rattle.algebra.proofs.Places.{length-part, num-part}
-use Rattle.aco_stream.specs.declared.Stage.{Stage}
-use Rattle.aco_stream.specs.declared.Stage.the-variants as v
-use Rattle.aco_stream.specs.Chunks.{size, item, after, kept, Progress, isFault, whole, carriedOn, unlessFault, limited, byte, chunk, unitDone, ending, answer}
+use Rattle.aco_chunks.specs.declared.Stage.{Stage}
+use Rattle.aco_chunks.specs.declared.Stage.the-variants as v
+use Rattle.aco_chunks.specs.Chunks.{size, item, after, kept, Progress, isFault, whole, carriedOn, unlessFault, limited, byte, chunk, unitDone, ending, answer}
 use Rattle.aco_stream.specs.Parts.{unitsPassed, Sparing}
 use Rattle.aco_judge.specs.Answer.{refused}
-use Rattle.aco_stream.proofs.Cutting.{chunk-append}
+use Rattle.aco_chunks.proofs.Cutting.{chunk-append}
 
 abbrev pub G : Stage → ℕ → List ℕ → List ℕ → Progress
 G g total carry store = record { stage = g; total = total; carry = carry; store = store }

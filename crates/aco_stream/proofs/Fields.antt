@@ -15,7 +15,7 @@ use Rattle.colour.specs.declared.space.Colour.{Colour}
 use Rattle.aco.specs.Reading.{most, colour, heading, fieldOf, twin}
 use Rattle.aco.specs.Raw.{headed}
 use Rattle.aco_judge.proofs.Judging.{heading-refused, heading-is}
-use Rattle.aco_stream.specs.Chunks.{loaded, entryHead, colourItem}
+use Rattle.aco_chunks.specs.Chunks.{loaded, entryHead, colourItem}
 use Rattle.aco.specs.Reading.{firstCount, secondCount}
 
 -- ---- a row of fields, and what follows it whatever they are

@@ -1,10 +1,5 @@
-pub mod Turns
-pub mod Held
-pub mod Items
-pub mod Cutting
 pub mod Fields
 pub mod Steps
-pub mod Small
 pub mod Feeds
 pub mod Calls
 pub mod AnyCutting

@@ -12,9 +12,9 @@ use Rattle.algebra.specs.Reader.{Res, ok, refuse, then, pick, rule, unless, don
 use Rattle.algebra.specs.Text.{text, anyZero}
 use Rattle.algebra.proofs.Laws.{body-in}
 use Rattle.algebra.proofs.Inverse.{clash}
-use Rattle.aco_stream.specs.declared.Stage.{Stage}
-use Rattle.aco_stream.specs.declared.Stage.the-variants as v
-use Rattle.aco_stream.specs.Chunks.{colours, entries, unitDone, next, kept, after, second, cut, item, ending}
+use Rattle.aco_chunks.specs.declared.Stage.{Stage}
+use Rattle.aco_chunks.specs.declared.Stage.the-variants as v
+use Rattle.aco_chunks.specs.Chunks.{colours, entries, unitDone, next, kept, after, second, cut, item, ending}
 use Rattle.aco_stream.specs.Parts.{unitsPassed}
 use Rattle.aco_judge.specs.Answer.{Verdict, accepted}
 

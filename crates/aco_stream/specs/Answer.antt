@@ -6,7 +6,7 @@ use lib.Dec.{leb, ltb}
 use mathlib.Core.List.{List}
 use lib.ListN.{take, drop, length}
 use Rattle.aco_stream.specs.declared.Stream.{Stream}
-use Rattle.aco_stream.specs.Chunks.{Progress, size, chunk, begin, answer}
+use Rattle.aco_chunks.specs.Chunks.{Progress, size, chunk, begin, answer}
 use Rattle.algebra.specs.Reader.{Res, ok, refuse, pick}
 use Rattle.aco_judge.specs.Answer.{Verdict, accepted, refused}
 use Rattle.aco_stream.specs.declared.Answer.{Answer}

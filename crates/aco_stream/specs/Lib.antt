@@ -1,3 +1,2 @@
-pub mod Chunks
 pub mod Answer
 pub mod Parts

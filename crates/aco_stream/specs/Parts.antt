@@ -6,10 +6,10 @@ use mathlib.Core.Bool.{Bool, true, false}
 use lib.ListN.{length}
 use Rattle.algebra.specs.Reader.{pick}
 use Rattle.aco_judge.specs.Answer.{Verdict, refused}
-use Rattle.aco_stream.specs.declared.Stage.{Stage}
-use Rattle.aco_stream.specs.declared.Stage.the-variants as v
+use Rattle.aco_chunks.specs.declared.Stage.{Stage}
+use Rattle.aco_chunks.specs.declared.Stage.the-variants as v
 use Rattle.aco_stream.specs.declared.Stream.{Stream}
-use Rattle.aco_stream.specs.Chunks.{chunk, answer}
+use Rattle.aco_chunks.specs.Chunks.{chunk, answer}
 use Rattle.aco_stream.specs.Answer.{progress, usable, roomy, ended}
 
 -- ---- several units at once: all but a name's last

@@ -8,7 +8,7 @@ ghost use mathlib.Core.Path.{_≡_};
 ghost use Prim.Native.Nat.{_+_, _-_, _*_, _≤_, _<_};
 ghost use lib.ListN.{length};
 ghost use Rattle.algebra.specs.Reader.{limit, ok};
-ghost use Rattle.aco_stream.specs.Chunks.{size, item, next, after, kept, entryHead, loaded, colours, entries, unitDone, isFault, chunk, cut, ending};
+ghost use Rattle.aco_chunks.specs.Chunks.{size, item, next, after, kept, entryHead, loaded, colours, entries, unitDone, isFault, chunk, cut, ending};
 ghost use Rattle.aco_stream.specs.Answer.{progress, told, Starts, Feeds, Finishes};
 ghost use Rattle.aco_stream.specs.Parts.{Sparing, unitsPassed, openStream, FeedsIn, FinishesIn};
 ghost use Rattle.algebra.specs.Numbers.{nums};
@@ -18,6 +18,7 @@ ghost use lib.Dec.{eqb};
 ghost use Rattle.aco_stream.specs.Answer.{toldItem};
 use aco::LIMIT;
 use aco::MOST;
+use aco_chunks::Stage;
 use aco_judge::Heading;
 use fields::Number16;
 use fields::Number32;
@@ -25,25 +26,6 @@ use fields::Step;
 
 // The bytes of a store.
 pub const STORE: usize = 40960;
-
-// Which item comes next, and what is known of those before it.
-pub enum Stage {
-    // list 1's version and count
-    First,
-    // a colour of list 1: how many there are, and its number
-    Colour(u16, u16),
-    // the file's end, or list 2's version and count: how many colours list 1 has
-    Second(u16),
-    // a record of list 2, its colour and its name's count of units: how many there are, and its number
-    Entry(u16, u16),
-    // a unit of a record's name: how many records there are, the record's number, the place of the
-    // name's count, how many units are still to come, and whether one before them was zero
-    Unit(u16, u16, u32, u32, bool),
-    // the file's end: how many colours there are
-    End(u16),
-    // the first fault: its number and place, and for 7 the record and field
-    Fault(u32, usize, u16, u16),
-}
 
 // What is kept between two chunks.
 pub struct Stream {

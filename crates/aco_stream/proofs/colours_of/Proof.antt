@@ -5,7 +5,7 @@ use borrow.Author.Needs.{needs}
 use borrow.Author.Tests.{lt-ltb, le-ltb}
 use native.Mathlib.Omega.{arith}
 use Rattle.algebra.specs.Reader.{pick}
-use Rattle.aco_stream.specs.declared.Stage.the-variants as v
+use Rattle.aco_chunks.specs.declared.Stage.the-variants as v
 use Rattle.aco_stream.proofs.colours_of.Statement.{statement}
 use Rattle.aco_stream.proofs.colours_of.Tie as tie
 use Rattle.aco_stream.proofs.colours_of.Reads as reads

@@ -4,9 +4,9 @@ use mathlib.Core.Path.{_≡_, refl, sym, ap, _∙_, subst}
 use mathlib.Core.Bool.{Bool, true, false}
 use native.Mathlib.Omega.{arith}
 use Rattle.algebra.specs.Reader.{Res, pick, ok, refuse}
-use Rattle.aco_stream.specs.declared.Stage.{Stage}
-use Rattle.aco_stream.specs.declared.Stage.the-variants as v
-use Rattle.aco_stream.specs.Chunks.{cut, item, ending}
+use Rattle.aco_chunks.specs.declared.Stage.{Stage}
+use Rattle.aco_chunks.specs.declared.Stage.the-variants as v
+use Rattle.aco_chunks.specs.Chunks.{cut, item, ending}
 use Rattle.aco_stream.proofs.Steps.{ending-none, ending-some}
 use Rattle.aco_stream.proofs.ending_of.Statement.{statement}
 use Rattle.aco_stream.proofs.ending_of.Tie as tie

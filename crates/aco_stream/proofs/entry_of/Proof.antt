@@ -3,7 +3,7 @@ use mathlib.Core.Path.{_≡_, refl, sym, ap, _∙_}
 use native.Mathlib.Omega.{arith}
 use borrow.Author.Needs.{needs}
 use Rattle.fields.specs.Answer.{told16, told32}
-use Rattle.aco_stream.specs.Chunks.{loaded, entryHead}
+use Rattle.aco_chunks.specs.Chunks.{loaded, entryHead}
 use Rattle.aco_stream.proofs.Fields.{titleLeft, entryHead-is, loaded-field, field-cut, field-differs, field-same, count-cut, count-none, count-some, loaded-is}
 use Rattle.aco_stream.proofs.entry_of.Statement.{statement}
 use Rattle.aco_stream.proofs.entry_of.Tie as tie

@@ -7,7 +7,7 @@ use lib.ListN.{length, take}
 use lib.Seq.{length-take-le}
 use Rattle.algebra.specs.Reader.{pick, limit}
 use Rattle.aco_judge.specs.Answer.{refused}
-use Rattle.aco_stream.specs.Chunks.{size}
+use Rattle.aco_chunks.specs.Chunks.{size}
 use Rattle.aco_stream.specs.Answer.{progress}
 use Rattle.aco_stream.proofs.Feeds.{answer-long, answer-within, size-most}
 use Rattle.aco_stream.proofs.Calls.{not-ended, not-short, is-usable, is-roomy, not-roomy, finishes-5, finishes-11, finishes-0}

@@ -4,11 +4,11 @@ use mathlib.Core.Path.{_≡_, refl, sym, ap, _∙_, subst}
 use mathlib.Core.Bool.{Bool, true, false}
 use native.Mathlib.Omega.{arith}
 use Rattle.algebra.specs.Reader.{pick, ok, refuse}
-use Rattle.aco_stream.specs.declared.Stage.{Stage}
-use Rattle.aco_stream.specs.declared.Stage.the-variants as v
+use Rattle.aco_chunks.specs.declared.Stage.{Stage}
+use Rattle.aco_chunks.specs.declared.Stage.the-variants as v
 use Rattle.fields.specs.Answer.{toldStep, told16}
 use Rattle.aco_judge.specs.Answer.{toldHeading}
-use Rattle.aco_stream.specs.Chunks.{item}
+use Rattle.aco_chunks.specs.Chunks.{item}
 use Rattle.aco_stream.proofs.Fields.{first-many, first-off, first-is, second-other, second-off, second-is, colourItem-is, colourItem-off}
 use Rattle.aco_stream.proofs.item_of.Statement.{statement}
 use Rattle.aco_stream.proofs.item_of.Tie as tie

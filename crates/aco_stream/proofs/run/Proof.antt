@@ -7,8 +7,8 @@ use lib.ListN.{length, take, drop, set, getD, length-set}
 use lib.Seq.{length-take-le}
 use native.Mathlib.Nat.{add-zero}
 use Rattle.algebra.specs.Reader.{limit}
-use Rattle.aco_stream.specs.declared.Stage.{Stage}
-use Rattle.aco_stream.specs.Chunks.{size, chunk, after, kept, item}
+use Rattle.aco_chunks.specs.declared.Stage.{Stage}
+use Rattle.aco_chunks.specs.Chunks.{size, chunk, after, kept, item}
 use Rattle.aco_stream.specs.Parts.{unitsPassed}
 use borrow.Author.Tests.{leb-true}
 use Rattle.algebra.specs.Numbers.{nums}

@@ -4,11 +4,11 @@ use mathlib.Core.Path.{_≡_, refl, sym, ap, _∙_, subst}
 use mathlib.Core.Bool.{Bool, true, false}
 use native.Mathlib.Omega.{arith}
 use Rattle.algebra.specs.Reader.{Res, pick, ok, refuse}
-use Rattle.aco_stream.specs.declared.Stage.{Stage}
-use Rattle.aco_stream.specs.declared.Stage.the-variants as v
+use Rattle.aco_chunks.specs.declared.Stage.{Stage}
+use Rattle.aco_chunks.specs.declared.Stage.the-variants as v
 use Rattle.aco_stream.specs.Answer.{toldItem}
-use Rattle.aco_stream.specs.Chunks.{after, kept}
-use Rattle.aco_stream.proofs.Small.{item-placed, item-few}
+use Rattle.aco_chunks.specs.Chunks.{after, kept}
+use Rattle.aco_chunks.proofs.Small.{item-placed, item-few}
 use Rattle.aco_stream.proofs.Steps.{kept-any, kept-none}
 use Rattle.aco_stream.proofs.settle.Statement.{statement}
 use Rattle.aco_stream.proofs.settle.Tie as tie

@@ -17,9 +17,9 @@ use Rattle.algebra.proofs.Inverse.{then-inv, judged-inv, unless-fine, clash}
 use Rattle.colour.specs.declared.space.Colour.{Colour}
 use Rattle.colour.specs.Spaces.{known, allowed}
 use Rattle.aco.specs.Reading.{most, colour, heading, fieldOf, twin, compared, firstCount, secondCount}
-use Rattle.aco_stream.specs.declared.Stage.{Stage}
-use Rattle.aco_stream.specs.declared.Stage.the-variants as v
-use Rattle.aco_stream.specs.Chunks.{loaded, entryHead, colourItem, item, soundFrom, soundBy, soundIn, soundColours}
+use Rattle.aco_chunks.specs.declared.Stage.{Stage}
+use Rattle.aco_chunks.specs.declared.Stage.the-variants as v
+use Rattle.aco_chunks.specs.Chunks.{loaded, entryHead, colourItem, item, soundFrom, soundBy, soundIn, soundColours}
 
 colourItem-placed : (s : List ℕ) → Placed refusals s (colourItem s 0)
 unfolding colourItem

@@ -10,8 +10,8 @@ use Rattle.algebra.specs.Store.{stored, part}
 use Rattle.colour.specs.declared.space.Colour.{Colour}
 use Rattle.aco.specs.Reading.{colour, heading, firstCount, secondCount, twin, aco}
 use Rattle.aco_judge.specs.Answer.{Verdict, accepted, refused, verdict}
-use Rattle.aco_stream.specs.declared.Stage.{Stage}
-use Rattle.aco_stream.specs.declared.Stage.the-variants as v
+use Rattle.aco_chunks.specs.declared.Stage.{Stage}
+use Rattle.aco_chunks.specs.declared.Stage.the-variants as v
 
 -- the colour whose ten bytes stand in a store from `at`; a field that is not there is 0
 abbrev pub loaded : List ℕ → ℕ → Colour
