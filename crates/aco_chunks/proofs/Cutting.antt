@@ -17,7 +17,8 @@ use Rattle.aco_judge.specs.Answer.{Verdict, refused, verdict}
 use Rattle.aco_judge.proofs.Judging.{aco-long}
 use Rattle.aco_chunks.specs.declared.Stage.{Stage}
 use Rattle.aco_chunks.specs.declared.Stage.the-variants as v
-use Rattle.aco_chunks.specs.Chunks.{size, item, after, kept, Progress, isFault, whole, carriedOn, unlessFault, limited, byte, chunk, chunks, begin, ending, answer, join, soundColours, held, AnyCutting}
+use Rattle.aco_chunks.specs.Chunks.{size, item, after, kept, Progress, isFault, whole, carriedOn, unlessFault, limited, byte, chunk, chunks, begin, ending, answer}
+use Rattle.aco_chunks.specs.Promise.{join, soundColours, held, AnyCutting}
 use Rattle.algebra.proofs.Alone.{Window}
 use Rattle.aco_chunks.proofs.Items.{Left, item-whole, item-cut, item-limit}
 

@@ -15,7 +15,8 @@ use Rattle.colour.specs.declared.space.Colour.{Colour}
 use Rattle.aco.specs.Reading.{black}
 use Rattle.aco.specs.Raw.{rawColours}
 use Rattle.aco.proofs.Raw.{getD-raw}
-use Rattle.aco_chunks.specs.Chunks.{held, loaded}
+use Rattle.aco_chunks.specs.Chunks.{loaded}
+use Rattle.aco_chunks.specs.Promise.{held}
 
 module _ (s st : List ℕ) where
   pub length-held : (k : ℕ) → 4 + 10 * k ≤ length s → 10 * k ≤ length st → length (held k s st) ≡ length st

@@ -20,7 +20,8 @@ use Rattle.aco.specs.Raw.{rawColours}
 use Rattle.aco_judge.specs.Answer.{Verdict, accepted, refused, verdict}
 use Rattle.aco_chunks.specs.declared.Stage.{Stage}
 use Rattle.aco_chunks.specs.declared.Stage.the-variants as v
-use Rattle.aco_chunks.specs.Chunks.{loaded, entryHead, colourItem, excess, size, item, colours, entries, unitDone, next, after, kept, isFault, cut, second, ending, soundFrom, soundIn, soundColours, held}
+use Rattle.aco_chunks.specs.Chunks.{loaded, entryHead, colourItem, excess, size, item, colours, entries, unitDone, next, after, kept, isFault, cut, second, ending}
+use Rattle.aco_chunks.specs.Promise.{soundFrom, soundIn, soundColours, held}
 use Rattle.algebra.specs.Reader.{shift}
 use Rattle.algebra.proofs.Alone.{Window, Alone, judged-alone, give-alone, bind-alone, each-alone, field-alone}
 use Rattle.aco_chunks.proofs.Turns.{raw, coloursLeft, endAt, entriesLeft, sealed, unitsLeft, first-refused, first-turn, colour-turn, colour-stop, soundFrom-turn, soundFrom-stop, colours-over, soundFrom-over, colourItem-ok, colourItem-no, after-end, second-stop, second-turn, entryHead-turn, entryHead-stop, entries-over, end-here, end-more, units-short, units-turn, units-last}

@@ -19,7 +19,8 @@ use Rattle.colour.specs.Spaces.{known, allowed}
 use Rattle.aco.specs.Reading.{most, colour, heading, fieldOf, twin, compared, firstCount, secondCount}
 use Rattle.aco_chunks.specs.declared.Stage.{Stage}
 use Rattle.aco_chunks.specs.declared.Stage.the-variants as v
-use Rattle.aco_chunks.specs.Chunks.{loaded, entryHead, colourItem, item, soundFrom, soundBy, soundIn, soundColours}
+use Rattle.aco_chunks.specs.Chunks.{loaded, entryHead, colourItem, item}
+use Rattle.aco_chunks.specs.Promise.{soundFrom, soundBy, soundIn, soundColours}
 
 colourItem-placed : (s : List ℕ) → Placed refusals s (colourItem s 0)
 unfolding colourItem

@@ -19,7 +19,8 @@ use Rattle.aco.specs.Raw.{rawColours}
 use Rattle.aco.proofs.Raw.{colours-raw, colour-moves, length-raw}
 use Rattle.aco_judge.specs.Answer.{Verdict, accepted, refused, verdict}
 use Rattle.aco_judge.proofs.Judging.{entryOf, second-lists}
-use Rattle.aco_chunks.specs.Chunks.{entryHead, colourItem, soundFrom, soundBy}
+use Rattle.aco_chunks.specs.Chunks.{entryHead, colourItem}
+use Rattle.aco_chunks.specs.Promise.{soundFrom, soundBy}
 
 -- ---- what is left
 

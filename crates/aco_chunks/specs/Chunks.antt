@@ -1,15 +1,15 @@
 -- ACO in chunks: what is kept between two of them, what a byte does to it, and what the end answers.
-use Prim.Native.Nat.{ℕ, zero, suc, _+_, _-_, _*_, _≤_, _<_}
+use Prim.Native.Nat.{ℕ, _+_, _-_, _*_}
 use mathlib.Core.Path.{_≡_}
 use mathlib.Core.List.{List, [], _∷_, _++_}
 use mathlib.Core.Bool.{Bool, true, false}
 use lib.Dec.{leb, ltb, eqb}
-use lib.ListN.{length, take, drop}
+use lib.ListN.{length}
 use Rattle.algebra.specs.Reader.{Res, ok, refuse, Reader, then, pick, field, fine, fault, unless, judged, give, _>>=_, each, orZero, limit}
-use Rattle.algebra.specs.Store.{stored, part}
+use Rattle.algebra.specs.Store.{stored}
 use Rattle.colour.specs.declared.space.Colour.{Colour}
-use Rattle.aco.specs.Reading.{colour, heading, firstCount, secondCount, twin, aco}
-use Rattle.aco_judge.specs.Answer.{Verdict, accepted, refused, verdict}
+use Rattle.aco.specs.Reading.{colour, heading, firstCount, secondCount, twin}
+use Rattle.aco_judge.specs.Answer.{Verdict, accepted, refused}
 use Rattle.aco_chunks.specs.declared.Stage.{Stage}
 use Rattle.aco_chunks.specs.declared.Stage.the-variants as v
 
@@ -35,7 +35,7 @@ colourItem = do
   c ← colour
   give 0
 
--- a byte past the end
+-- a byte after list 2
 abbrev pub excess : Reader ℕ
 excess s at = refuse 6 at 0 0
 
@@ -102,12 +102,16 @@ kept (v.Fault x p r f) m b store = store
 
 -- ---- a byte, a chunk, chunks
 
--- what is kept between two bytes: how many came, the bytes of the item that has item_start, the store
+-- what is kept between two bytes: how many came, the bytes of the item that has begun, the store
 pub record Progress : Type 0 where
   pub stage : Stage
   pub total : ℕ
   pub carry : List ℕ
   pub store : List ℕ
+
+-- before the first byte
+abbrev pub begin : List ℕ → Progress
+begin store = record { stage = v.First; total = 0; carry = []; store = store }
 
 -- a fault has been found
 abbrev pub isFault : Stage → Bool
@@ -154,9 +158,6 @@ unfoldable pub chunks : Progress → List (List ℕ) → Progress
 chunks g [] = g
 chunks g (c ∷ cs) = chunks (chunk g c) cs
 
-abbrev pub begin : List ℕ → Progress
-begin store = record { stage = v.First; total = 0; carry = []; store = store }
-
 -- ---- the end
 
 -- an item that is cut short is refused as the whole-file reader refuses it; one that is whole stands only in an altered state
@@ -179,36 +180,3 @@ ending (v.Fault x p r f) from b store = refused x p r f
 
 unfoldable pub answer : Progress → Verdict
 answer g = pick (ltb limit (g .total)) (refused 1 0 0 0) (ending (g .stage) (g .total - length (g .carry)) (g .carry) (g .store))
-
--- ---- what is promised, said of the whole file
-
-unfoldable pub join : List (List ℕ) → List ℕ
-join [] = []
-join (c ∷ cs) = c ++ join cs
-
-abbrev pub soundBy : Res ℕ → ℕ → ℕ
-soundBy (ok u q) k = k + 1
-soundBy (refuse x p r f) k = 0
-
--- how many of n colours from `at` stand whole and without a fault before the first that does not
-unfoldable pub soundFrom : ℕ → List ℕ → ℕ → ℕ
-soundFrom zero s at = 0
-soundFrom (suc n) s at = soundBy (colourItem s at) (soundFrom n s (at + 10))
-
-abbrev pub soundIn : Res ℕ → List ℕ → ℕ
-soundIn (ok n q) s = soundFrom n s q
-soundIn (refuse x p r f) s = 0
-
--- the colours of list 1 that stand whole before the first fault
-unfoldable pub soundColours : List ℕ → ℕ
-soundColours s = soundIn (heading 1 firstCount s 0) s
-
--- k colours of the file s in a store, and past them what it held
-abbrev pub held : ℕ → List ℕ → List ℕ → List ℕ
-held k s store = part s 4 (10 * k) ++ drop (10 * k) store
-
--- however the file is cut: the answer is the whole-file reader's, and the store holds the colours that soundColours
-abbrev pub AnyCutting : Type 0
-AnyCutting =
-    (cs : List (List ℕ)) (store : List ℕ) → 40960 ≤ length store →
-    (answer (chunks (begin store) cs) ≡ verdict (aco (join cs))) × (chunks (begin store) cs .store ≡ held (soundColours (join cs)) (join cs) store)

@@ -12,7 +12,8 @@ use Rattle.algebra.specs.Store.{part}
 use Rattle.aco.specs.Reading.{aco}
 use Rattle.aco_judge.specs.Answer.{Verdict, verdict}
 use Rattle.aco_stream.specs.declared.Stream.{Stream}
-use Rattle.aco_chunks.specs.Chunks.{Progress, chunk, chunks, begin, answer, join, soundColours, held}
+use Rattle.aco_chunks.specs.Chunks.{Progress, chunk, chunks, begin, answer}
+use Rattle.aco_chunks.specs.Promise.{join, soundColours, held}
 use Rattle.aco_stream.specs.Answer.{progress, usable, roomy, room, Starts, StartsBy, Feeds, FeedsBy, Finishes, FinishesBy}
 use Rattle.aco_stream.proofs.Calls.{is-roomy}
 use Rattle.aco_chunks.proofs.Cutting.{any-cutting}
