@@ -15,14 +15,14 @@ use Rattle.aco.specs.Reading.{most, space, sample, samples, colour, head
 use Rattle.aco.specs.Refusals.{refusals}
 
 module _ {s : List ℕ} where
-  colour-placed : (at : ℕ) → at ≤ length s → Placed refusals s (colour s at)
+  pub colour-placed : (at : ℕ) → at ≤ length s → Placed refusals s (colour s at)
   unfolding colour samples
   colour-placed at l =
       placed-then (judged 2 space s at) _ (judged-placed (among refl) 2 space at (λ x. unless-numbered (known x) (among refl)) l)
       (λ x q h. placed-then (each 4 0 (λ k. judged 2 (sample x k)) s q) _
       (each-placed (λ k. judged 2 (sample x k)) (λ k r g. judged-placed (among refl) 2 (sample x k) r (λ v. unless-numbered (allowed x k v) (among refl)) g) 4 0 q h) (λ vs e g. ends g))
 
-  heading-placed : (v : ℕ) (count : ℕ → Judged) → ((n : ℕ) → Numbered refusals (count n)) → (at : ℕ) → at ≤ length s → Placed refusals s (heading v count s at)
+  pub heading-placed : (v : ℕ) (count : ℕ → Judged) → ((n : ℕ) → Numbered refusals (count n)) → (at : ℕ) → at ≤ length s → Placed refusals s (heading v count s at)
   unfolding heading
   heading-placed v count t at l =
       let j : ℕ → Judged = version v in

@@ -33,7 +33,7 @@ pub enum Answer {
 }
 
 // A list's count and the next place, or a refusal.
-enum Heading {
+pub enum Heading {
     Is(u16, usize),
     Refused(u32, usize),
 }
@@ -80,10 +80,13 @@ fn fields_at(file: &[u8], at: usize) -> Step
 // Whether a colour stands at `at` that is whole and has no fault. A part of known length is loaded
 // from without tests.
 fn is_sound(file: &[u8], at: usize) -> bool
-    requires { ⌜ at ≤ length (now file) ⌝ }
     ensures { λ r. ⌜ (r ≡ true → SoundAt (now (file .entry)) at) ⌝ }
 {
-    if file.len() - at < 10 {
+    let n = file.len();
+    if n < 10 {
+        return false;
+    }
+    if n - 10 < at {
         return false;
     }
     let end = at + 10;
@@ -97,8 +100,7 @@ fn is_sound(file: &[u8], at: usize) -> bool
 }
 
 // The colour at `at`. Nearly all are sound, and only another is looked into.
-fn colour_at(file: &[u8], at: usize) -> Step
-    requires { ⌜ at ≤ length (now file) ⌝ }
+pub fn colour_at(file: &[u8], at: usize) -> Step
     ensures { λ r. ⌜ toldStep r ≡ done (colour (now (file .entry)) at) ⌝ }
 {
     if is_sound(file, at) {
@@ -190,7 +192,7 @@ fn entries_at(file: &[u8], at: usize, n: u16) -> Walk
 }
 
 // A list's version, which must be this one, and its count, which is not judged here.
-fn heading_at(file: &[u8], at: usize, version: u16) -> Heading
+pub fn heading_at(file: &[u8], at: usize, version: u16) -> Heading
     ensures { λ r. ⌜ toldHeading r ≡ headed version (now (file .entry)) at ⌝ }
 {
     match fields::u16_is(file, at, version, 3) {

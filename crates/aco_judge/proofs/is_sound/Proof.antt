@@ -10,11 +10,11 @@ use borrow.Author.Needs.{needs}
 use Rattle.aco_judge.proofs.is_sound.Statement.{statement}
 use Rattle.aco_judge.proofs.is_sound.Tie as tie
 
-sub-if1 : tie.Need-sub-if1
-sub-if1 c = search needs
-
 returns : tie.Need-returns
 returns c = λ e. absurd (true≢false (sym e))
+
+returns-2 : tie.Need-returns-2
+returns-2 c = λ e. absurd (true≢false (sym e))
 
 add-end : tie.Need-add-end
 add-end c = search needs
@@ -46,10 +46,10 @@ u16-or-zero-requires-5 c κs = search needs
 is-sound-requires : tie.Need-is-sound-requires
 is-sound-requires c κs = search needs
 
-returns-2 : tie.Need-returns-2
-returns-2 c =
+returns-3 : tie.Need-returns-3
+returns-3 c =
     let u = c .before .before .before .before .before in
-    let a = u .before .before .before .before .args in
+    let a = u .before .before .before .before .before .args in
     let s = a .file .now in
     let k = a .at + 10 - a .at in
     λ e. (
@@ -67,8 +67,8 @@ pub is-sound-spec : {M : Type 1} → statement M
 is-sound-spec =
     tie.close
     (tie.spec
-    sub-if1
     returns
+    returns-2
     add-end
     sub-part
     part-part-start
@@ -79,4 +79,4 @@ is-sound-spec =
     u16-or-zero-requires-4
     u16-or-zero-requires-5
     is-sound-requires
-    returns-2)
+    returns-3)

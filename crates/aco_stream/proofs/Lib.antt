@@ -1,0 +1,5 @@
+pub mod Fields
+pub mod Steps
+pub mod Feeds
+pub mod Calls
+pub mod AnyCutting

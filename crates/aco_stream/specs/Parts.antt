@@ -1,0 +1,57 @@
+-- What the functions inside promise each other; no rule of the format.
+use Prim.Native.Nat.{ℕ, _-_, _≤_}
+use mathlib.Core.Path.{_≡_}
+use mathlib.Core.List.{List}
+use mathlib.Core.Bool.{Bool, true, false}
+use lib.ListN.{length}
+use Rattle.algebra.specs.Reader.{pick}
+use Rattle.aco_judge.specs.Answer.{Verdict, refused}
+use Rattle.aco_chunks.specs.declared.Stage.{Stage}
+use Rattle.aco_chunks.specs.declared.Stage.the-variants as v
+use Rattle.aco_stream.specs.declared.Stream.{Stream}
+use Rattle.aco_chunks.specs.Chunks.{chunk, answer}
+use Rattle.aco_stream.specs.Answer.{progress, usable, roomy, ended}
+
+-- ---- several units at once: all but a name's last
+
+abbrev pub Sparing : Stage → ℕ → Type 0
+Sparing v.First k = k ≡ 0
+Sparing (v.Colour n i) k = k ≡ 0
+Sparing (v.Second n) k = k ≡ 0
+Sparing (v.Entry n i) k = k ≡ 0
+Sparing (v.Unit n i at m z) k = k ≤ m - 1
+Sparing (v.End n) k = k ≡ 0
+Sparing (v.Fault x p r f) k = k ≡ 0
+
+-- k units are passed, one of them zero or none
+abbrev pub unitsPassed : Stage → ℕ → Bool → Stage
+unitsPassed v.First k z = v.First
+unitsPassed (v.Colour n i) k z = v.Colour n i
+unitsPassed (v.Second n) k z = v.Second n
+unitsPassed (v.Entry n i) k z = v.Entry n i
+unitsPassed (v.Unit n i at m y) k z = v.Unit n i at (m - k) (pick z true y)
+unitsPassed (v.End n) k z = v.End n
+unitsPassed (v.Fault x p r f) k z = v.Fault x p r f
+
+-- ---- a stream that has not ended
+
+abbrev pub openStream : Stage → ℕ → ℕ → List ℕ → Stream
+openStream g total got carry = record { stage = g; total = total; got = got; carry = carry; ended = false }
+
+-- ---- a chunk and the end, over a store of any length that is looked at whole
+
+abbrev pub FeedsInBy : Bool → Bool → Stream → List ℕ → List ℕ → Stream → ℕ → List ℕ → Type 0
+FeedsInBy true true s store bytes t number after = (number ≡ 0) × (usable t ≡ true) × (progress t after ≡ chunk (progress s store) bytes) × (length after ≡ length store)
+FeedsInBy true false s store bytes t number after = (number ≡ 11) × (t ≡ s) × (after ≡ store)
+FeedsInBy false large s store bytes t number after = (number ≡ 5) × (t ≡ s) × (after ≡ store)
+
+abbrev pub FeedsIn : Stream → List ℕ → List ℕ → Stream → ℕ → List ℕ → Type 0
+FeedsIn s store bytes t number after = FeedsInBy (usable s) (roomy store) s store bytes t number after
+
+abbrev pub FinishesInBy : Bool → Bool → Stream → List ℕ → Stream → Verdict → Type 0
+FinishesInBy true true s store t w = (w ≡ answer (progress s store)) × (t ≡ ended s)
+FinishesInBy true false s store t w = (w ≡ refused 11 0 0 0) × (t ≡ s)
+FinishesInBy false large s store t w = (w ≡ refused 5 0 0 0) × (t ≡ s)
+
+abbrev pub FinishesIn : Stream → List ℕ → Stream → Verdict → Type 0
+FinishesIn s store t w = FinishesInBy (usable s) (roomy store) s store t w

@@ -1,0 +1,539 @@
+// ACO swatches that arrive in chunks, cut anywhere.
+//
+// What is kept between two chunks is a Stream, handed in and back by value, and a lent store of
+// STORE bytes for the colours of list 1. A file is a row of items: list 1's heading, its colours,
+// list 2's heading, its records, each up to its name's units, and the units. Bytes of an item that
+// is not whole yet are carried. An item is read from its bytes alone, by the whole-file reader.
+ghost use mathlib.Core.Path.{_≡_};
+ghost use Prim.Native.Nat.{_+_, _-_, _*_, _≤_, _<_};
+ghost use lib.ListN.{length};
+ghost use Rattle.algebra.specs.Reader.{limit, ok};
+ghost use Rattle.aco_chunks.specs.Chunks.{size, item, next, after, kept, entryHead, loaded, colours, entries, unitDone, isFault, chunk, cut, ending};
+ghost use Rattle.aco_stream.specs.Answer.{progress, told, Starts, Feeds, Finishes};
+ghost use Rattle.aco_stream.specs.Parts.{Sparing, unitsPassed, openStream, FeedsIn, FinishesIn};
+ghost use Rattle.algebra.specs.Numbers.{nums};
+ghost use Rattle.algebra.specs.Text.{anyZero};
+ghost use mathlib.Core.Bool.{false};
+ghost use lib.Dec.{eqb};
+ghost use Rattle.aco_stream.specs.Answer.{toldItem};
+use aco::LIMIT;
+use aco::MOST;
+use aco_chunks::Stage;
+use aco_judge::Heading;
+use fields::Number16;
+use fields::Number32;
+use fields::Step;
+
+// The bytes of a store.
+pub const STORE: usize = 40960;
+
+// What is kept between two chunks.
+pub struct Stream {
+    stage: Stage,
+    total: usize,
+    got: usize,
+    carry: [u8; 14],
+    ended: bool,
+}
+
+// What an item is found to be: a number and the next place, or a refusal.
+enum Item {
+    Is(u32, usize),
+    Refused(u32, usize, u16, u16),
+}
+
+// The bytes of a stage's item.
+fn size_of(stage: Stage) -> usize
+    ensures { λ r. ⌜ r ≡ size stage ⌝ }
+{
+    match stage {
+        Stage::First => 4,
+        Stage::Colour(_, _) => 10,
+        Stage::Second(_) => 4,
+        Stage::Entry(_, _) => 14,
+        Stage::Unit(_, _, _, _, _) => 2,
+        Stage::End(_) => 1,
+        Stage::Fault(_, _, _, _) => 1,
+    }
+}
+
+// Record `index` of list 2 up to its count of units, compared with the colour in the store.
+fn entry_of(bytes: &[u8], store: &[u8], index: u16) -> Item
+    ensures { λ r. ⌜ toldItem r ≡ entryHead index (loaded (now (store .entry)) (10 * index)) (now (bytes .entry)) 0 ⌝ }
+{
+    let first = 10 * (index as usize);
+    let mut f: u16 = 0;
+    let mut p: usize = 0;
+    while f < 5 {
+        let Number16::Is(v, next) = fields::u16_at(bytes, p) else {
+            return Item::Refused(2, p, 0, 0);
+        };
+        if v != fields::u16_or_zero(store, first + 2 * (f as usize)) {
+            return Item::Refused(7, p, index, f);
+        }
+        p = next;
+        f += 1;
+    }
+    let Number32::Is(n, next) = fields::u32_at(bytes, p) else {
+        return Item::Refused(2, p, 0, 0);
+    };
+    if n == 0 {
+        return Item::Refused(8, p, 0, 0);
+    }
+    Item::Is(n, next)
+}
+
+// A stage's item, from its bytes alone.
+fn item_of(stage: Stage, store: &[u8], bytes: &[u8]) -> Item
+    ensures { λ r. ⌜ toldItem r ≡ item (now (store .entry)) stage (now (bytes .entry)) 0 ⌝ }
+{
+    match stage {
+        Stage::First => match aco_judge::heading_at(bytes, 0, 1) {
+            Heading::Refused(x, q) => Item::Refused(x, q, 0, 0),
+            Heading::Is(n, next) => {
+                if MOST < n {
+                    return Item::Refused(5, 2, 0, 0);
+                }
+                Item::Is(n as u32, next)
+            }
+        },
+        Stage::Colour(_, _) => match aco_judge::colour_at(bytes, 0) {
+            Step::Next(next) => Item::Is(0, next),
+            Step::Refused(x, q) => Item::Refused(x, q, 0, 0),
+        },
+        Stage::Second(count) => match aco_judge::heading_at(bytes, 0, 2) {
+            Heading::Refused(x, q) => Item::Refused(x, q, 0, 0),
+            Heading::Is(n, next) => {
+                if n != count {
+                    return Item::Refused(7, 2, 0, 5);
+                }
+                Item::Is(n as u32, next)
+            }
+        },
+        Stage::Entry(_, index) => entry_of(bytes, store, index),
+        Stage::Unit(_, _, _, _, _) => match fields::u16_at(bytes, 0) {
+            Number16::Is(u, next) => Item::Is(u as u32, next),
+            Number16::Short => Item::Refused(2, 0, 0, 0),
+        },
+        Stage::End(_) => Item::Refused(6, 0, 0, 0),
+        Stage::Fault(_, _, _, _) => Item::Refused(6, 0, 0, 0),
+    }
+}
+
+// Colour `index` of `count`, or what follows list 1.
+fn colours_of(count: u16, index: u16) -> Stage
+    ensures { λ r. ⌜ r ≡ colours count (index + 1) ⌝ }
+{
+    if index < count {
+        if 1 < count - index {
+            return Stage::Colour(count, index + 1);
+        }
+    }
+    Stage::Second(count)
+}
+
+// The record behind record `index`, or the end.
+fn entries_of(count: u16, index: u16) -> Stage
+    ensures { λ r. ⌜ r ≡ entries count (index + 1) ⌝ }
+{
+    if index < count {
+        if 1 < count - index {
+            return Stage::Entry(count, index + 1);
+        }
+    }
+    Stage::End(count)
+}
+
+// One less, or 0.
+fn less(x: u32) -> u32
+    ensures { λ r. ⌜ r ≡ x - 1 ⌝ }
+{
+    if x == 0 {
+        return 0;
+    }
+    x - 1
+}
+
+// The stage behind a unit u of a name.
+fn unit_of(count: u16, index: u16, place: u32, left: u32, zero: bool, u: u32) -> Stage
+    ensures { λ r. ⌜ r ≡ unitDone count index place left zero (eqb u 0) ⌝ }
+{
+    if left == 1 {
+        if u == 0 {
+            if zero {
+                return Stage::Fault(8, place as usize, 0, 0);
+            }
+            return entries_of(count, index);
+        }
+        return Stage::Fault(8, place as usize, 0, 0);
+    }
+    let rest = less(left);
+    if u == 0 {
+        return Stage::Unit(count, index, place, rest, true);
+    }
+    Stage::Unit(count, index, place, rest, zero)
+}
+
+// The stage behind an item that began at `from` and gave u.
+fn next_of(stage: Stage, from: usize, u: u32) -> Stage
+    requires { ⌜ (from ≤ limit) × (u ≤ 4294967295) × (stage ≡ Stage.First → u ≤ 65535) ⌝ }
+    ensures { λ r. ⌜ r ≡ next stage from u ⌝ }
+{
+    match stage {
+        Stage::First => {
+            let count = u as u16;
+            if 0 < count {
+                return Stage::Colour(count, 0);
+            }
+            Stage::Second(count)
+        }
+        Stage::Colour(count, index) => colours_of(count, index),
+        Stage::Second(count) => {
+            if 0 < count {
+                return Stage::Entry(count, 0);
+            }
+            Stage::End(count)
+        }
+        Stage::Entry(count, index) => Stage::Unit(count, index, (from + 10) as u32, u, false),
+        Stage::Unit(count, index, place, left, zero) => unit_of(count, index, place, left, zero, u),
+        Stage::End(count) => Stage::End(count),
+        Stage::Fault(number, place, record, field) => Stage::Fault(number, place, record, field),
+    }
+}
+
+// A colour of list 1 without a fault goes into the store.
+fn keep(stage: Stage, store: &mut [u8], bytes: &[u8])
+    ensures { λ _. ⌜ now (store .exit) ≡ kept stage (ok 0 0) (now (bytes .entry)) (now (store .entry)) ⌝ }
+{
+    match stage {
+        Stage::Colour(_, index) => {
+            fields::put_run(store, 10 * (index as usize), bytes);
+        }
+        Stage::First => {}
+        Stage::Second(_) => {}
+        Stage::Entry(_, _) => {}
+        Stage::Unit(_, _, _, _, _) => {}
+        Stage::End(_) => {}
+        Stage::Fault(_, _, _, _) => {}
+    }
+}
+
+// A stage's item is whole: the next stage; a colour of list 1 without a fault goes into the store.
+fn settle(stage: Stage, store: &mut [u8], bytes: &[u8], from: usize) -> Stage
+    requires { ⌜ (from ≤ limit) × (length (now bytes) ≤ 14) ⌝ }
+    ensures { λ r. ⌜ (r ≡ after stage from (item (now (store .entry)) stage (now (bytes .entry)) 0)) × (now (store .exit) ≡ kept stage (item (now (store .entry)) stage (now (bytes .entry)) 0) (now (bytes .entry)) (now (store .entry))) ⌝ }
+{
+    match item_of(stage, store, bytes) {
+        Item::Refused(number, place, record, field) => Stage::Fault(
+            number,
+            from + place,
+            record,
+            field,
+        ),
+        Item::Is(u, _) => {
+            keep(stage, store, bytes);
+            next_of(stage, from, u)
+        }
+    }
+}
+
+// How many units of a name can be passed at once, of those that stand whole in n bytes: all but
+// the last.
+fn spare(stage: Stage, n: usize) -> u32
+    ensures { λ r. ⌜ (Sparing stage r) × (r * 2 ≤ n) ⌝ }
+{
+    match stage {
+        Stage::Unit(_, _, _, left, _) => {
+            let rest = less(left);
+            let k = n / 2;
+            if k < (rest as usize) {
+                return k as u32;
+            }
+            rest
+        }
+        Stage::First => 0,
+        Stage::Colour(_, _) => 0,
+        Stage::Second(_) => 0,
+        Stage::Entry(_, _) => 0,
+        Stage::End(_) => 0,
+        Stage::Fault(_, _, _, _) => 0,
+    }
+}
+
+// k units are passed, all of them or with a zero among them.
+fn passed(stage: Stage, k: u32, found: bool) -> Stage
+    requires { ⌜ Sparing stage k ⌝ }
+    ensures { λ r. ⌜ r ≡ unitsPassed stage k found ⌝ }
+{
+    match stage {
+        Stage::Unit(count, index, place, left, zero) => {
+            if found {
+                return Stage::Unit(count, index, place, left - k, true);
+            }
+            Stage::Unit(count, index, place, left - k, zero)
+        }
+        Stage::First => Stage::First,
+        Stage::Colour(count, index) => Stage::Colour(count, index),
+        Stage::Second(count) => Stage::Second(count),
+        Stage::Entry(count, index) => Stage::Entry(count, index),
+        Stage::End(count) => Stage::End(count),
+        Stage::Fault(number, place, record, field) => Stage::Fault(number, place, record, field),
+    }
+}
+
+// The stage behind k units from `at`.
+fn units_of(stage: Stage, bytes: &[u8], at: usize, k: u32) -> Stage
+    requires { ⌜ (Sparing stage k) × (at + k * 2 ≤ length (now bytes)) ⌝ }
+    ensures { λ r. ⌜ r ≡ unitsPassed stage k (anyZero (nums 2 k (now (bytes .entry)) at)) ⌝ }
+{
+    match names::text_at(bytes, at, k) {
+        Step::Next(_) => passed(stage, k, false),
+        Step::Refused(_, _) => passed(stage, k, true),
+    }
+}
+
+fn is_fault(stage: Stage) -> bool
+    ensures { λ r. ⌜ r ≡ isFault stage ⌝ }
+{
+    match stage {
+        Stage::Fault(_, _, _, _) => true,
+        Stage::First => false,
+        Stage::Colour(_, _) => false,
+        Stage::Second(_) => false,
+        Stage::Entry(_, _) => false,
+        Stage::Unit(_, _, _, _, _) => false,
+        Stage::End(_) => false,
+    }
+}
+
+// Where an item began of which `got` bytes came, the last before `total`; 0 in an altered state
+// that has more of them than came.
+fn item_start(total: usize, got: usize) -> usize
+    ensures { λ r. ⌜ r ≡ total - got ⌝ }
+{
+    if total < got {
+        return 0;
+    }
+    total - got
+}
+
+// A stream that has not ended.
+fn opened(stage: Stage, total: usize, got: usize, carry: [u8; 14]) -> Stream
+    ensures { λ r. ⌜ r ≡ openStream stage total got carry ⌝ }
+{
+    Stream {
+        stage,
+        total,
+        got,
+        carry,
+        ended: false,
+    }
+}
+
+// Bytes that stay within the limit.
+fn run(state: Stream, store: &mut [u8], bytes: &[u8]) -> Stream
+    requires { ⌜ (state .got < size (state .stage)) × (state .total + length (now bytes) ≤ limit) ⌝ }
+    ensures { λ r. ⌜ (progress r (now (store .exit)) ≡ chunk (progress state (now (store .entry))) (now (bytes .entry))) × (r .got < size (r .stage)) × (r .ended ≡ false) × (length (now (store .exit)) ≡ length (now (store .entry))) ⌝ }
+{
+    let start = state.total;
+    let end = bytes.len();
+    let mut stage = state.stage;
+    let mut got = state.got;
+    let mut carry = state.carry;
+    let mut at: usize = 0;
+    while at < end {
+        if is_fault(stage) {
+            at = end;
+        } else {
+            let want = size_of(stage);
+            let left = end - at;
+            if got == 0 && want <= left {
+                let k = spare(stage, left);
+                if 0 < k {
+                    stage = units_of(stage, bytes, at, k);
+                    at += 2 * (k as usize);
+                } else {
+                    let e = at + want;
+                    stage = settle(stage, store, &bytes[at..e], start + at);
+                    at = e;
+                }
+            } else {
+                carry[got] = bytes[at];
+                got += 1;
+                at += 1;
+                if got == want {
+                    let from = item_start(start + at, got);
+                    stage = settle(stage, store, &carry[..got], from);
+                    got = 0;
+                }
+            }
+        }
+    }
+    opened(stage, start + end, got, carry)
+}
+
+// What a chunk is answered: 0, or 5 for a state that has ended or is none, or 11.
+pub struct Fed {
+    pub state: Stream,
+    pub number: u32,
+}
+
+// The stream before the first chunk; 11, and one that has ended, where the store is too short.
+pub fn start(store: &[u8]) -> Fed
+    ensures { λ r. ⌜ Starts (now (store .entry)) (r .state) (r .number) ⌝ }
+{
+    let mut state = opened(Stage::First, 0, 0, [0u8; 14]);
+    if store.len() < STORE {
+        state.ended = true;
+        return Fed { state, number: 11 };
+    }
+    Fed { state, number: 0 }
+}
+
+fn feed_in(state: Stream, store: &mut [u8], bytes: &[u8]) -> Fed
+    ensures { λ r. ⌜ FeedsIn state (now (store .entry)) (now (bytes .entry)) (r .state) (r .number) (now (store .exit)) ⌝ }
+{
+    let stage = state.stage;
+    let total = state.total;
+    if state.ended {
+        return Fed { state, number: 5 };
+    }
+    if size_of(stage) <= state.got {
+        return Fed { state, number: 5 };
+    }
+    if store.len() < STORE {
+        return Fed { state, number: 11 };
+    }
+    if bytes.len() == 0 {
+        return Fed { state, number: 0 };
+    }
+    if LIMIT < total {
+        let mut over = state;
+        over.total = LIMIT + 1;
+        return Fed {
+            state: over,
+            number: 0,
+        };
+    }
+    let room = LIMIT - total;
+    if bytes.len() <= room {
+        let next = run(state, store, bytes);
+        return Fed {
+            state: next,
+            number: 0,
+        };
+    }
+    let mut next = run(state, store, &bytes[..room]);
+    next.total = LIMIT + 1;
+    Fed {
+        state: next,
+        number: 0,
+    }
+}
+
+pub enum Answer {
+    // how many colours and lists
+    Accepted(u16, u16),
+    // number and place, and for 7 the record and field
+    Refused(u32, usize, u16, u16),
+}
+
+pub struct Finished {
+    pub state: Stream,
+    pub answer: Answer,
+}
+
+fn cut_of(stage: Stage, store: &[u8], bytes: &[u8], from: usize) -> Answer
+    requires { ⌜ (from ≤ limit) × (length (now bytes) ≤ 14) ⌝ }
+    ensures { λ r. ⌜ told r ≡ cut from (item (now (store .entry)) stage (now (bytes .entry)) 0) ⌝ }
+{
+    match item_of(stage, store, bytes) {
+        Item::Refused(number, place, record, field) => Answer::Refused(
+            number,
+            from + place,
+            record,
+            field,
+        ),
+        Item::Is(_, _) => Answer::Refused(5, 0, 0, 0),
+    }
+}
+
+fn ending_of(stage: Stage, store: &[u8], bytes: &[u8], from: usize) -> Answer
+    requires { ⌜ (from ≤ limit) × (length (now bytes) ≤ 14) ⌝ }
+    ensures { λ r. ⌜ told r ≡ ending stage from (now (bytes .entry)) (now (store .entry)) ⌝ }
+{
+    match stage {
+        Stage::Second(count) => {
+            if bytes.len() == 0 {
+                return Answer::Accepted(count, 1);
+            }
+            cut_of(stage, store, bytes, from)
+        }
+        Stage::Unit(_, _, place, _, _) => Answer::Refused(2, (place as usize) + 4, 0, 0),
+        Stage::End(count) => Answer::Accepted(count, 2),
+        Stage::Fault(number, place, record, field) => Answer::Refused(number, place, record, field),
+        Stage::First => cut_of(stage, store, bytes, from),
+        Stage::Colour(_, _) => cut_of(stage, store, bytes, from),
+        Stage::Entry(_, _) => cut_of(stage, store, bytes, from),
+    }
+}
+
+fn finish_in(state: Stream, store: &[u8]) -> Finished
+    ensures { λ r. ⌜ FinishesIn state (now (store .entry)) (r .state) (told (r .answer)) ⌝ }
+{
+    let stage = state.stage;
+    let total = state.total;
+    let got = state.got;
+    let carry = state.carry;
+    if state.ended {
+        return Finished {
+            state,
+            answer: Answer::Refused(5, 0, 0, 0),
+        };
+    }
+    if size_of(stage) <= got {
+        return Finished {
+            state,
+            answer: Answer::Refused(5, 0, 0, 0),
+        };
+    }
+    if store.len() < STORE {
+        return Finished {
+            state,
+            answer: Answer::Refused(11, 0, 0, 0),
+        };
+    }
+    let mut last = state;
+    last.ended = true;
+    if LIMIT < total {
+        return Finished {
+            state: last,
+            answer: Answer::Refused(1, 0, 0, 0),
+        };
+    }
+    let from = item_start(total, got);
+    Finished {
+        state: last,
+        answer: ending_of(stage, store, &carry[..got], from),
+    }
+}
+
+// A chunk. Of the store only its first STORE bytes are lent on.
+pub fn feed(state: Stream, store: &mut [u8], bytes: &[u8]) -> Fed
+    ensures { λ r. ⌜ Feeds state (now (store .entry)) (now (bytes .entry)) (r .state) (r .number) (now (store .exit)) ⌝ }
+{
+    if store.len() < STORE {
+        return feed_in(state, store, bytes);
+    }
+    feed_in(state, &mut store[..STORE], bytes)
+}
+
+// The end: what the whole file is found to be.
+pub fn finish(state: Stream, store: &[u8]) -> Finished
+    ensures { λ r. ⌜ Finishes state (now (store .entry)) (r .state) (told (r .answer)) ⌝ }
+{
+    if store.len() < STORE {
+        return finish_in(state, store);
+    }
+    finish_in(state, &store[..STORE])
+}
