@@ -3,7 +3,7 @@ use Prim.Native.Nat.{ℕ}
 use mathlib.Core.Path.{_≡_, refl}
 use mathlib.Core.List.{List, [], _∷_}
 use Rattle.algebra.specs.Numbers.{num, nums}
-use Rattle.algebra.specs.Reader.{ok, field, body, until, ended, mapRes}
+use Rattle.algebra.specs.Reader.{ok, field, body, until, ended}
 use Rattle.descriptor.specs.Reading.{id, shut, unicode, class, flag, sortOf, Row}
 use Rattle.descriptor_heads.specs.Heads.{items, pairs, Opened, bare, itemHead, memberHead, headAt, rootHead, wholeHeads, fileHeads}
 use Rattle.descriptor_heads.specs.Rows.{rowEnd, rowsFrom, rowsOf}
@@ -23,6 +23,17 @@ four =
 pub four-heads : fileHeads p12 ≡ ok four 40
 unfolding fileHeads wholeHeads rootHead until headAt memberHead itemHead id unicode class flag sortOf field body num nums shut ended
 four-heads = refl
+
+-- with its last `bool` turned, it has the same heads
+abbrev turned : List ℕ
+turned =
+    0 ∷ 0 ∷ 0 ∷ 16 ∷ 0 ∷ 0 ∷ 0 ∷ 0 ∷ 0 ∷ 0 ∷ 0 ∷ 1 ∷ 0x61 ∷ 0 ∷ 0 ∷ 0 ∷ 1
+    ∷ 0 ∷ 0 ∷ 0 ∷ 1 ∷ 0x61 ∷ 0x56 ∷ 0x6c ∷ 0x4c ∷ 0x73 ∷ 0 ∷ 0 ∷ 0 ∷ 2
+    ∷ 0x62 ∷ 0x6f ∷ 0x6f ∷ 0x6c ∷ 1 ∷ 0x62 ∷ 0x6f ∷ 0x6f ∷ 0x6c ∷ 0 ∷ []
+
+pub turned-heads : fileHeads turned ≡ ok four 40
+unfolding fileHeads wholeHeads rootHead until headAt memberHead itemHead id unicode class flag sortOf field body num nums shut ended
+turned-heads = refl
 
 abbrev four-rows : List Row
 four-rows =

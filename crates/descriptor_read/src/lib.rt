@@ -18,8 +18,9 @@ ghost use mathlib.Core.Bool.{true};
 ghost use Rattle.algebra.specs.Numbers.{num};
 ghost use Rattle.algebra.specs.Reader.{field, orZero};
 ghost use Rattle.fields.specs.Answer.{toldStep};
+ghost use Rattle.descriptor.specs.Answer.{endOf, begun};
 ghost use Rattle.descriptor.specs.Leaves.{Leafed};
-ghost use Rattle.descriptor.specs.Reading.{id, class, children, refItem, referenceOf, arrayPair, arrayOf, item, objectOf, root, descriptor};
+ghost use Rattle.descriptor.specs.Reading.{id, class, sortOf, children, refItem, referenceOf, arrayPair, arrayOf, item, objectOf, root, descriptor};
 ghost use Rattle.descriptor_read.specs.Table.{putRow, Done, Within, Below};
 ghost use Rattle.descriptor_judge.specs.Answer.{told};
 ghost use Rattle.descriptor_judge.specs.Cycle.{optional, memberOf, holderOf, heldOf};
@@ -28,11 +29,23 @@ ghost use Rattle.descriptor_read.specs.Carried.{Small, carried};
 ghost use Rattle.descriptor_read.specs.Filled.{filled, rowsIn};
 ghost use Rattle.descriptor_read.specs.Values.{rowIn, extentOf, toldExtent, placeOf, toldValue, valueIn};
 ghost use Rattle.descriptor_read.specs.Typed.{typedIn, typedOf};
+use descriptor::ALIAS;
+use descriptor::ARRAY;
 use descriptor::BOOL;
+use descriptor::CLASS;
 use descriptor::COMP;
 use descriptor::DOUBLE;
+use descriptor::ENUMERATED;
+use descriptor::GLOBAL_CLASS;
+use descriptor::GLOBAL_OBJECT;
 use descriptor::KnownForm;
+use descriptor::LIST;
 use descriptor::LONG;
+use descriptor::OBJECT;
+use descriptor::PATH;
+use descriptor::RAW;
+use descriptor::REFERENCE;
+use descriptor::TEXT;
 use descriptor::UNIT_DOUBLE;
 use descriptor::Value;
 use descriptor_judge::Answer;
@@ -322,6 +335,40 @@ fn held(
     carry(reference(file, table, base, left, row, at))
 }
 
+// A field's end as the end of a value.
+fn ending(step: Step) -> Value
+    ensures { λ r. ⌜ r ≡ endOf (toldStep step) ⌝ }
+{
+    match step {
+        Step::Next(next) => Value::Ends(next),
+        Step::Refused(x, p) => Value::Refused(x, p),
+    }
+}
+
+// What stands at `at`, after an item's type: fields alone are read to their end. It is
+// `descriptor::begin` again: called from here and from judging, that one would be a call for every
+// member in both.
+fn begin(file: &[u8], kind: u32, at: usize) -> Value
+    ensures { λ r. ⌜ r ≡ begun (sortOf kind) (now (file .entry)) at ⌝ }
+{
+    match kind {
+        BOOL => ending(descriptor::flag_at(file, at)),
+        CLASS | GLOBAL_CLASS => ending(descriptor::class_at(file, at)),
+        DOUBLE => ending(descriptor::double_at(file, at)),
+        ENUMERATED => ending(descriptor::enumerated_at(file, at)),
+        ALIAS | PATH | RAW => ending(descriptor::bytes_at(file, at)),
+        LONG => ending(fields::run_at(file, at, 4)),
+        COMP => ending(fields::run_at(file, at, 8)),
+        TEXT => ending(descriptor::unicode_at(file, at)),
+        UNIT_DOUBLE => ending(descriptor::unit_double_at(file, at)),
+        LIST => Value::List,
+        OBJECT | GLOBAL_OBJECT => Value::Object,
+        REFERENCE => Value::Reference,
+        ARRAY => Value::Array,
+        _ => Value::Unknown,
+    }
+}
+
 // A class, where there is one.
 fn class_if(file: &[u8], there: bool, at: usize) -> Step
     ensures { λ r. ⌜ toldStep r ≡ optional there class (now (file .entry)) at ⌝ }
@@ -384,7 +431,7 @@ fn value_of(
     requires { ⌜ Below (now file) left row at ⌝ }
     ensures { λ r. ⌜ Done r base (now (table .entry)) (now (table .exit)) (row + 1) (valued left row kind (now (file .entry)) at) ⌝ }
 {
-    match descriptor::begin(file, kind, at) {
+    match begin(file, kind, at) {
         Value::Ends(end) => Walk::Next(end, row + 1),
         Value::List => unpack(list(file, table, base, false, left, row, at)),
         Value::Object => unpack(object(file, table, base, left, row, at)),

@@ -34,7 +34,7 @@ use Rattle.descriptor_read.proofs.+item+list+object+pair+value_of.Lts-p
 use Rattle.descriptor_read.proofs.value_of.Reads as value-of
 use Rattle.descriptor_read.proofs.value_of.Kinds as value-of-kinds
 use Rattle.descriptor_read.proofs.+item+list+object+pair+value_of.Lts-value_of as value-of-lts
-use Rattle.descriptor.proofs.begin.Reads as begin-reads
+use Rattle.descriptor_read.proofs.begin.Reads as begin-reads
 use Rattle.descriptor_read.proofs.class_if.Reads as class-if-reads
 use Rattle.descriptor_read.proofs.key_if.Reads as key-if-reads
 use Rattle.descriptor_read.proofs.put_row.Reads as put-row-reads
