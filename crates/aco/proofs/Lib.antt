@@ -1,5 +1,6 @@
 -- Laws of the definitions of specs/. The theorems that a user cares about stand in RoundTrip.
 pub mod Fine
+pub mod Row
 pub mod Raw
 pub mod Inverse
 pub mod Laws
