@@ -1,6 +1,7 @@
 -- Laws of the definitions of specs/. The theorems that a user cares about stand in RoundTrip.
 pub mod Fine
 pub mod Answers
+pub mod Row
 pub mod Raw
 pub mod Inverse
 pub mod Laws

@@ -19,7 +19,8 @@ use Rattle.colour.specs.Spaces.{known, allowed, sound}
 use Rattle.colour.proofs.Laws.{sound-inv}
 use Rattle.aco.specs.Reading.{most, space, sample, samples, colour, heading, fieldOf, twin, Entry, entry, Contents, black, second, unnamed, after, lists, aco, version, firstCount}
 use Rattle.aco.specs.Raw.{rawColours, headed, afterHeading}
-use Rattle.aco_judge.specs.Answer.{accepted, refused, verdict}
+use Rattle.algebra.specs.Table.{accepted, refused, verdict}
+use Rattle.aco_judge.specs.Answer.{report}
 use Rattle.aco.proofs.Raw.{colours-raw, colours-inside, length-raw, fields-raw}
 
 -- ---- a colour
@@ -182,18 +183,18 @@ module _ (s : List ℕ) (at n m next : ℕ) (e : headed 2 s at ≡ ok m next) wh
 
 -- ---- what an accepted list 2 gives
 
-pub second-lists : (s : List ℕ) (at : ℕ) (cs : List Colour) {c : Contents} {q : ℕ} → second cs s at ≡ ok c q → verdict (ok c q) ≡ accepted (length cs) 2
+pub second-lists : (s : List ℕ) (at : ℕ) (cs : List Colour) {c : Contents} {q : ℕ} → second cs s at ≡ ok c q → verdict report (ok c q) ≡ accepted (length cs, 2)
 unfolding second
 second-lists s at cs {c} {q} e =
     let t = then-inv (heading 2 (counted s at cs) s at) _ e in
     let u = then-inv (each (length cs) 0 (entryOf cs) s (t .1)) _ (t .3) in
     let z = ended-inv (record { lists = 2; records = u .0 }) s (u .1) (u .3) in
-    sym (ap (λ (k : Contents). accepted (length (k .records)) (k .lists)) (z .1)) ∙ ap (λ (n : ℕ). accepted n 2) (each-length (entryOf cs) s (length cs) 0 (t .1) (u .2))
+    sym (ap (λ (k : Contents). accepted (report k)) (z .1)) ∙ ap (λ (n : ℕ). accepted (n, 2)) (each-length (entryOf cs) s (length cs) 0 (t .1) (u .2))
 
 -- ---- after the first heading: n colours, and what follows them
 
 module _ (s : List ℕ) (n : ℕ) where
-  pub colours-refused : {x p r f : ℕ} → done (each n 0 (λ i. colour) s 4) ≡ refuse x p r f → verdict (afterHeading n s 4) ≡ refused x p r f
+  pub colours-refused : {x p r f : ℕ} → done (each n 0 (λ i. colour) s 4) ≡ refuse x p r f → verdict report (afterHeading n s 4) ≡ refused x p r f
   unfolding afterHeading
   colours-refused e = rw (done-refuse (each n 0 (λ i. colour) s 4) e)
 
@@ -208,21 +209,21 @@ module _ (s : List ℕ) (n : ℕ) where
     pub colours-within : 4 ≤ length s → end ≤ length s
     colours-within h = colours-inside s n 0 4 h colours-are
 
-    pub lists-one : end ≡ length s → verdict (afterHeading n s 4) ≡ accepted n 1
+    pub lists-one : end ≡ length s → verdict report (afterHeading n s 4) ≡ accepted (n, 1)
     unfolding afterHeading after
-    lists-one h = rw colours-are (rw (eq-eqb _ _ h) (ap (λ (k : ℕ). accepted k 1) (length-map (rawColours n s 4) unnamed ∙ length-raw n s 4)))
+    lists-one h = rw colours-are (rw (eq-eqb _ _ h) (ap (λ (k : ℕ). accepted (k, 1)) (length-map (rawColours n s 4) unnamed ∙ length-raw n s 4)))
 
     lists-more : (end ≡ length s → ⊥) → afterHeading n s 4 ≡ second (rawColours n s 4) s end
     unfolding afterHeading after
     lists-more h = rw colours-are (rw (ne-eqb _ _ h))
 
-    pub lists-two : (end ≡ length s → ⊥) → {q : ℕ} → done (second (rawColours n s 4) s end) ≡ ok tt q → verdict (afterHeading n s 4) ≡ accepted n 2
+    pub lists-two : (end ≡ length s → ⊥) → {q : ℕ} → done (second (rawColours n s 4) s end) ≡ ok tt q → verdict report (afterHeading n s 4) ≡ accepted (n, 2)
     lists-two h d =
         let t = done-inv (second (rawColours n s 4) s end) d in
-        ap verdict (lists-more h ∙ t .1) ∙ second-lists s end (rawColours n s 4) (t .1) ∙ ap (λ (k : ℕ). accepted k 2) (length-raw n s 4)
+        ap (verdict report) (lists-more h ∙ t .1) ∙ second-lists s end (rawColours n s 4) (t .1) ∙ ap (λ (k : ℕ). accepted (k, 2)) (length-raw n s 4)
 
-    pub lists-refused : (end ≡ length s → ⊥) → {x p r f : ℕ} → done (second (rawColours n s 4) s end) ≡ refuse x p r f → verdict (afterHeading n s 4) ≡ refused x p r f
-    lists-refused h d = ap verdict (lists-more h ∙ done-refuse (second (rawColours n s 4) s end) d)
+    pub lists-refused : (end ≡ length s → ⊥) → {x p r f : ℕ} → done (second (rawColours n s 4) s end) ≡ refuse x p r f → verdict report (afterHeading n s 4) ≡ refused x p r f
+    lists-refused h d = ap (verdict report) (lists-more h ∙ done-refuse (second (rawColours n s 4) s end) d)
 
 -- ---- the whole file
 

@@ -2,6 +2,7 @@
 use Prim.Native.Nat.{ℕ}
 use lib.ListN.{length}
 use Rattle.algebra.specs.Reader.{Res, ok, refuse}
+use Rattle.algebra.specs.Table.{Verdict, accepted, refused}
 use Rattle.aco.specs.Reading.{Contents}
 use Rattle.aco_judge.specs.declared.Answer.{Answer}
 use Rattle.aco_judge.specs.declared.Answer.the-variants as va
@@ -10,18 +11,12 @@ use Rattle.aco_judge.specs.declared.Heading.the-variants as vh
 use Rattle.aco_judge.specs.declared.Walk.{Walk}
 use Rattle.aco_judge.specs.declared.Walk.the-variants as vw
 
--- accepted: the number of colours and of lists; refused: number, place, and for 7 the record and field (else 0)
-pub data Verdict : Type 0 where
-  accepted : ℕ → ℕ → Verdict
-  refused : ℕ → ℕ → ℕ → ℕ → Verdict
+-- what is reported of an accepted file: the number of colours and of lists
+abbrev pub report : Contents → ℕ × ℕ
+report c = (length (c .records), c .lists)
 
--- the verdict on a file
-abbrev pub verdict : Res Contents → Verdict
-verdict (ok c q) = accepted (length (c .records)) (c .lists)
-verdict (refuse x p r f) = refused x p r f
-
-abbrev pub told : Answer → Verdict
-told (va.Accepted n l) = accepted n l
+abbrev pub told : Answer → Verdict (ℕ × ℕ)
+told (va.Accepted n l) = accepted (n, l)
 told (va.Refused x p) = refused x p 0 0
 told (va.Differ p r f) = refused 7 p r f
 

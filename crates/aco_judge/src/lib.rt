@@ -7,7 +7,8 @@ ghost use Rattle.algebra.specs.Reader.{done, each};
 ghost use Rattle.fields.specs.Answer.{toldStep};
 ghost use Rattle.aco.specs.Reading.{samples, colour, entry, black, second, aco};
 ghost use Rattle.aco.specs.Raw.{rawColours, headed, afterHeading, SoundAt, SameAt};
-ghost use Rattle.aco_judge.specs.Answer.{told, toldHeading, toldWalk, verdict};
+ghost use Rattle.algebra.specs.Table.{verdict};
+ghost use Rattle.aco_judge.specs.Answer.{told, toldHeading, toldWalk, report};
 use aco::LIMIT;
 use aco::MOST;
 use fields::Number16;
@@ -232,7 +233,7 @@ fn second_at(file: &[u8], at: usize, n: u16) -> Walk
 // The lists after the first heading: n colours from 4, and what follows them.
 fn lists_at(file: &[u8], n: u16) -> Answer
     requires { ⌜ 4 ≤ length (now file) ⌝ }
-    ensures { λ r. ⌜ told r ≡ verdict (afterHeading n (now (file .entry)) 4) ⌝ }
+    ensures { λ r. ⌜ told r ≡ verdict report (afterHeading n (now (file .entry)) 4) ⌝ }
 {
     match colours_at(file, 4, n) {
         Step::Refused(x, q) => Answer::Refused {
@@ -267,7 +268,7 @@ fn lists_at(file: &[u8], n: u16) -> Answer
 
 // The whole file.
 pub fn judge(file: &[u8]) -> Answer
-    ensures { λ r. ⌜ told r ≡ verdict (aco (now (file .entry))) ⌝ }
+    ensures { λ r. ⌜ told r ≡ verdict report (aco (now (file .entry))) ⌝ }
 {
     if LIMIT < file.len() {
         return Answer::Refused {

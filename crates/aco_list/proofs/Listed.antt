@@ -6,14 +6,16 @@ use mathlib.Core.Bool.{Bool, true, false}
 use lib.ListN.{length}
 use native.Mathlib.Omega.{arith}
 use Rattle.algebra.specs.Numbers.{be, joined, nums, Bytes}
-use Rattle.algebra.specs.Reader.{Res, ok, refuse, then, pick}
+use Rattle.algebra.specs.Reader.{Res, ok, then, pick}
 use Rattle.algebra.specs.Store.{part}
 use Rattle.algebra.specs.Text.{Name, name, front}
 use Rattle.algebra.proofs.Inverse.{then-inv, name-inv, front-nums, ok-value}
 use Rattle.algebra.proofs.Places.{at-take, bes-nums, length-bes, length-nums}
 use Rattle.colour.specs.declared.space.Colour.{Colour}
 use Rattle.aco.specs.Reading.{colour, Entry, Contents, unnamed, aco}
-use Rattle.aco_judge.specs.Answer.{accepted, refused as refusedFile, verdict}
+use Rattle.algebra.specs.Table.{accepted, refused as refusedFile, verdict}
+use Rattle.algebra.proofs.Table.{accepted-of, refused-of}
+use Rattle.aco_judge.specs.Answer.{report}
 use Rattle.walk.specs.Walk.{Call, gives, over, refused, Step, given}
 use Rattle.walk.specs.Names.{namePart}
 use Rattle.walk.proofs.Calls.{step-read}
@@ -136,17 +138,13 @@ module _ (s : List ℕ) (bytes : Bytes s) where
 
 -- ---- the whole listing
 
-pub listed-refused : (m : Res Contents) {x p r f : ℕ} → refusedFile x p r f ≡ verdict m → refusal x p ≡ listing m
-listed-refused (ok c q) e = let z : _≡_ {A = ℕ} 0 1 = cc in absurd (omega arith)
-listed-refused (refuse y k r f) {x = x} {p = p} e = let a : x ≡ y = cc in let b : p ≡ k = cc in ap₂ refusal a b
+pub listed-refused : (m : Res Contents) {x p r f : ℕ} → refusedFile x p r f ≡ verdict report m → refusal x p ≡ listing m
+listed-refused m e = sym (ap listing (refused-of report m e))
 
-pub listed-accepted : (s : List ℕ) {n l : ℕ} → accepted n l ≡ verdict (aco s) → heading n l ++ lines line 0 (given (walk s) n (firstPlace s)) ++ ascii "end\n" ≡ listing (aco s)
-listed-accepted s {n} {l} e = go (aco s) refl e
-  where
-    go : (m : Res Contents) → aco s ≡ m → accepted n l ≡ verdict m → heading n l ++ lines line 0 (given (walk s) n (firstPlace s)) ++ ascii "end\n" ≡ listing m
-    go (ok c q) g h =
-        let a : n ≡ length (c .records) = cc in
-        let b : l ≡ c .lists = cc in
-        ap₂ (λ (n l : ℕ). heading n l ++ lines line 0 (given (walk s) n (firstPlace s)) ++ ascii "end\n") a b
-        ∙ ap (λ (es : List Entry). heading (length (c .records)) (c .lists) ++ lines line 0 es ++ ascii "end\n") (accepted-given s g)
-    go (refuse x p r f) g h = let z : _≡_ {A = ℕ} 0 1 = cc in absurd (omega arith)
+pub listed-accepted : (s : List ℕ) {n l : ℕ} → accepted (n, l) ≡ verdict report (aco s) → heading n l ++ lines line 0 (given (walk s) n (firstPlace s)) ++ ascii "end\n" ≡ listing (aco s)
+listed-accepted s {n} {l} e =
+    let a = accepted-of report (aco s) e in
+    let c : Contents = a .0 in
+    ap (λ (w : ℕ × ℕ). heading (w .0) (w .1) ++ lines line 0 (given (walk s) (w .0) (firstPlace s)) ++ ascii "end\n") (sym (a .3))
+    ∙ ap (λ (es : List Entry). heading (length (c .records)) (c .lists) ++ lines line 0 es ++ ascii "end\n") (accepted-given s (a .2))
+    ∙ sym (ap listing (a .2))

@@ -1,21 +1,24 @@
 -- Filling a table with the records of an accepted file, on plain values. Assumes nothing.
 use Prim.Native.Nat.{ℕ, zero, suc, _+_, _*_, _-_, _≤_, _<_}
 use mathlib.Core.Path.{_≡_, refl, sym, ap, ap₂, _∙_, subst}
-use mathlib.Core.List.{List, [], _∷_, _++_}
+use mathlib.Core.List.{List, [], _∷_}
 use lib.ListN.{length, getD}
-use borrow.Author.Tests.{lt-ltb}
 use native.Mathlib.Omega.{arith}
 use native.Mathlib.Numerals.{add-one}
 use Rattle.algebra.specs.Numbers.{num, nums}
 use Rattle.algebra.specs.Reader.{field, orZero, limit}
+use Rattle.algebra.specs.Filling.{Accepted}
 use Rattle.algebra.proofs.Laws.{field-in}
+use Rattle.algebra.proofs.Table.{records-are}
 use Rattle.colour.specs.declared.space.Colour.{Colour}
 use Rattle.aco.specs.Reading.{Entry, black, unnamed, aco}
 use Rattle.aco.specs.Raw.{rawColour}
 use Rattle.aco.specs.Places.{entryPlace}
+use Rattle.aco.specs.Row.{withName, givenOf}
 use Rattle.aco.proofs.Inverse.{aco-inv}
 use Rattle.aco.proofs.RoundTrip.{records-count, one-list, one-record, Placed, records-place}
-use Rattle.aco_read.specs.Table.{row, numbers, Where, lies, refusal, swatchOf, recordAt, recordsOf, Accepted}
+use Rattle.aco_judge.specs.Answer.{report}
+use Rattle.aco_read.specs.Table.{records, recordsOf}
 
 -- ---- a number and a colour as they are loaded
 
@@ -47,12 +50,18 @@ pub entry-first : (s : List ℕ) (n : ℕ) → entryPlace s n 0 ≡ 8 + 10 * n
 unfolding entryPlace
 entry-first s n = refl
 
-module _ (s : List ℕ) (l n : ℕ) (a : Accepted (aco s) l n) where
-  pub records-are : recordsOf (aco s) ≡ a .0 .records
-  records-are = ap recordsOf (a .2)
+abbrev pub nth : List ℕ → ℕ → Entry
+nth s i = getD (recordsOf (aco s)) i (unnamed black)
+
+module _ (s : List ℕ) (n l : ℕ) (a : Accepted report (aco s) (n, l)) where
+  pub many : length (a .0 .records) ≡ n
+  many = ap (λ (w : ℕ × ℕ). w .0) (a .3)
+
+  pub listed : a .0 .lists ≡ l
+  listed = ap (λ (w : ℕ × ℕ). w .1) (a .3)
 
   count-is : n ≡ num 2 s 2
-  count-is = sym (a .4) ∙ records-count s (a .2)
+  count-is = sym many ∙ records-count s (a .2)
 
   pub small : length s ≤ limit
   small = aco-inv s (a .2) .2 .short
@@ -61,24 +70,23 @@ module _ (s : List ℕ) (l n : ℕ) (a : Accepted (aco s) l n) where
   count-small = let f = aco-inv s (a .2) .2 in omega (arith, count-is, f .count, f .few)
 
   pub length-records : length (recordsOf (aco s)) ≡ n
-  length-records = ap length records-are ∙ a .4
+  length-records = ap length (records-are records report (aco s) a) ∙ many
+
+  nth-is : (i : ℕ) → nth s i ≡ getD (a .0 .records) i (unnamed black)
+  nth-is i = ap (λ (rs : List Entry). getD rs i (unnamed black)) (records-are records report (aco s) a)
 
   -- a file of one list
   module _ (one : l ≡ 1) (i : ℕ) (h : i < n) where
     pub plain-in : 4 + 10 * i + 10 ≤ length s
-    plain-in = omega (arith, one-list s (a .2) (a .3 ∙ one) .1, count-is)
+    plain-in = omega (arith, one-list s (a .2) (listed ∙ one) .1, count-is)
 
-    pub plain-swatch : swatchOf (getD (a .0 .records) i (unnamed black)) ≡ (rawColour s (4 + 10 * i), lies 0 0)
-    plain-swatch = ap swatchOf (one-record s (a .2) (a .3 ∙ one) i (omega (arith, count-is)))
-
-    pub plain-row : row (getD (recordsOf (aco s)) i (unnamed black)) ≡ numbers (rawColour s (4 + 10 * i)) 0 0
-    unfolding nums
-    plain-row = ap (λ (rs : List Entry). row (getD rs i (unnamed black))) records-are ∙ ap row (one-record s (a .2) (a .3 ∙ one) i (omega (arith, count-is)))
+    pub plain-is : givenOf (nth s i) ≡ withName (rawColour s (4 + 10 * i)) 0 0
+    plain-is = ap givenOf (nth-is i ∙ one-record s (a .2) (listed ∙ one) i (omega (arith, count-is)))
 
   -- a file of two lists
   module _ (two : l ≡ 2) (i : ℕ) (h : i < n) where
     placed : Placed s i (getD (a .0 .records) i (unnamed black))
-    placed = records-place s (a .2) (a .3 ∙ two) i (omega (arith, count-is))
+    placed = records-place s (a .2) (listed ∙ two) i (omega (arith, count-is))
 
     at-place : entryPlace s (num 2 s 2) i ≡ entryPlace s n i
     at-place = ap (λ (k : ℕ). entryPlace s k i) (sym count-is)
@@ -92,27 +100,11 @@ module _ (s : List ℕ) (l n : ℕ) (a : Accepted (aco s) l n) where
     pub named-colour : 4 + 10 * i + 10 ≤ length s
     named-colour = omega (arith, entry-low s n i, named-in)
 
-    pub named-swatch : swatchOf (getD (a .0 .records) i (unnamed black)) ≡ (rawColour s (4 + 10 * i), lies (entryPlace s n i + 14) (num 4 s (entryPlace s n i + 10) - 1))
-    named-swatch =
-        ap₂ (λ (c : Colour) (w : Where). (c, w)) (placed .is)
-        (ap₂ (λ (p u : ℕ). lies p u) (placed .first ∙ ap (λ (p : ℕ). p + 14) at-place) (placed .count ∙ ap (λ (p : ℕ). num 4 s (p + 10) - 1) at-place))
-
-    pub named-row : row (getD (recordsOf (aco s)) i (unnamed black))
-        ≡ numbers (rawColour s (4 + 10 * i)) (entryPlace s n i + 14) (num 4 s (entryPlace s n i + 10) - 1)
-    unfolding nums
-    named-row =
-        ap (λ (rs : List Entry). row (getD rs i (unnamed black))) records-are ∙ ap inOrder named-swatch
-      where
-        placeOf : Where → ℕ
-        placeOf (lies p u) = p
-        placeOf (refusal x p r f) = 0
-
-        unitsOf : Where → ℕ
-        unitsOf (lies p u) = u
-        unitsOf (refusal x p r f) = 0
-
-        inOrder : Colour × Where → List ℕ
-        inOrder w = w .0 .space ∷ (w .0 .samples ++ (placeOf (w .1) ∷ unitsOf (w .1) ∷ []))
+    pub named-is : givenOf (nth s i) ≡ withName (rawColour s (4 + 10 * i)) (entryPlace s n i + 14) (num 4 s (entryPlace s n i + 10) - 1)
+    named-is =
+        let e : Entry = getD (a .0 .records) i (unnamed black) in
+        ap givenOf (nth-is i) ∙ ap (λ (c : Colour). withName c (e .name .first) (length (e .name .units))) (placed .is)
+        ∙ ap₂ (withName (rawColour s (4 + 10 * i))) (placed .first ∙ ap (λ (p : ℕ). p + 14) at-place) (placed .count ∙ ap (λ (p : ℕ). num 4 s (p + 10) - 1) at-place)
 
 -- record i of a file of two lists, where p is its place and c the count of its name as it is loaded
 pub record Counted (s : List ℕ) (n i p c : ℕ) : Type 0 where
@@ -120,25 +112,20 @@ pub record Counted (s : List ℕ) (n i p c : ℕ) : Type 0 where
   pub some : 0 < c
   pub inside : p + 14 + 2 * c ≤ length s
   pub next : p + (14 + 2 * c) ≡ entryPlace s n (i + 1)
-  pub is-row : row (getD (recordsOf (aco s)) i (unnamed black)) ≡ numbers (rawColour s (4 + 10 * i)) (p + 14) (c - 1)
-  pub is-swatch : recordAt i (aco s) ≡ (rawColour s (4 + 10 * i), lies (p + 14) (c - 1))
+  pub is : givenOf (nth s i) ≡ withName (rawColour s (4 + 10 * i)) (p + 14) (c - 1)
 
-module _ (s : List ℕ) (l n : ℕ) (a : Accepted (aco s) l n) (two : l ≡ 2) (i : ℕ) (h : i < n) (p : ℕ) (e : p ≡ entryPlace s n i) where
+module _ (s : List ℕ) (n l : ℕ) (a : Accepted report (aco s) (n, l)) (two : l ≡ 2) (i : ℕ) (h : i < n) (p : ℕ) (e : p ≡ entryPlace s n i) where
   -- the count itself is inside
   pub counted-in : (p + 14 ≤ length s) × (length s ≤ limit)
-  counted-in = (omega (arith, named-in s l n a two i h), small s l n a)
+  counted-in = (omega (arith, named-in s n l a two i h), small s n l a)
 
   pub counted : (c : ℕ) → c ≡ orZero (field 4 s (p + 10)) → Counted s n i p c
   counted c f =
-      let inside = named-in s l n a two i h in
-      let k : c ≡ num 4 s (entryPlace s n i + 10) = load 4 s (entryPlace s n i + 10) c (omega arith) (omega arith) (f ∙ ap (λ (q : ℕ). orZero (field 4 s (q + 10))) e) in
-      let g : i < length (a .0 .records) = omega (arith, a .4) in record {
-        short = small s l n a;
-        some = omega (arith, named-some s l n a two i h);
+      let inside = named-in s n l a two i h in
+      let k : c ≡ num 4 s (entryPlace s n i + 10) = load 4 s (entryPlace s n i + 10) c (omega arith) (omega arith) (f ∙ ap (λ (q : ℕ). orZero (field 4 s (q + 10))) e) in record {
+        short = small s n l a;
+        some = omega (arith, named-some s n l a two i h);
         inside = omega arith;
         next = omega (arith, entry-next s n i);
-        is-row = named-row s l n a two i h ∙ sym (ap₂ (λ (q u : ℕ). numbers (rawColour s (4 + 10 * i)) (q + 14) (u - 1)) e k);
-        is-swatch =
-            ap (recordAt i) (a .2) ∙ simp (lt-ltb _ _ g) (named-swatch s l n a two i h
-            ∙ sym (ap₂ (λ (q u : ℕ). (rawColour s (4 + 10 * i), lies (q + 14) (u - 1))) e k));
+        is = named-is s n l a two i h ∙ sym (ap₂ (λ (q u : ℕ). withName (rawColour s (4 + 10 * i)) (q + 14) (u - 1)) e k);
       }

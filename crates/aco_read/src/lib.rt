@@ -3,12 +3,14 @@ ghost use mathlib.Core.Path.{_≡_};
 ghost use Prim.Native.Nat.{_+_, _*_, _≤_, _<_};
 ghost use lib.ListN.{length};
 ghost use lib.Seq.{sets};
-ghost use Rattle.algebra.specs.Numbers.{num, joined};
-ghost use Rattle.aco.specs.Reading.{aco};
+ghost use Rattle.algebra.specs.Numbers.{joined};
+ghost use Rattle.algebra.specs.Filling.{Accepted};
+ghost use Rattle.aco.specs.Reading.{aco, black};
 ghost use Rattle.aco.specs.Raw.{rawColour};
 ghost use Rattle.aco.specs.Places.{entryPlace};
-ghost use Rattle.aco_judge.specs.Answer.{told};
-ghost use Rattle.aco_read.specs.Table.{row, numbers, filled, noRecord, recordAt, nameBytesAt, recordsOf, Accepted};
+ghost use Rattle.aco.specs.Row.{width, numbers, withName, row};
+ghost use Rattle.aco_judge.specs.Answer.{told, report};
+ghost use Rattle.aco_read.specs.Table.{filled, recordAt, handed, nameBytesIn, recordsOf};
 ghost use Rattle.aco_read.specs.Answer.{toldPlace, toldSwatch};
 use aco::WIDTH;
 use aco_judge::Answer;
@@ -55,36 +57,28 @@ fn colour_at(file: &[u8], at: usize) -> Colour
     }
 }
 
-// Stores a record's numbers from `to`: the colour in the ten bytes from `at`, and its name. All is
-// loaded, from a part of known length, before it is stored, which compilers join.
-fn put_row(file: &[u8], at: usize, table: &mut [u32], to: usize, place: u32, units: u32)
-    requires { ⌜ (at + 10 ≤ length (now file)) × (to + 7 ≤ length (now table)) ⌝ }
-    ensures { λ _. ⌜ now (table .exit) ≡ sets (now (table .entry)) to (numbers (rawColour (now (file .entry)) at) place units) ⌝ }
+// Stores a record's numbers from `to`. Nothing else knows how a table lays it out.
+fn put_row(table: &mut [u32], to: usize, colour: Colour, place: u32, units: u32)
+    requires { ⌜ to + width ≤ length (now table) ⌝ }
+    ensures { λ _. ⌜ now (table .exit) ≡ sets (now (table .entry)) to (numbers (withName colour place units)) ⌝ }
 {
-    let end = at + 10;
-    let part = &file[at..end];
-    let space = fields::u16_or_zero(part, 0);
-    let a = fields::u16_or_zero(part, 2);
-    let b = fields::u16_or_zero(part, 4);
-    let c = fields::u16_or_zero(part, 6);
-    let d = fields::u16_or_zero(part, 8);
-    table[to] = space as u32;
-    table[to + 1] = a as u32;
-    table[to + 2] = b as u32;
-    table[to + 3] = c as u32;
-    table[to + 4] = d as u32;
+    table[to] = colour.space as u32;
+    table[to + 1] = colour.samples[0] as u32;
+    table[to + 2] = colour.samples[1] as u32;
+    table[to + 3] = colour.samples[2] as u32;
+    table[to + 4] = colour.samples[3] as u32;
     table[to + 5] = place;
     table[to + 6] = units;
 }
 
 // Stores the n records of a file of one list.
 fn fill_plain(file: &[u8], n: usize, table: &mut [u32])
-    requires { ⌜ Accepted (aco (now file)) 1 n × (7 * n ≤ length (now table)) ⌝ }
+    requires { ⌜ Accepted report (aco (now file)) (n, 1) × (width * n ≤ length (now table)) ⌝ }
     ensures { λ _. ⌜ now (table .exit) ≡ sets (now (table .entry)) 0 (joined row (recordsOf (aco (now (file .entry))))) ⌝ }
 {
     let mut i: usize = 0;
     while i < n {
-        put_row(file, 4 + 10 * i, table, WIDTH * i, 0, 0);
+        put_row(table, WIDTH * i, colour_at(file, 4 + 10 * i), 0, 0);
         i += 1;
     }
 }
@@ -92,21 +86,15 @@ fn fill_plain(file: &[u8], n: usize, table: &mut [u32])
 // Stores the n records of a file of two lists. The file is judged, so that a name's count is
 // enough to find the next record.
 fn fill_named(file: &[u8], n: usize, table: &mut [u32])
-    requires { ⌜ Accepted (aco (now file)) 2 n × (7 * n ≤ length (now table)) ⌝ }
+    requires { ⌜ Accepted report (aco (now file)) (n, 2) × (width * n ≤ length (now table)) ⌝ }
     ensures { λ _. ⌜ now (table .exit) ≡ sets (now (table .entry)) 0 (joined row (recordsOf (aco (now (file .entry))))) ⌝ }
 {
     let mut i: usize = 0;
     let mut p = 8 + 10 * n;
     while i < n {
         let count = fields::u32_or_zero(file, p + 10);
-        put_row(
-            file,
-            4 + 10 * i,
-            table,
-            WIDTH * i,
-            (p + 14) as u32,
-            count - 1,
-        );
+        let colour = colour_at(file, 4 + 10 * i);
+        put_row(table, WIDTH * i, colour, (p + 14) as u32, count - 1);
         p += 14 + 2 * (count as usize);
         i += 1;
     }
@@ -146,7 +134,7 @@ pub fn read(file: &[u8], table: &mut [u32]) -> Answer
 
 // The place of record i of list 2.
 fn entry_place(file: &[u8], n: usize, i: usize) -> usize
-    requires { ⌜ Accepted (aco (now file)) 2 n × (i < n) ⌝ }
+    requires { ⌜ Accepted report (aco (now file)) (n, 2) × (i < n) ⌝ }
     ensures { λ r. ⌜ r ≡ entryPlace (now (file .entry)) n i ⌝ }
 {
     let mut k: usize = 0;
@@ -161,7 +149,7 @@ fn entry_place(file: &[u8], n: usize, i: usize) -> usize
 
 // No record: a colour of zeros beside the refusal.
 fn none(name: NamePlace) -> Swatch
-    ensures { λ r. ⌜ toldSwatch r ≡ noRecord (toldPlace name) ⌝ }
+    ensures { λ r. ⌜ toldSwatch r ≡ (black, toldPlace name) ⌝ }
 {
     let colour = Colour {
         space: 0,
@@ -172,8 +160,8 @@ fn none(name: NamePlace) -> Swatch
 
 // Record i of an accepted file, which has it.
 fn found(file: &[u8], colours: usize, lists: usize, i: usize) -> Swatch
-    requires { ⌜ Accepted (aco (now file)) lists colours × (i < colours) ⌝ }
-    ensures { λ r. ⌜ toldSwatch r ≡ recordAt i (aco (now (file .entry))) ⌝ }
+    requires { ⌜ Accepted report (aco (now file)) (colours, lists) × (i < colours) ⌝ }
+    ensures { λ r. ⌜ toldSwatch r ≡ handed (recordAt i (aco (now (file .entry)))) ⌝ }
 {
     let colour = colour_at(file, 4 + 10 * i);
     if lists == 1 {
@@ -191,7 +179,7 @@ fn found(file: &[u8], colours: usize, lists: usize, i: usize) -> Swatch
 
 // Record i of a file.
 pub fn record_at(file: &[u8], i: usize) -> Swatch
-    ensures { λ r. ⌜ toldSwatch r ≡ recordAt i (aco (now (file .entry))) ⌝ }
+    ensures { λ r. ⌜ toldSwatch r ≡ handed (recordAt i (aco (now (file .entry)))) ⌝ }
 {
     match aco_judge::judge(file) {
         Answer::Refused { number, place } => none(NamePlace::Refused { number, place }),
@@ -221,7 +209,7 @@ pub fn record_at(file: &[u8], i: usize) -> Swatch
 
 // The bytes of the name of record i, a part of the file; none where `record_at` refuses.
 pub fn name_at(file: &[u8], i: usize) -> &[u8]
-    ensures { λ r. ⌜ now r ≡ nameBytesAt (now (file .entry)) (recordAt i (aco (now (file .entry))) .1) ⌝ }
+    ensures { λ r. ⌜ now r ≡ nameBytesIn (now (file .entry)) (recordAt i (aco (now (file .entry)))) ⌝ }
 {
     let swatch = record_at(file, i);
     let found = swatch.name;

@@ -5,7 +5,7 @@ use Prim.Native.Nat.{ℕ, zero, suc, _+_, _*_, _-_, _≤_, _<_}
 use mathlib.Core.Path.{_≡_, sym, ap, subst}
 use mathlib.Core.List.{List, [], _∷_}
 use mathlib.Core.Bool.{Bool, true}
-use lib.ListN.{length, getD}
+use lib.ListN.{length}
 use borrow.Author.Tests.{eq-eqb, ne-eqb, le-leb, lt-leb}
 use native.Mathlib.Omega.{arith}
 use native.Mathlib.Nat.{lt-of-not-le}
@@ -17,7 +17,9 @@ use Rattle.algebra.proofs.Tells.{first-zero}
 use Rattle.algebra.proofs.Texts.{text-short}
 use Rattle.colour.specs.Spaces.{uses, known, allowed, sound}
 use Rattle.colour.proofs.Laws.{sound-inv}
-use Rattle.aco_records.specs.Writing.{Given, givenAt, givens, sizes, spaceFault, sampleFault, nameFault}
+use Rattle.algebra.specs.Table.{rowAt, rows}
+use Rattle.aco.specs.Row.{Given, width, taken}
+use Rattle.aco_records.specs.Writing.{sizes, spaceFault, sampleFault, nameFault}
 use Rattle.aco_records.specs.Parts.{start, EntryFits, EntriesFit}
 use Rattle.algebra.proofs.Firsts.{name-number}
 
@@ -83,16 +85,20 @@ name-inside names g e = elim (ℕ-discrete (g .units) 0) [
 
 -- ---- a loop over the records of a run
 
+-- record i of a run
+abbrev pub givenAt : List ℕ → ℕ → Given
+givenAt run i = taken (rowAt width run i)
+
 module _ (run : List ℕ) where
-  pub sizes-turn : (n i : ℕ) → i < n → sizes (givens run (n - i) i) ≡ 26 + 2 * getD run (7 * i + 6) 0 + sizes (givens run (n - (i + 1)) (i + 1))
+  pub sizes-turn : (n i : ℕ) → i < n → sizes (rows width taken run (n - i) i) ≡ 26 + 2 * givenAt run i .units + sizes (rows width taken run (n - (i + 1)) (i + 1))
   unfolding sizes
   sizes-turn n i h = ap sizes (counted-turn (givenAt run) n i h)
 
-  pub sizes-end : (n i : ℕ) → n ≤ i → sizes (givens run (n - i) i) ≡ 0
+  pub sizes-end : (n i : ℕ) → n ≤ i → sizes (rows width taken run (n - i) i) ≡ 0
   unfolding sizes
   sizes-end n i h = ap sizes (counted-end (givenAt run) n i h)
 
-  pub sizes-all : (n k : ℕ) → 26 * n ≤ sizes (givens run n k)
+  pub sizes-all : (n k : ℕ) → 26 * n ≤ sizes (rows width taken run n k)
   unfolding sizes counted
   sizes-all zero k = omega arith
   sizes-all (suc n) k = let h = sizes-all n (k + 1) in omega arith
@@ -100,11 +106,11 @@ module _ (run : List ℕ) where
 -- ---- what storing list 2 asks
 
 module _ (names run : List ℕ) where
-  pub fit-start : (n at room : ℕ) → EntriesFit names (givens run n 0) at room → EntriesFit names (givens run (n - 0) 0) at room
+  pub fit-start : (n at room : ℕ) → EntriesFit names (rows width taken run n 0) at room → EntriesFit names (rows width taken run (n - 0) 0) at room
   fit-start n at room e = subst (λ (gs : List Given). EntriesFit names gs at room) (counted-start (givenAt run) n) e
 
-  module _ (n i at room : ℕ) (h : i < n) (e : EntriesFit names (givens run (n - i) i) at room) where
-    none : (nameFault names (givenAt run i) ≡ 0) × (faults (nameFault names) (givens run (n - (i + 1)) (i + 1)) ≡ 0)
+  module _ (n i at room : ℕ) (h : i < n) (e : EntriesFit names (rows width taken run (n - i) i) at room) where
+    none : (nameFault names (givenAt run i) ≡ 0) × (faults (nameFault names) (rows width taken run (n - (i + 1)) (i + 1)) ≡ 0)
     none = faults-clear (nameFault names) (givenAt run) n i h (e .name)
 
     pub fit-next : EntryFits names (givenAt run i) at room
@@ -114,7 +120,7 @@ module _ (names run : List ℕ) where
         let m = sizes-all run (n - (i + 1)) (i + 1) in
         record { inside = omega (arith, e .inside); short = omega (arith, e .short); name = none .0 }
 
-    pub fit-rest : (k : ℕ) → 16 + 2 * givenAt run i .units ≡ k → EntriesFit names (givens run (n - (i + 1)) (i + 1)) (at + k) room
+    pub fit-rest : (k : ℕ) → 16 + 2 * givenAt run i .units ≡ k → EntriesFit names (rows width taken run (n - (i + 1)) (i + 1)) (at + k) room
     fit-rest k w =
         let t = sizes-turn run n i h in
         let l = length-counted (givenAt run) (n - i) i in

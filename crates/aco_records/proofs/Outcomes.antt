@@ -9,7 +9,8 @@ use native.Mathlib.Omega.{arith}
 use Rattle.algebra.specs.Reader.{pick, limit}
 use Rattle.algebra.specs.Faults.{firstOf, faults}
 use Rattle.aco.specs.Reading.{most}
-use Rattle.aco_records.specs.Writing.{Given, size, colourFault, nameFault, fault, needed}
+use Rattle.aco.specs.Row.{Given}
+use Rattle.aco_records.specs.Writing.{size, colourFault, nameFault, fault, needed}
 use Rattle.algebra.specs.Writing.{bytes, refused}
 use Rattle.algebra.proofs.Tells.{first-inv}
 use Rattle.algebra.proofs.Writing.{needs-no, needs-all, needs-inv}

@@ -13,7 +13,8 @@ use Rattle.colour.specs.Spaces.{known, allowed}
 use Rattle.aco.specs.Grammar.{twoLists}
 use Rattle.aco.specs.Reading.{most}
 use Rattle.aco_records.specs.Refusals.{refusals}
-use Rattle.aco_records.specs.Writing.{Given, swatchIn, size, spaceFault, sampleFault, colourFault, nameFault, fault, needed, written}
+use Rattle.aco.specs.Row.{Given}
+use Rattle.aco_records.specs.Writing.{swatchIn, size, spaceFault, sampleFault, colourFault, nameFault, fault, needed, written}
 
 colour-numbered : (g : Given) → Fault refusals (colourFault g)
 unfolding spaceFault sampleFault

@@ -1,14 +1,19 @@
--- What the stores of a record take of it.
+-- A record as the code has it, and what the stores of a record take of it.
 use Prim.Native.Nat.{ℕ, _+_, _*_, _%_, _≤_}
 use mathlib.Core.Path.{_≡_}
-use mathlib.Core.List.{List, [], map}
+use mathlib.Core.List.{List, [], _∷_, map}
 use lib.Dec.{eqb}
 use lib.ListN.{length}
 use Rattle.algebra.specs.Reader.{pick, limit}
 use Rattle.algebra.specs.Faults.{faults}
 use Rattle.colour.specs.declared.space.Colour.{Colour}
 use Rattle.aco.specs.Grammar.{Swatch}
-use Rattle.aco_records.specs.Writing.{Given, sizes, nameFault}
+use Rattle.aco.specs.Row.{Given}
+use Rattle.aco_records.specs.declared.Record.{Record}
+use Rattle.aco_records.specs.Writing.{sizes, nameFault}
+
+abbrev pub toldRecord : Record → Given
+toldRecord r = record { space = r .space; samples = r .a ∷ r .b ∷ r .c ∷ r .d ∷ []; first = r .first; units = r .units }
 
 -- its colour, each number cut to its field
 abbrev pub colourIn : Given → Colour

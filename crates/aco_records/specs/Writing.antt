@@ -1,9 +1,9 @@
 -- Writing records of a run of numbers: what is judged first, and the bytes that are made.
-use Prim.Native.Nat.{ℕ, _+_, _*_, _/_}
+use Prim.Native.Nat.{ℕ, _+_, _*_}
 use mathlib.Core.List.{List, [], _∷_, map}
-use lib.ListN.{length, getD}
+use lib.ListN.{length}
 use lib.Dec.{leb}
-use Rattle.algebra.specs.Numbers.{counted, nums}
+use Rattle.algebra.specs.Numbers.{nums}
 use Rattle.algebra.specs.Reader.{pick, numberOf, limit}
 use Rattle.algebra.specs.Text.{text}
 use Rattle.algebra.specs.Writing.{Outcome, needs, writes}
@@ -11,34 +11,10 @@ use Rattle.algebra.specs.Faults.{firstOf, faults, faultsFrom}
 use Rattle.colour.specs.Spaces.{known, allowed}
 use Rattle.aco.specs.Grammar.{Swatch, twoLists}
 use Rattle.aco.specs.Reading.{most}
+use Rattle.aco.specs.Row.{Given}
 
--- ---- the records of a run
+-- ---- the swatch of a record, apart from where its name lies
 
--- a record as it is given: its numbers, and its name by place and number of units in lent bytes
-pub record Given : Type 0 where
-  pub space : ℕ
-  pub samples : List ℕ
-  pub first : ℕ
-  pub units : ℕ
-
--- record k of a run, seven numbers to a record
-abbrev pub givenAt : List ℕ → ℕ → Given
-givenAt run k = record {
-  space = getD run (7 * k) 0;
-  samples = getD run (7 * k + 1) 0 ∷ getD run (7 * k + 2) 0 ∷ getD run (7 * k + 3) 0 ∷ getD run (7 * k + 4) 0 ∷ [];
-  first = getD run (7 * k + 5) 0;
-  units = getD run (7 * k + 6) 0;
-}
-
--- the n records from record k
-abbrev pub givens : List ℕ → ℕ → ℕ → List Given
-givens run n k = counted (givenAt run) n k
-
--- as many records as fit whole in a run
-abbrev pub given : List ℕ → List Given
-given run = givens run (length run / 7) 0
-
--- the record apart from where its name lies
 abbrev pub swatchIn : List ℕ → Given → Swatch
 swatchIn names g = record { space = g .space; samples = g .samples; name = nums 2 (g .units) names (g .first) }
 

@@ -3,15 +3,65 @@ ghost use mathlib.Core.Path.{_≡_};
 ghost use mathlib.Core.Bool.{true};
 ghost use Prim.Native.Nat.{_+_, _*_, _≤_, _<_};
 ghost use lib.Dec.{leb};
-ghost use lib.ListN.{length};
+ghost use lib.ListN.{length, getD};
 ghost use Rattle.algebra.specs.Reader.{pick, limit};
 ghost use Rattle.algebra.specs.Faults.{faults};
-ghost use Rattle.aco_records.specs.Writing.{givenAt, givens, given, size, sampleFault, spaceFault, colourFault, nameFault, needed};
+ghost use Rattle.algebra.specs.Table.{rowAt, rows, whole};
+ghost use Rattle.aco.specs.Row.{width, taken};
+ghost use Rattle.aco_records.specs.Writing.{size, sampleFault, spaceFault, colourFault, nameFault, needed};
+ghost use Rattle.aco_records.specs.Parts.{toldRecord};
 ghost use Rattle.algebra.specs.Writing.{bytes, refused};
 ghost use Rattle.fields.specs.Answer.{toldWritten};
 use aco::WIDTH;
 use fields::Step;
 use fields::Written;
+
+// A record of a run: its space, its samples, and where its name lies.
+pub struct Record {
+    pub space: u32,
+    pub a: u32,
+    pub b: u32,
+    pub c: u32,
+    pub d: u32,
+    pub first: u32,
+    pub units: u32,
+}
+
+// Number j of a row, or 0 where it has no such number.
+fn number_at(row: &[u32], j: usize) -> u32
+    ensures { λ r. ⌜ r ≡ getD (now (row .entry)) j 0 ⌝ }
+{
+    if row.len() <= j {
+        return 0;
+    }
+    row[j]
+}
+
+// The record of a row. Nothing else knows in which order a run has a record's numbers. Lent a row
+// of known length, it makes no test.
+pub fn record_of(row: &[u32]) -> Record
+    ensures { λ r. ⌜ toldRecord r ≡ taken (now (row .entry)) ⌝ }
+{
+    Record {
+        space: number_at(row, 0),
+        a: number_at(row, 1),
+        b: number_at(row, 2),
+        c: number_at(row, 3),
+        d: number_at(row, 4),
+        first: number_at(row, 5),
+        units: number_at(row, 6),
+    }
+}
+
+// Record k of a run that has it.
+fn record_at(run: &[u32], k: usize) -> Record
+    requires { ⌜ width * k + width ≤ length (now run) ⌝ }
+    ensures { λ r. ⌜ toldRecord r ≡ taken (rowAt width (now (run .entry)) k) ⌝ }
+{
+    let start = WIDTH * k;
+    let end = start + WIDTH;
+    record_of(&run[start..end])
+}
 
 // ---- judging
 
@@ -41,78 +91,75 @@ fn sample_fault(x: u32, k: u16, v: u32) -> u32
     5
 }
 
-// The fault of the colour of record k, field by field: its space, then its samples in order.
-fn fields_fault(run: &[u32], k: usize) -> u32
-    requires { ⌜ 7 * k + 7 ≤ length (now run) ⌝ }
-    ensures { λ r. ⌜ r ≡ colourFault (givenAt (now (run .entry)) k) ⌝ }
+// The fault of a record's colour, field by field: its space, then its samples in order.
+fn fields_fault(given: Record) -> u32
+    ensures { λ r. ⌜ r ≡ colourFault (toldRecord given) ⌝ }
 {
-    let x = run[WIDTH * k];
-    let s = space_fault(x);
+    let s = space_fault(given.space);
     if s != 0 {
         return s;
     }
-    let a = sample_fault(x, 0, run[WIDTH * k + 1]);
+    let a = sample_fault(given.space, 0, given.a);
     if a != 0 {
         return a;
     }
-    let b = sample_fault(x, 1, run[WIDTH * k + 2]);
+    let b = sample_fault(given.space, 1, given.b);
     if b != 0 {
         return b;
     }
-    let c = sample_fault(x, 2, run[WIDTH * k + 3]);
+    let c = sample_fault(given.space, 2, given.c);
     if c != 0 {
         return c;
     }
-    sample_fault(x, 3, run[WIDTH * k + 4])
+    sample_fault(given.space, 3, given.d)
 }
 
-// Whether the colour of record k fits its fields and has no fault.
-fn is_sound(run: &[u32], k: usize) -> bool
-    requires { ⌜ 7 * k + 7 ≤ length (now run) ⌝ }
-    ensures { λ r. ⌜ (r ≡ true → colourFault (givenAt (now (run .entry)) k) ≡ 0) ⌝ }
+// Whether a record's colour fits its fields and has no fault.
+fn is_sound(given: Record) -> bool
+    ensures { λ r. ⌜ (r ≡ true → colourFault (toldRecord given) ≡ 0) ⌝ }
 {
-    let x = run[WIDTH * k];
-    let a = run[WIDTH * k + 1];
-    let b = run[WIDTH * k + 2];
-    let c = run[WIDTH * k + 3];
-    let d = run[WIDTH * k + 4];
-    if 65535 < x {
+    if 65535 < given.space {
         return false;
     }
-    if 65535 < a {
+    if 65535 < given.a {
         return false;
     }
-    if 65535 < b {
+    if 65535 < given.b {
         return false;
     }
-    if 65535 < c {
+    if 65535 < given.c {
         return false;
     }
-    if 65535 < d {
+    if 65535 < given.d {
         return false;
     }
-    colour::is_sound(x as u16, a as u16, b as u16, c as u16, d as u16)
+    colour::is_sound(
+        given.space as u16,
+        given.a as u16,
+        given.b as u16,
+        given.c as u16,
+        given.d as u16,
+    )
 }
 
-// The fault of the colour of record k. Nearly all are sound, and only another is looked into.
-fn colour_fault(run: &[u32], k: usize) -> u32
-    requires { ⌜ 7 * k + 7 ≤ length (now run) ⌝ }
-    ensures { λ r. ⌜ r ≡ colourFault (givenAt (now (run .entry)) k) ⌝ }
+// The fault of a record's colour. Nearly all are sound, and only another is looked into.
+fn colour_fault(given: Record) -> u32
+    ensures { λ r. ⌜ r ≡ colourFault (toldRecord given) ⌝ }
 {
-    if is_sound(run, k) {
+    if is_sound(given) {
         return 0;
     }
-    fields_fault(run, k)
+    fields_fault(given)
 }
 
 // The first fault of the n colours.
 fn colours_fault(run: &[u32], n: usize) -> u32
-    requires { ⌜ 7 * n ≤ length (now run) ⌝ }
-    ensures { λ r. ⌜ r ≡ faults colourFault (givens (now (run .entry)) n 0) ⌝ }
+    requires { ⌜ width * n ≤ length (now run) ⌝ }
+    ensures { λ r. ⌜ r ≡ faults colourFault (rows width taken (now (run .entry)) n 0) ⌝ }
 {
     let mut i: usize = 0;
     while i < n {
-        let x = colour_fault(run, i);
+        let x = colour_fault(record_at(run, i));
         if x != 0 {
             return x;
         }
@@ -121,12 +168,11 @@ fn colours_fault(run: &[u32], n: usize) -> u32
     0
 }
 
-// The fault of the name of record k.
-fn name_fault(run: &[u32], text: &[u8], k: usize) -> u32
-    requires { ⌜ 7 * k + 7 ≤ length (now run) ⌝ }
-    ensures { λ r. ⌜ r ≡ nameFault (now (text .entry)) (givenAt (now (run .entry)) k) ⌝ }
+// The fault of a record's name.
+fn name_fault(text: &[u8], given: Record) -> u32
+    ensures { λ r. ⌜ r ≡ nameFault (now (text .entry)) (toldRecord given) ⌝ }
 {
-    match names::text_at(text, fields::wide(run[WIDTH * k + 5]), run[WIDTH * k + 6]) {
+    match names::text_at(text, fields::wide(given.first), given.units) {
         Step::Next(_) => 0,
         Step::Refused(x, _) => x,
     }
@@ -134,12 +180,12 @@ fn name_fault(run: &[u32], text: &[u8], k: usize) -> u32
 
 // The first fault of the n names.
 fn names_fault(run: &[u32], text: &[u8], n: usize) -> u32
-    requires { ⌜ 7 * n ≤ length (now run) ⌝ }
-    ensures { λ r. ⌜ r ≡ faults (nameFault (now (text .entry))) (givens (now (run .entry)) n 0) ⌝ }
+    requires { ⌜ width * n ≤ length (now run) ⌝ }
+    ensures { λ r. ⌜ r ≡ faults (nameFault (now (text .entry))) (rows width taken (now (run .entry)) n 0) ⌝ }
 {
     let mut i: usize = 0;
     while i < n {
-        let x = name_fault(run, text, i);
+        let x = name_fault(text, record_at(run, i));
         if x != 0 {
             return x;
         }
@@ -150,13 +196,14 @@ fn names_fault(run: &[u32], text: &[u8], n: usize) -> u32
 
 // How many bytes the n records take. It stops at the limit, so that no sum passes 64 bits.
 fn size_of(run: &[u32], n: usize) -> Written
-    requires { ⌜ 7 * n ≤ length (now run) ⌝ }
-    ensures { λ r. ⌜ toldWritten r ≡ pick (leb (size (givens (now (run .entry)) n 0)) limit) (bytes (size (givens (now (run .entry)) n 0))) (refused 1 0) ⌝ }
+    requires { ⌜ width * n ≤ length (now run) ⌝ }
+    ensures { λ r. ⌜ toldWritten r ≡ pick (leb (size (rows width taken (now (run .entry)) n 0)) limit) (bytes (size (rows width taken (now (run .entry)) n 0))) (refused 1 0) ⌝ }
 {
     let mut total: usize = 8;
     let mut i: usize = 0;
     while i < n {
-        total += 26 + 2 * fields::wide(run[WIDTH * i + 6]);
+        let given = record_at(run, i);
+        total += 26 + 2 * fields::wide(given.units);
         if aco::LIMIT < total {
             return Written::Refused(1);
         }
@@ -167,7 +214,7 @@ fn size_of(run: &[u32], n: usize) -> Written
 
 // The exact length that writing needs, or the refusal.
 pub fn write_length(records: &[u32], text: &[u8]) -> Written
-    ensures { λ r. ⌜ toldWritten r ≡ needed (now (text .entry)) (given (now (records .entry))) ⌝ }
+    ensures { λ r. ⌜ toldWritten r ≡ needed (now (text .entry)) (whole width taken (now (records .entry))) ⌝ }
 {
     let n = records.len() / WIDTH;
     let Written::Bytes(size) = size_of(records, n) else {

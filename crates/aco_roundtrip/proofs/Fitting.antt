@@ -23,7 +23,9 @@ use Rattle.aco.specs.Reading.{most}
 use Rattle.aco.specs.Faults.{fieldsFault, paletteFault, Fits}
 use Rattle.aco.specs.Faults as a
 use Rattle.aco.proofs.Whole.{length-one, length-two}
-use Rattle.aco_records.specs.Writing.{Given, givens, swatchIn, sizes, size, spaceFault, sampleFault, colourFault, nameFault, fault}
+use Rattle.algebra.specs.Table.{rows}
+use Rattle.aco.specs.Row.{Given, width, taken}
+use Rattle.aco_records.specs.Writing.{swatchIn, sizes, size, spaceFault, sampleFault, colourFault, nameFault, fault}
 use Rattle.aco_records.proofs.Judging.{space-is, space-small, sample-large, sample-is, name-inside}
 use Rattle.aco_write.proofs.Puts.{length-entry}
 use Rattle.aco_roundtrip.specs.Tie.{made, Fitting}
@@ -150,7 +152,7 @@ module _ (names : List ℕ) where
       (all-both A B 0 gs (all-both (λ k g. length (g .samples) ≡ 4) (λ k g. 2 * g .units ≤ limit) 0 gs four us) (all-both (λ k g. colourFault g ≡ 0) (λ k g. nameFault names g ≡ 0) 0 gs cs ns))
 
 -- a record of a run has four samples
-pub givens-four : (run : List ℕ) (n k i : ℕ) → All (λ k g. length (g .samples) ≡ 4) i (givens run n k)
+pub givens-four : (run : List ℕ) (n k i : ℕ) → All (λ k g. length (g .samples) ≡ 4) i (rows width taken run n k)
 unfolding counted
 givens-four run zero k i = tt
 givens-four run (suc n) k i = (refl, givens-four run n (k + 1) (i + 1))

@@ -1,57 +1,34 @@
 -- The records of an accepted file, from a table to a writer. Assumes nothing.
-use Prim.Native.Nat.{ℕ, _+_, _*_, _/_, _^_, _≤_, _<_}
+use Prim.Native.Nat.{ℕ, _+_, _*_, _^_, _≤_, _<_}
 use mathlib.Core.Path.{_≡_, refl, sym, ap, ap₂, _∙_, subst}
-use mathlib.Core.List.{List, [], _∷_, _++_, map}
+use mathlib.Core.List.{List, [], _∷_, map}
 use lib.ListN.{length, getD, length-append}
-use lib.Seq.{getD-append-add}
 use native.Mathlib.Omega.{arith}
-use native.Mathlib.Nat.{add-zero}
 use native.Mathlib.Decide.{ℕ-discrete}
 use Rattle.algebra.specs.Numbers.{counted, num, nums, joined, Bytes, All}
 use Rattle.algebra.specs.Reader.{ok}
 use Rattle.algebra.proofs.Exact.{all-map, all-both, all-by}
-use Rattle.algebra.proofs.Rows.{rows-back, length-rows}
 use Rattle.aco.specs.Grammar.{Swatch, Allowed, Palette, File, plain, named, entryBytes, listOne, listTwo, twoLists}
 use Rattle.aco.specs.Reading.{Entry, Contents, black, unnamed, aco, swatch}
 use Rattle.aco.specs.Faults.{Fits}
 use Rattle.aco.proofs.Faultless.{allowed-fits}
 use Rattle.aco.proofs.Whole.{length-entry, length-one, length-two}
 use Rattle.aco.proofs.RoundTrip.{accepted-allowed, records-count, one-record, lists-are, Placed, records-place}
-use Rattle.aco_read.specs.Table.{row}
-use Rattle.aco_records.specs.Writing.{Given, givenAt, givens, given, swatchIn}
-use Rattle.aco_write.proofs.Puts.{four}
+use Rattle.algebra.specs.Table.{whole}
+use Rattle.algebra.proofs.Table.{whole-back}
+use Rattle.aco.specs.Row.{Given, width, taken, givenOf, row}
+use Rattle.aco.proofs.Row.{length-numbers, taken-numbers}
+use Rattle.aco_records.specs.Writing.{swatchIn}
 use Rattle.aco_roundtrip.specs.Tie.{tabled, Fitting}
 use Rattle.algebra.proofs.Firsts.{all-image, all-source}
 
--- a record that was read, as it is given to a writer
-abbrev pub taken : Entry → Given
-taken e = record { space = e .colour .space; samples = e .colour .samples; first = e .name .first; units = length (e .name .units) }
-
 -- ---- a run made of rows gives the records
-
-row-back : (p : List ℕ) (k : ℕ) (e : Entry) (more : List ℕ) → length p ≡ 7 * k → length (e .colour .samples) ≡ 4 → givenAt (p ++ (row e ++ more)) k ≡ taken e
-row-back p k e more l h =
-    let vs : List ℕ = e .colour .samples in
-    let v : ℕ → ℕ = λ j. getD vs j 0 in
-    let y : List ℕ = e .colour .space ∷ v 0 ∷ v 1 ∷ v 2 ∷ v 3 ∷ e .name .first ∷ length (e .name .units) ∷ more in
-    let s : List ℕ = p ++ (row e ++ more) in
-    let is : s ≡ p ++ y = ap (λ (x : List ℕ). p ++ (e .colour .space ∷ ((x ++ (e .name .first ∷ length (e .name .units) ∷ [])) ++ more))) (four vs h) in
-    let at : (j : ℕ) → getD s (7 * k + j) 0 ≡ getD y j 0 = λ j. ap₂ (λ (x : List ℕ) (n : ℕ). getD x (n + j) 0) is (sym l) ∙ getD-append-add p y j 0 in
-    let zero-at : getD s (7 * k) 0 ≡ e .colour .space = ap (λ (n : ℕ). getD s n 0) (sym (add-zero (7 * k))) ∙ at 0 in
-    let cs : getD s (7 * k + 1) 0 ∷ getD s (7 * k + 2) 0 ∷ getD s (7 * k + 3) 0 ∷ getD s (7 * k + 4) 0 ∷ [] ≡ vs =
-    (λ i. at 1 i ∷ at 2 i ∷ at 3 i ∷ at 4 i ∷ []) ∙ sym (four vs h) in
-    λ i. record { space = zero-at i; samples = cs i; first = at 5 i; units = at 6 i }
-
-length-row : (e : Entry) → length (e .colour .samples) ≡ 4 → length (row e) ≡ 7
-length-row e h = omega (arith, length-append (e .colour .samples) (e .name .first ∷ length (e .name .units) ∷ []))
 
 abbrev Four : Entry → Type 0
 Four e = length (e .colour .samples) ≡ 4
 
-pub given-rows : (rs : List Entry) → All (λ j. Four) 0 rs → given (joined row rs) ≡ map taken rs
-given-rows rs h =
-    let n : length (joined row rs) / 7 ≡ length rs = omega (arith, length-rows 7 row givenAt taken Four length-row row-back rs h) in
-    ap (λ (k : ℕ). givens (joined row rs) k 0) n ∙ rows-back 7 row givenAt taken Four length-row row-back rs h
+pub given-rows : (rs : List Entry) → All (λ j. Four) 0 rs → whole width taken (joined row rs) ≡ map givenOf rs
+given-rows = whole-back width row taken givenOf Four (omega arith) (λ e. length-numbers (givenOf e)) (λ e. taken-numbers (givenOf e))
 
 -- ---- the names of an accepted file lie in it
 
@@ -78,7 +55,7 @@ all-lie s {c} e = all-by (λ k e. Lies s e) (unnamed black) 0 (c .records) (λ k
     go k h (yes one) = lies-unnamed s _ (ap (λ (r : Entry). r .name .units) (one-record s e one k h))
     go k h (no z) = let l = lists-are s e in let two : c .lists ≡ 2 = omega arith in lies-placed s k _ (records-place s e two k h)
 
-swatches-back : (s : List ℕ) (i : ℕ) (rs : List Entry) → All (λ k e. Lies s e) i rs → map (swatchIn s) (map taken rs) ≡ map swatch rs
+swatches-back : (s : List ℕ) (i : ℕ) (rs : List Entry) → All (λ k e. Lies s e) i rs → map (swatchIn s) (map givenOf rs) ≡ map swatch rs
 swatches-back s i [] h = refl
 swatches-back s i (e ∷ rs) h =
     ap₂ (λ (us : List ℕ) (ws : List Swatch). record { space = e .colour .space; samples = e .colour .samples; name = us } ∷ ws) (h .0 .are) (swatches-back s (i + 1) rs (h .1))
@@ -104,7 +81,7 @@ unfolding twoLists
 length-bare ws h n =
     omega (arith, length-append (listOne ws) (listTwo ws), length-one ws (all-map (λ k w. Allowed w) (λ k w. length (w .samples) ≡ 4) (λ k w a. a .four) 0 ws h), length-two ws, length-entries 0 ws h n)
 
-taken-fits : (s : List ℕ) (e : Entry) → Lies s e → Fits (swatch e) → Fitting s (taken e)
+taken-fits : (s : List ℕ) (e : Entry) → Lies s e → Fits (swatch e) → Fitting s (givenOf e)
 taken-fits s e l f = record {
   small = omega (arith, f .small);
   four = f .four;
@@ -119,7 +96,7 @@ module _ (s : List ℕ) (bytes : Bytes s) {c : Contents} {q : ℕ} (e : aco s �
       all-source swatch (λ k w. Fits w) 0 (c .records)
       (all-map (λ k w. Allowed w) (λ k w. Fits w) (λ k w h. allowed-fits w h) 0 (map swatch (c .records)) (palette-of (accepted-allowed bytes e .0) .swatches))
 
-  given-are : tabled c ≡ map taken (c .records)
+  given-are : tabled c ≡ map givenOf (c .records)
   given-are = given-rows (c .records) (all-map (λ k e. Fits (swatch e)) (λ k e. length (e .colour .samples) ≡ 4) (λ k e f. f .four) 0 (c .records) all-fit)
 
   -- they are the swatches that were read
@@ -130,5 +107,5 @@ module _ (s : List ℕ) (bytes : Bytes s) {c : Contents} {q : ℕ} (e : aco s �
   pub given-fit : All (λ k g. Fitting s g) 0 (tabled c)
   given-fit =
       subst (λ (gs : List Given). All (λ k g. Fitting s g) 0 gs) (sym given-are)
-      (all-image taken (λ k g. Fitting s g) 0 (c .records)
-      (all-map (λ k e. Lies s e × Fits (swatch e)) (λ k e. Fitting s (taken e)) (λ k e h. taken-fits s e (h .0) (h .1)) 0 (c .records) (all-both (λ k e. Lies s e) (λ k e. Fits (swatch e)) 0 (c .records) (all-lie s e) all-fit)))
+      (all-image givenOf (λ k g. Fitting s g) 0 (c .records)
+      (all-map (λ k e. Lies s e × Fits (swatch e)) (λ k e. Fitting s (givenOf e)) (λ k e h. taken-fits s e (h .0) (h .1)) 0 (c .records) (all-both (λ k e. Lies s e) (λ k e. Fits (swatch e)) 0 (c .records) (all-lie s e) all-fit)))

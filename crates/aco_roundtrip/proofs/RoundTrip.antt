@@ -17,7 +17,9 @@ use Rattle.aco.specs.Reading.{Contents, aco, swatch}
 use Rattle.aco.specs.Faults.{paletteFault}
 use Rattle.aco.specs.Places.{entryPlace}
 use Rattle.aco.proofs.RoundTrip.{allowed-reads, written-number, written-allowed, two-lists, lists-agree, records-place}
-use Rattle.aco_records.specs.Writing.{Given, given, swatchIn, size, fault, needed, written}
+use Rattle.algebra.specs.Table.{whole}
+use Rattle.aco.specs.Row.{Given, width, taken}
+use Rattle.aco_records.specs.Writing.{swatchIn, size, fault, needed, written}
 use Rattle.algebra.specs.Writing.{bytes}
 use Rattle.aco_roundtrip.specs.Tie.{Holds, made, tabled, Fitting}
 use Rattle.aco_roundtrip.proofs.Fitting.{length-made, all-four, all-fit, fault-same, faultless-fit, givens-four}
@@ -27,26 +29,26 @@ use Rattle.algebra.proofs.Firsts.{test-holds}
 -- ---- what is written reads back
 
 -- records without a fault are made into a file of two lists that holds them, and that is as long as the writer says
-pub written-reads : (text run : List ℕ) → Bytes text → fault text (given run) ≡ 0
-    → Holds (made text (given run)) 2 (map (swatchIn text) (given run)) × (length (made text (given run)) ≡ size (given run))
+pub written-reads : (text run : List ℕ) → Bytes text → fault text (whole width taken run) ≡ 0
+    → Holds (made text (whole width taken run)) 2 (map (swatchIn text) (whole width taken run)) × (length (made text (whole width taken run)) ≡ size (whole width taken run))
 written-reads text run b e =
-    let gs : List Given = given run in
+    let gs : List Given = whole width taken run in
     let ws : List Swatch = map (swatchIn text) gs in
     let fit = faultless-fit text gs (givens-four run _ 0 0) e in
     let x = test-holds (leb (length (twoLists ws)) limit) (paletteFault ws) 1 (omega arith) (sym (fault-same text gs fit) ∙ e) in
     (allowed-reads (written-allowed ws (all-fit text gs fit b) (x .1) (leb-true (length (twoLists ws)) limit (x .0))), length-made text gs (all-four text gs fit))
 
 -- where the writer says that it wrote n bytes, the first n bytes are a file of two lists that holds the records that were given, and the rest is as it was
-pub written-holds : (text run out out′ : List ℕ) (n : ℕ) → Bytes text → written text (given run) out ≡ (bytes n, out′)
-    → (n ≤ length out′) × (length out′ ≡ length out) × Holds (take n out′) 2 (map (swatchIn text) (given run)) × (drop n out′ ≡ drop n out)
+pub written-holds : (text run out out′ : List ℕ) (n : ℕ) → Bytes text → written text (whole width taken run) out ≡ (bytes n, out′)
+    → (n ≤ length out′) × (length out′ ≡ length out) × Holds (take n out′) 2 (map (swatchIn text) (whole width taken run)) × (drop n out′ ≡ drop n out)
 written-holds text run out out′ n b e =
-    let file : List ℕ = made text (given run) in
-    let i = written-inv text (given run) out e in
+    let file : List ℕ = made text (whole width taken run) in
+    let i = written-inv text (whole width taken run) out e in
     let r = written-reads text run b (i .none) in
     let l : length file ≡ n = r .1 ∙ i .size-is in
     let m : length out′ ≡ length out = ap length (i .is) ∙ length-append file (drop n out) ∙ omega (arith, length-drop n out, i .inside) in
     let t : take n out′ ≡ file = ap (take n) (i .is) ∙ take-at file (drop n out) n l in
-    (omega (arith, i .inside), m, subst (λ (f : List ℕ). Holds f 2 (map (swatchIn text) (given run))) (sym t) (r .0), ap (drop n) (i .is) ∙ drop-at file (drop n out) n l)
+    (omega (arith, i .inside), m, subst (λ (f : List ℕ). Holds f 2 (map (swatchIn text) (whole width taken run))) (sym t) (r .0), ap (drop n) (i .is) ∙ drop-at file (drop n out) n l)
 
 -- ---- what is read is written back
 

@@ -7,8 +7,9 @@ use Rattle.algebra.specs.Numbers.{joined, All}
 use Rattle.algebra.specs.Reader.{ok}
 use Rattle.aco.specs.Grammar.{Swatch, twoLists}
 use Rattle.aco.specs.Reading.{Contents, aco, swatch}
-use Rattle.aco_read.specs.Table.{row}
-use Rattle.aco_records.specs.Writing.{Given, given, swatchIn}
+use Rattle.algebra.specs.Table.{whole}
+use Rattle.aco.specs.Row.{Given, width, taken, row}
+use Rattle.aco_records.specs.Writing.{swatchIn}
 
 -- the file b is accepted to its end, with l lists, and holds the swatches ws
 abbrev pub Holds : List ℕ → ℕ → List Swatch → Type 0
@@ -20,7 +21,7 @@ made text gs = twoLists (map (swatchIn text) gs)
 
 -- the records of a file that was read, given to a writer by the table that `read` fills
 abbrev pub tabled : Contents → List Given
-tabled c = given (joined row (c .records))
+tabled c = whole width taken (joined row (c .records))
 
 -- a given record's numbers fit their fields, and its name, unless it is empty, lies in `text`; it may be refused all the same
 pub record Fitting (text : List ℕ) (g : Given) : Type 0 where

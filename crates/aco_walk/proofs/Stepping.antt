@@ -14,11 +14,12 @@ use Rattle.algebra.proofs.Inverse.{clash, ok-value, ok-place, done-inv}
 use Rattle.colour.specs.declared.space.Colour.{Colour}
 use Rattle.colour.specs.Spaces.{known, allowed, sound}
 use Rattle.aco.specs.Reading.{colour, Entry, Contents, black, unnamed, aco}
-use Rattle.aco_judge.specs.Answer.{accepted, refused, verdict}
+use Rattle.algebra.specs.Table.{accepted, refused, verdict}
+use Rattle.aco_judge.specs.Answer.{report}
 use Rattle.aco.proofs.Raw.{Good, colour-inv}
 use Rattle.aco_judge.proofs.Judging.{colour-sound}
 use Rattle.aco_read.proofs.Filling.{five}
-use Rattle.aco_read.proofs.Answers.{accepted-of, refused-of}
+use Rattle.algebra.proofs.Table.{accepted-of, refused-of}
 use Rattle.walk.specs.Walk as w
 use Rattle.walk.proofs.Calls.{step-over, step-elsewhere}
 use Rattle.aco_walk.specs.Walking.{countOf, isPlain, firstPlace, titled, labelled, swatchFrom, walk, lentOf, starts, refusal, startOf}
@@ -132,14 +133,14 @@ unfolding firstPlace
 first-plain s p = sym (rw p)
 
 module _ (s : List ℕ) where
-  pub start-refused : {x p r f : ℕ} → refused x p r f ≡ verdict (aco s) → refusal x p r f ≡ startOf (aco s) s
-  start-refused e = sym (ap (λ (m : Res Contents). startOf m s) (refused-of (aco s) e))
+  pub start-refused : {x p r f : ℕ} → refused x p r f ≡ verdict report (aco s) → refusal x p r f ≡ startOf (aco s) s
+  start-refused e = sym (ap (λ (m : Res Contents). startOf m s) (refused-of report (aco s) e))
 
-  pub start-is : {n l : ℕ} → accepted n l ≡ verdict (aco s) → (p : ℕ) → p ≡ firstPlace s → starts p ≡ startOf (aco s) s
-  start-is v p e = ap starts e ∙ sym (ap (λ (m : Res Contents). startOf m s) (accepted-of (aco s) v .2))
+  pub start-is : {w : ℕ × ℕ} → accepted w ≡ verdict report (aco s) → (p : ℕ) → p ≡ firstPlace s → starts p ≡ startOf (aco s) s
+  start-is v p e = ap starts e ∙ sym (ap (λ (m : Res Contents). startOf m s) (accepted-of report (aco s) v .2))
 
-  pub lent-refused : {x p r f : ℕ} → refused x p r f ≡ verdict (aco s) → [] ≡ lentOf (aco s) s
-  lent-refused e = sym (ap (λ (m : Res Contents). lentOf m s) (refused-of (aco s) e))
+  pub lent-refused : {x p r f : ℕ} → refused x p r f ≡ verdict report (aco s) → [] ≡ lentOf (aco s) s
+  lent-refused e = sym (ap (λ (m : Res Contents). lentOf m s) (refused-of report (aco s) e))
 
-  pub lent-is : {n l : ℕ} → accepted n l ≡ verdict (aco s) → s ≡ lentOf (aco s) s
-  lent-is v = sym (ap (λ (m : Res Contents). lentOf m s) (accepted-of (aco s) v .2))
+  pub lent-is : {w : ℕ × ℕ} → accepted w ≡ verdict report (aco s) → s ≡ lentOf (aco s) s
+  lent-is v = sym (ap (λ (m : Res Contents). lentOf m s) (accepted-of report (aco s) v .2))

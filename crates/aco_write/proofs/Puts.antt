@@ -19,9 +19,12 @@ use Rattle.algebra.proofs.Exact.{length-map, length-nameBytes}
 use Rattle.colour.specs.declared.space.Colour.{Colour}
 use Rattle.aco.specs.Grammar.{Swatch, colourBytes, entryBytes, listOne, listTwo, twoLists}
 use Rattle.aco.proofs.Whole.{length-colour}
-use Rattle.aco_records.specs.Writing.{Given, givenAt, givens, swatchIn, sizes, size, nameFault}
+use Rattle.algebra.specs.Table.{rows}
+use Rattle.aco.specs.Row.{Given, width, taken}
+use Rattle.aco.proofs.Row.{four}
+use Rattle.aco_records.specs.Writing.{swatchIn, sizes, size, nameFault}
 use Rattle.aco_records.specs.Parts.{colourIn, plain, start}
-use Rattle.aco_records.proofs.Judging.{name-inside}
+use Rattle.aco_records.proofs.Judging.{givenAt, name-inside}
 use Rattle.algebra.proofs.Storing.{as-sets, peel}
 
 -- ---- one store
@@ -37,15 +40,6 @@ put-part out o at e l h k n w =
     ∙ sym (append-assoc (take at out) l (drop (at + length l) out)) ∙ sym (sets-eq l out at (omega arith))
 
 -- ---- a colour
-
--- a list of four by its elements
-pub four : (l : List ℕ) → length l ≡ 4 → l ≡ getD l 0 0 ∷ getD l 1 0 ∷ getD l 2 0 ∷ getD l 3 0 ∷ []
-four [] e = absurd (omega arith)
-four (a ∷ []) e = absurd (omega arith)
-four (a ∷ b ∷ []) e = absurd (omega arith)
-four (a ∷ b ∷ c ∷ []) e = absurd (omega arith)
-four (a ∷ b ∷ c ∷ d ∷ []) e = refl
-four (a ∷ b ∷ c ∷ d ∷ x ∷ l) e = absurd (omega arith)
 
 five : (o₀ o₁ o₂ o₃ o₄ o₅ : List ℕ) (at a b c d e : ℕ) → o₁ ≡ sets o₀ at (be 2 a) → o₂ ≡ sets o₁ (at + 2) (be 2 b) → o₃ ≡ sets o₂ (at + 4) (be 2 c)
     → o₄ ≡ sets o₃ (at + 6) (be 2 d) → o₅ ≡ sets o₄ (at + 8) (be 2 e) → o₅ ≡ sets o₀ at (be 2 a ++ joined (be 2) (b ∷ c ∷ d ∷ e ∷ []))
@@ -125,17 +119,17 @@ put-record names b g o₀ o₁ o₂ at k l e f h m e₁ e₂ =
 -- ---- a loop that stores the bytes of the records of a run
 
 module _ (run : List ℕ) (f : Given → Swatch) (ser : Swatch → List ℕ) (all out : List ℕ) (n i at : ℕ) where
-  pub puts-start : all ≡ sets out at (joined ser (map f (givens run n 0))) → all ≡ sets out at (joined ser (map f (givens run (n - 0) 0)))
+  pub puts-start : all ≡ sets out at (joined ser (map f (rows width taken run n 0))) → all ≡ sets out at (joined ser (map f (rows width taken run (n - 0) 0)))
   puts-start e = e ∙ ap (λ (gs : List Given). sets out at (joined ser (map f gs))) (counted-start (givenAt run) n)
 
-  pub puts-turn : all ≡ sets out at (joined ser (map f (givens run (n - i) i))) → i < n → (o : List ℕ) (k : ℕ) → length (ser (f (givenAt run i))) ≡ k → o ≡ sets out at (ser (f (givenAt run i)))
-      → all ≡ sets o (at + k) (joined ser (map f (givens run (n - (i + 1)) (i + 1))))
+  pub puts-turn : all ≡ sets out at (joined ser (map f (rows width taken run (n - i) i))) → i < n → (o : List ℕ) (k : ℕ) → length (ser (f (givenAt run i))) ≡ k → o ≡ sets out at (ser (f (givenAt run i)))
+      → all ≡ sets o (at + k) (joined ser (map f (rows width taken run (n - (i + 1)) (i + 1))))
   unfolding joined
   puts-turn e h o k l s =
       e ∙ ap (λ (gs : List Given). sets out at (joined ser (map f gs))) (counted-turn (givenAt run) n i h)
-      ∙ peel out o (ser (f (givenAt run i))) (joined ser (map f (givens run (n - (i + 1)) (i + 1)))) at k (at + k) l refl s
+      ∙ peel out o (ser (f (givenAt run i))) (joined ser (map f (rows width taken run (n - (i + 1)) (i + 1)))) at k (at + k) l refl s
 
-  pub puts-end : all ≡ sets out at (joined ser (map f (givens run (n - i) i))) → n ≤ i → out ≡ all
+  pub puts-end : all ≡ sets out at (joined ser (map f (rows width taken run (n - i) i))) → n ≤ i → out ≡ all
   unfolding joined
   puts-end e h = sym (e ∙ ap (λ (gs : List Given). sets out at (joined ser (map f gs))) (counted-end (givenAt run) n i h))
 
@@ -148,39 +142,39 @@ same-colours names [] = refl
 same-colours names (g ∷ gs) = ap (λ (l : List ℕ). (be 2 (g .space) ++ joined (be 2) (g .samples)) ++ l) (same-colours names gs)
 
 module _ (run names : List ℕ) where
-  length-colours : (n k : ℕ) → length (joined colourBytes (map (swatchIn names) (givens run n k))) ≡ 10 * n
+  length-colours : (n k : ℕ) → length (joined colourBytes (map (swatchIn names) (rows width taken run n k))) ≡ 10 * n
   unfolding joined counted
   length-colours zero k = refl
   length-colours (suc n) k =
       let w : Swatch = swatchIn names (givenAt run k) in
-      length-append (colourBytes w) (joined colourBytes (map (swatchIn names) (givens run n (k + 1)))) ∙ omega (arith, length-colour w refl, length-colours n (k + 1))
+      length-append (colourBytes w) (joined colourBytes (map (swatchIn names) (rows width taken run n (k + 1)))) ∙ omega (arith, length-colour w refl, length-colours n (k + 1))
 
-  length-entries : (n k : ℕ) → length (joined entryBytes (map (swatchIn names) (givens run n k))) + 10 * n ≡ sizes (givens run n k)
+  length-entries : (n k : ℕ) → length (joined entryBytes (map (swatchIn names) (rows width taken run n k))) + 10 * n ≡ sizes (rows width taken run n k)
   unfolding joined counted sizes
   length-entries zero k = refl
   length-entries (suc n) k =
       let g : Given = givenAt run k in
-      let a = length-append (entryBytes (swatchIn names g)) (joined entryBytes (map (swatchIn names) (givens run n (k + 1)))) in
+      let a = length-append (entryBytes (swatchIn names g)) (joined entryBytes (map (swatchIn names) (rows width taken run n (k + 1)))) in
       omega (arith, a, length-entry names g refl, length-entries n (k + 1))
 
   module _ (n : ℕ) where
-    length-swatches : length (map (swatchIn names) (givens run n 0)) ≡ n
-    length-swatches = length-map (swatchIn names) (givens run n 0) ∙ length-counted (givenAt run) n 0
+    length-swatches : length (map (swatchIn names) (rows width taken run n 0)) ≡ n
+    length-swatches = length-map (swatchIn names) (rows width taken run n 0) ∙ length-counted (givenAt run) n 0
 
     -- the six stores of a file, one after the other
     file : List ℕ
-    file = be 2 1 ++ (be 2 n ++ (joined colourBytes (map (swatchIn names) (givens run n 0)) ++ (be 2 2 ++ (be 2 n ++ joined entryBytes (map (swatchIn names) (givens run n 0))))))
+    file = be 2 1 ++ (be 2 n ++ (joined colourBytes (map (swatchIn names) (rows width taken run n 0)) ++ (be 2 2 ++ (be 2 n ++ joined entryBytes (map (swatchIn names) (rows width taken run n 0))))))
 
-    file-is : file ≡ twoLists (map (swatchIn names) (givens run n 0))
+    file-is : file ≡ twoLists (map (swatchIn names) (rows width taken run n 0))
     unfolding file twoLists listOne listTwo
     file-is =
-        let ws : List Swatch = map (swatchIn names) (givens run n 0) in
+        let ws : List Swatch = map (swatchIn names) (rows width taken run n 0) in
         sym (ap (λ (k : ℕ). (be 2 1 ++ (be 2 k ++ joined colourBytes ws)) ++ (be 2 2 ++ (be 2 k ++ joined entryBytes ws))) length-swatches ∙ simp append-assoc)
 
-    pub length-file : length (twoLists (map (swatchIn names) (givens run n 0))) ≡ size (givens run n 0)
+    pub length-file : length (twoLists (map (swatchIn names) (rows width taken run n 0))) ≡ size (rows width taken run n 0)
     unfolding twoLists listOne listTwo
     length-file =
-        let ws : List Swatch = map (swatchIn names) (givens run n 0) in
+        let ws : List Swatch = map (swatchIn names) (rows width taken run n 0) in
         let a = length-append (listOne ws) (listTwo ws) in
         let b = length-append (be 2 1) (be 2 (length ws) ++ joined colourBytes ws) in
         let c = length-append (be 2 (length ws)) (joined colourBytes ws) in
@@ -189,12 +183,12 @@ module _ (run names : List ℕ) where
         omega (arith, a, b, c, d, e, length-be 2 1, length-be 2 2, length-be 2 (length ws), length-colours n 0, length-entries n 0)
 
     module _ (o₀ o₁ o₂ o₃ o₄ o₅ o₆ : List ℕ) (h : 8 + 10 * n ≤ length o₀) where
-      pub put-file : o₁ ≡ stored o₀ 0 (be 2 1) → o₂ ≡ stored o₁ 2 (be 2 n) → o₃ ≡ sets o₂ 4 (joined colourBytes (map (swatchIn []) (givens run n 0))) → length o₃ ≡ length o₂
-          → o₄ ≡ stored o₃ (4 + 10 * n) (be 2 2) → o₅ ≡ stored o₄ (6 + 10 * n) (be 2 n) → o₆ ≡ sets o₅ (8 + 10 * n) (joined entryBytes (map (swatchIn names) (givens run n 0)))
-          → o₆ ≡ sets o₀ 0 (twoLists (map (swatchIn names) (givens run n 0)))
+      pub put-file : o₁ ≡ stored o₀ 0 (be 2 1) → o₂ ≡ stored o₁ 2 (be 2 n) → o₃ ≡ sets o₂ 4 (joined colourBytes (map (swatchIn []) (rows width taken run n 0))) → length o₃ ≡ length o₂
+          → o₄ ≡ stored o₃ (4 + 10 * n) (be 2 2) → o₅ ≡ stored o₄ (6 + 10 * n) (be 2 n) → o₆ ≡ sets o₅ (8 + 10 * n) (joined entryBytes (map (swatchIn names) (rows width taken run n 0)))
+          → o₆ ≡ sets o₀ 0 (twoLists (map (swatchIn names) (rows width taken run n 0)))
       unfolding file
       put-file e₁ e₂ e₃ l₃ e₄ e₅ e₆ =
-          let ws : List Swatch = map (swatchIn names) (givens run n 0) in
+          let ws : List Swatch = map (swatchIn names) (rows width taken run n 0) in
           let l₁ : length o₁ ≡ length o₀ = ap length e₁ ∙ length-stored o₀ 0 (be 2 1) in
           let l₂ : length o₂ ≡ length o₁ = ap length e₂ ∙ length-stored o₁ 2 (be 2 n) in
           let l₄ : length o₄ ≡ length o₃ = ap length e₄ ∙ length-stored o₃ (4 + 10 * n) (be 2 2) in
@@ -204,15 +198,15 @@ module _ (run names : List ℕ) where
           ap (sets o₀ 0) (sym file-is)
           ∙ peel o₀ o₁ (be 2 1) _ 0 2 2 (length-be 2 1) refl (as-sets o₁ o₀ 0 (be 2 1) 2 e₁ (length-be 2 1) (omega arith))
           ∙ peel o₁ o₂ (be 2 n) _ 2 2 4 (length-be 2 n) refl (as-sets o₂ o₁ 2 (be 2 n) 2 e₂ (length-be 2 n) (omega arith))
-          ∙ peel o₂ o₃ (joined colourBytes ws) _ 4 (10 * n) (4 + 10 * n) (length-colours n 0) refl (e₃ ∙ ap (sets o₂ 4) (same-colours names (givens run n 0)))
+          ∙ peel o₂ o₃ (joined colourBytes ws) _ 4 (10 * n) (4 + 10 * n) (length-colours n 0) refl (e₃ ∙ ap (sets o₂ 4) (same-colours names (rows width taken run n 0)))
           ∙ peel o₃ o₄ (be 2 2) _ (4 + 10 * n) 2 (6 + 10 * n) (length-be 2 2) p (as-sets o₄ o₃ (4 + 10 * n) (be 2 2) 2 e₄ (length-be 2 2) (omega arith))
           ∙ peel o₄ o₅ (be 2 n) _ (6 + 10 * n) 2 (8 + 10 * n) (length-be 2 n) q (as-sets o₅ o₄ (6 + 10 * n) (be 2 n) 2 e₅ (length-be 2 n) (omega arith)))
 
     -- a file stored in front of what was there
-    pub file-front : (out o : List ℕ) → size (givens run n 0) ≤ length out → o ≡ sets out 0 (twoLists (map (swatchIn names) (givens run n 0)))
-        → o ≡ twoLists (map (swatchIn names) (givens run n 0)) ++ drop (size (givens run n 0)) out
+    pub file-front : (out o : List ℕ) → size (rows width taken run n 0) ≤ length out → o ≡ sets out 0 (twoLists (map (swatchIn names) (rows width taken run n 0)))
+        → o ≡ twoLists (map (swatchIn names) (rows width taken run n 0)) ++ drop (size (rows width taken run n 0)) out
     file-front out o h e =
-        let l : List ℕ = twoLists (map (swatchIn names) (givens run n 0)) in
-        let m : length l ≡ size (givens run n 0) = length-file in
-        let z : 0 + length l ≡ size (givens run n 0) = omega arith in
+        let l : List ℕ = twoLists (map (swatchIn names) (rows width taken run n 0)) in
+        let m : length l ≡ size (rows width taken run n 0) = length-file in
+        let z : 0 + length l ≡ size (rows width taken run n 0) = omega arith in
         e ∙ sets-eq l out 0 (omega arith) ∙ ap (λ (k : ℕ). l ++ drop k out) z

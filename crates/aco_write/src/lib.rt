@@ -7,11 +7,14 @@ ghost use lib.Seq.{sets};
 ghost use Rattle.algebra.specs.Numbers.{joined};
 ghost use Rattle.aco.specs.Grammar.{colourBytes, entryBytes, twoLists};
 ghost use Rattle.aco.specs.Reading.{most};
-ghost use Rattle.aco_records.specs.Writing.{givenAt, givens, given, swatchIn, size, written};
+ghost use Rattle.algebra.specs.Table.{rowAt, rows, whole};
+ghost use Rattle.aco.specs.Row.{width, taken};
+ghost use Rattle.aco_records.specs.Writing.{swatchIn, size, written};
 ghost use Rattle.algebra.specs.Writing.{bytes};
 ghost use Rattle.fields.specs.Answer.{toldWritten};
-ghost use Rattle.aco_records.specs.Parts.{colourIn, plain, start, EntryFits, EntriesFit};
+ghost use Rattle.aco_records.specs.Parts.{toldRecord, colourIn, plain, start, EntryFits, EntriesFit};
 use aco::WIDTH;
+use aco_records::Record;
 use colour::Colour;
 use fields::Written;
 
@@ -24,18 +27,26 @@ fn low(x: u32) -> u16
     (x % 65536) as u16
 }
 
-// The colour of record k.
-fn colour_of(run: &[u32], k: usize) -> Colour
-    requires { ⌜ 7 * k + 7 ≤ length (now run) ⌝ }
-    ensures { λ r. ⌜ r ≡ colourIn (givenAt (now (run .entry)) k) ⌝ }
+// Record k of a run that has it.
+fn record_at(run: &[u32], k: usize) -> Record
+    requires { ⌜ width * k + width ≤ length (now run) ⌝ }
+    ensures { λ r. ⌜ toldRecord r ≡ taken (rowAt width (now (run .entry)) k) ⌝ }
 {
-    let space = low(run[WIDTH * k]);
-    let a = low(run[WIDTH * k + 1]);
-    let b = low(run[WIDTH * k + 2]);
-    let c = low(run[WIDTH * k + 3]);
-    let d = low(run[WIDTH * k + 4]);
+    let start = WIDTH * k;
+    let end = start + WIDTH;
+    aco_records::record_of(&run[start..end])
+}
+
+// The colour of a record.
+fn colour_of(given: Record) -> Colour
+    ensures { λ r. ⌜ r ≡ colourIn (toldRecord given) ⌝ }
+{
+    let a = low(given.a);
+    let b = low(given.b);
+    let c = low(given.c);
+    let d = low(given.d);
     Colour {
-        space: space,
+        space: low(given.space),
         samples: [a, b, c, d],
     }
 }
@@ -63,59 +74,58 @@ fn put_colour(out: &mut [u8], at: usize, colour: Colour)
 
 // The n colours of list 1.
 fn put_colours(out: &mut [u8], at: usize, run: &[u32], n: usize)
-    requires { ⌜ (at + 10 * n ≤ length (now out)) × (7 * n ≤ length (now run)) ⌝ }
-    ensures { λ _. ⌜ now (out .exit) ≡ sets (now (out .entry)) at (joined colourBytes (map (swatchIn []) (givens (now (run .entry)) n 0))) ⌝ }
+    requires { ⌜ (at + 10 * n ≤ length (now out)) × (width * n ≤ length (now run)) ⌝ }
+    ensures { λ _. ⌜ now (out .exit) ≡ sets (now (out .entry)) at (joined colourBytes (map (swatchIn []) (rows width taken (now (run .entry)) n 0))) ⌝ }
 {
     let mut p = at;
     let mut i: usize = 0;
     while i < n {
-        put_colour(out, p, colour_of(run, i));
+        put_colour(out, p, colour_of(record_at(run, i)));
         p += 10;
         i += 1;
     }
 }
 
-// Where the name of record k begins; 0 for a name of no units, whose place may be any.
-fn name_start(run: &[u32], k: usize) -> usize
-    requires { ⌜ 7 * k + 7 ≤ length (now run) ⌝ }
-    ensures { λ r. ⌜ r ≡ start (givenAt (now (run .entry)) k) ⌝ }
+// Where a record's name begins; 0 for a name of no units, whose place may be any.
+fn name_start(given: Record) -> usize
+    ensures { λ r. ⌜ r ≡ start (toldRecord given) ⌝ }
 {
-    if run[WIDTH * k + 6] == 0 {
+    if given.units == 0 {
         return 0;
     }
-    fields::wide(run[WIDTH * k + 5])
+    fields::wide(given.first)
 }
 
-// Record k of list 2.
-fn put_entry(out: &mut [u8], at: usize, run: &[u32], text: &[u8], k: usize)
-    requires { ⌜ (7 * k + 7 ≤ length (now run)) × EntryFits (now text) (givenAt (now run) k) at (length (now out)) ⌝ }
-    ensures { λ _. ⌜ now (out .exit) ≡ sets (now (out .entry)) at (entryBytes (swatchIn (now (text .entry)) (givenAt (now (run .entry)) k))) ⌝ }
+// A record of list 2.
+fn put_entry(out: &mut [u8], at: usize, given: Record, text: &[u8])
+    requires { ⌜ EntryFits (now text) (toldRecord given) at (length (now out)) ⌝ }
+    ensures { λ _. ⌜ now (out .exit) ≡ sets (now (out .entry)) at (entryBytes (swatchIn (now (text .entry)) (toldRecord given))) ⌝ }
 {
-    put_colour(out, at, colour_of(run, k));
-    let units = run[WIDTH * k + 6];
-    let first = name_start(run, k);
-    let end = first + 2 * fields::wide(units);
-    fields::put_name32(out, at + 10, units + 1, &text[first..end]);
+    put_colour(out, at, colour_of(given));
+    let first = name_start(given);
+    let end = first + 2 * fields::wide(given.units);
+    fields::put_name32(out, at + 10, given.units + 1, &text[first..end]);
 }
 
 // The n records of list 2.
 fn put_entries(out: &mut [u8], at: usize, run: &[u32], text: &[u8], n: usize)
-    requires { ⌜ (7 * n ≤ length (now run)) × EntriesFit (now text) (givens (now run) n 0) at (length (now out)) ⌝ }
-    ensures { λ _. ⌜ now (out .exit) ≡ sets (now (out .entry)) at (joined entryBytes (map (swatchIn (now (text .entry))) (givens (now (run .entry)) n 0))) ⌝ }
+    requires { ⌜ (width * n ≤ length (now run)) × EntriesFit (now text) (rows width taken (now run) n 0) at (length (now out)) ⌝ }
+    ensures { λ _. ⌜ now (out .exit) ≡ sets (now (out .entry)) at (joined entryBytes (map (swatchIn (now (text .entry))) (rows width taken (now (run .entry)) n 0))) ⌝ }
 {
     let mut p = at;
     let mut i: usize = 0;
     while i < n {
-        put_entry(out, p, run, text, i);
-        p += 16 + 2 * fields::wide(run[WIDTH * i + 6]);
+        let given = record_at(run, i);
+        put_entry(out, p, given, text);
+        p += 16 + 2 * fields::wide(given.units);
         i += 1;
     }
 }
 
 // The whole file.
 fn put_lists(out: &mut [u8], run: &[u32], text: &[u8], n: usize)
-    requires { ⌜ (7 * n ≤ length (now run)) × (n ≤ most) × EntriesFit (now text) (givens (now run) n 0) (8 + 10 * n) (length (now out)) ⌝ }
-    ensures { λ _. ⌜ now (out .exit) ≡ sets (now (out .entry)) 0 (twoLists (map (swatchIn (now (text .entry))) (givens (now (run .entry)) n 0))) ⌝ }
+    requires { ⌜ (width * n ≤ length (now run)) × (n ≤ most) × EntriesFit (now text) (rows width taken (now run) n 0) (8 + 10 * n) (length (now out)) ⌝ }
+    ensures { λ _. ⌜ now (out .exit) ≡ sets (now (out .entry)) 0 (twoLists (map (swatchIn (now (text .entry))) (rows width taken (now (run .entry)) n 0))) ⌝ }
 {
     fields::put_u16(out, 0, 1);
     fields::put_u16(out, 2, n as u16);
@@ -127,7 +137,7 @@ fn put_lists(out: &mut [u8], run: &[u32], text: &[u8], n: usize)
 
 // Writes the records, whose names lie in `text`, into `out`; a refusal changes nothing.
 pub fn write(records: &[u32], text: &[u8], out: &mut [u8]) -> Written
-    ensures { λ r. ⌜ (toldWritten r, now (out .exit)) ≡ written (now (text .entry)) (given (now (records .entry))) (now (out .entry)) ⌝ }
+    ensures { λ r. ⌜ (toldWritten r, now (out .exit)) ≡ written (now (text .entry)) (whole width taken (now (records .entry))) (now (out .entry)) ⌝ }
 {
     match aco_records::write_length(records, text) {
         Written::Refused(x) => Written::Refused(x),

@@ -2,9 +2,9 @@
 use Prim.Native.Nat.{ℕ, zero, suc, _+_, _-_, _≤_, _<_}
 use mathlib.Core.Path.{_≡_, refl, sym, ap, _∙_}
 use mathlib.Core.List.{[], _∷_}
-use lib.ListN.{length}
+use lib.ListN.{length, getD}
 use native.Mathlib.Omega.{arith}
-use native.Mathlib.Nat.{sub-zero}
+use native.Mathlib.Nat.{sub-zero, add-zero}
 use Rattle.algebra.specs.Numbers.{counted}
 use Rattle.algebra.specs.Faults.{firstOf, faults}
 use Rattle.algebra.proofs.Tells.{first-none, first-inv}
@@ -26,6 +26,12 @@ module _ {A : Type 0} (f : ℕ → A) where
   unfolding counted
   length-counted zero k = refl
   length-counted (suc n) k = ap suc (length-counted n (k + 1))
+
+  pub getD-counted : (d : A) (n k i : ℕ) → i < n → getD (counted f n k) i d ≡ f (k + i)
+  unfolding counted
+  getD-counted d zero k i h = absurd (omega arith)
+  getD-counted d (suc n) k zero h = ap f (sym (add-zero k))
+  getD-counted d (suc n) k (suc i) h = let e : k + 1 + i ≡ k + suc i = omega arith in getD-counted d n (k + 1) i (omega arith) ∙ ap f e
 
 -- what is left has the first fault of all
 module _ {A : Type 0} (f : A → ℕ) (item : ℕ → A) where

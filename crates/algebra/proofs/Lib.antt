@@ -19,6 +19,7 @@ pub mod Storing
 pub mod Firsts
 pub mod Counted
 pub mod Rows
+pub mod Table
 pub mod Cuts
 pub mod Stops
 pub mod SetCuts

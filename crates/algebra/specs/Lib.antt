@@ -5,6 +5,7 @@ pub mod Lanes
 pub mod Faults
 pub mod Store
 pub mod Table
+pub mod Filling
 pub mod Writing
 pub mod Algebra
 pub mod Refusal

@@ -31,6 +31,11 @@ abbrev pub recordAt : {A E : Type 0} → (A → List E) → E → ℕ → Res A 
 recordAt records none i (refuse x p r f) = refused x p r f
 recordAt records none i (ok a q) = pick (ltb i (length (records a))) (accepted (getD (records a) i none)) (refused 12 0 0 0)
 
+-- what is reported, seen as the caller has it
+abbrev pub seen : {A B : Type 0} → (A → B) → Verdict A → Verdict B
+seen view (accepted a) = accepted (view a)
+seen view (refused x p r f) = refused x p r f
+
 -- the w numbers of row k
 abbrev pub rowAt : ℕ → List ℕ → ℕ → List ℕ
 rowAt w run k = part run (w * k) w

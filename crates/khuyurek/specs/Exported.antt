@@ -2,8 +2,7 @@
 use Prim.Native.Nat.{ℕ}
 use mathlib.Core.List.{List, [], _∷_}
 use Rattle.colour.specs.declared.space.Colour.{Colour}
-use Rattle.aco_judge.specs.Answer.{Verdict, accepted, refused}
-use Rattle.aco_read.specs.Table.{Where, lies, refusal}
+use Rattle.algebra.specs.Table.{Verdict, accepted, refused}
 use Rattle.algebra.specs.Writing.{Outcome, bytes, refused as unwritten}
 use lib.Ieee.{Float, binary32, toBits}
 use Rattle.colour.specs.Convert.{Converted, gives, refused as noChannel}
@@ -17,15 +16,15 @@ use Rattle.khuyurek.specs.declared.Length.{Length}
 use Rattle.khuyurek.specs.declared.ChannelBits.{ChannelBits}
 use Rattle.khuyurek.specs.declared.SampleValue.{SampleValue}
 
-abbrev pub answerOf : Verdict → AcoAnswer
-answerOf (accepted n l) = record { number = 0; place = 0; rec = 0; field = 0; colours = n; lists = l }
+abbrev pub answerOf : Verdict (ℕ × ℕ) → AcoAnswer
+answerOf (accepted w) = record { number = 0; place = 0; rec = 0; field = 0; colours = w .0; lists = w .1 }
 answerOf (refused x p r f) = record { number = x; place = p; rec = r; field = f; colours = 0; lists = 0 }
 
-abbrev pub placed : Colour → Where → AcoRecord
-placed c (lies p u) = record { number = 0; units = u; place = 0; rec = 0; field = 0; name = p; space = c .space; samples = c .samples }
-placed c (refusal x p r f) = record { number = x; units = 0; place = p; rec = r; field = f; name = 0; space = c .space; samples = c .samples }
+abbrev pub placed : Colour → Verdict (ℕ × ℕ) → AcoRecord
+placed c (accepted w) = record { number = 0; units = w .1; place = 0; rec = 0; field = 0; name = w .0; space = c .space; samples = c .samples }
+placed c (refused x p r f) = record { number = x; units = 0; place = p; rec = r; field = f; name = 0; space = c .space; samples = c .samples }
 
-abbrev pub recordOf : Colour × Where → AcoRecord
+abbrev pub recordOf : Colour × Verdict (ℕ × ℕ) → AcoRecord
 recordOf w = placed (w .0) (w .1)
 
 abbrev pub writtenOf : Outcome → Length
@@ -33,7 +32,7 @@ writtenOf (bytes n) = record { number = 0; size = n }
 writtenOf (unwritten x p) = record { number = x; size = 0 }
 
 -- an answer, and what the lent buffer then holds
-abbrev pub readOf : Verdict × List ℕ → AcoAnswer × List ℕ
+abbrev pub readOf : Verdict (ℕ × ℕ) × List ℕ → AcoAnswer × List ℕ
 readOf v = (answerOf (v .0), v .1)
 
 abbrev pub wroteOf : Outcome × List ℕ → Length × List ℕ

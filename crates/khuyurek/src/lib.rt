@@ -39,9 +39,11 @@ pub use walks::khuyurek_ase_walk_block;
 pub use walks::khuyurek_ase_walk_start;
 ghost use mathlib.Core.Path.{_≡_};
 ghost use Rattle.aco.specs.Reading.{aco};
-ghost use Rattle.aco_judge.specs.Answer.{verdict, told};
-ghost use Rattle.aco_read.specs.Table.{filled, recordAt, lies, refusal};
-ghost use Rattle.aco_records.specs.Writing.{given, needed, written};
+ghost use Rattle.algebra.specs.Table.{accepted, refused, verdict, whole};
+ghost use Rattle.aco.specs.Row.{width, taken};
+ghost use Rattle.aco_judge.specs.Answer.{report, told};
+ghost use Rattle.aco_read.specs.Table.{filled, recordAt, handed};
+ghost use Rattle.aco_records.specs.Writing.{needed, written};
 ghost use Rattle.fields.specs.Answer.{toldWritten};
 ghost use Rattle.colour.specs.Convert.{toChannel, toSample, toldChannel, toldSample};
 ghost use Rattle.colour.specs.Models.{traitsOf};
@@ -155,7 +157,7 @@ fn exported_length(w: Written) -> Length
 // Judges a file.
 #[no_mangle]
 pub extern "C" fn khuyurek_aco_judge(file: &[u8]) -> AcoAnswer
-    ensures { λ r. ⌜ r ≡ answerOf (verdict (aco (now (file .entry)))) ⌝ }
+    ensures { λ r. ⌜ r ≡ answerOf (verdict report (aco (now (file .entry)))) ⌝ }
 {
     exported(aco_judge::judge(file))
 }
@@ -169,7 +171,7 @@ pub extern "C" fn khuyurek_aco_read(file: &[u8], table: &mut [u32]) -> AcoAnswer
 }
 
 fn found(colour: Colour, name: usize, units: u32) -> AcoRecord
-    ensures { λ r. ⌜ r ≡ placed colour (lies name units) ⌝ }
+    ensures { λ r. ⌜ r ≡ placed colour (accepted (name, units)) ⌝ }
 {
     let samples = colour.samples;
     AcoRecord {
@@ -185,7 +187,7 @@ fn found(colour: Colour, name: usize, units: u32) -> AcoRecord
 }
 
 fn missing(colour: Colour, number: u32, place: usize, rec: usize, field: usize) -> AcoRecord
-    ensures { λ r. ⌜ r ≡ placed colour (refusal number place rec field) ⌝ }
+    ensures { λ r. ⌜ r ≡ placed colour (refused number place rec field) ⌝ }
 {
     let samples = colour.samples;
     AcoRecord {
@@ -203,7 +205,7 @@ fn missing(colour: Colour, number: u32, place: usize, rec: usize, field: usize) 
 // Record i of a file.
 #[no_mangle]
 pub extern "C" fn khuyurek_aco_record_at(file: &[u8], i: usize) -> AcoRecord
-    ensures { λ r. ⌜ r ≡ recordOf (recordAt i (aco (now (file .entry)))) ⌝ }
+    ensures { λ r. ⌜ r ≡ recordOf (handed (recordAt i (aco (now (file .entry))))) ⌝ }
 {
     let swatch = aco_read::record_at(file, i);
     let colour = swatch.colour;
@@ -222,7 +224,7 @@ pub extern "C" fn khuyurek_aco_record_at(file: &[u8], i: usize) -> AcoRecord
 // How many bytes writing these records takes.
 #[no_mangle]
 pub extern "C" fn khuyurek_aco_length(records: &[u32], text: &[u8]) -> Length
-    ensures { λ r. ⌜ r ≡ writtenOf (needed (now (text .entry)) (given (now (records .entry)))) ⌝ }
+    ensures { λ r. ⌜ r ≡ writtenOf (needed (now (text .entry)) (whole width taken (now (records .entry)))) ⌝ }
 {
     exported_length(aco_records::write_length(records, text))
 }
@@ -230,7 +232,7 @@ pub extern "C" fn khuyurek_aco_length(records: &[u32], text: &[u8]) -> Length
 // Writes records, whose names lie in `text`, into `out`.
 #[no_mangle]
 pub extern "C" fn khuyurek_aco_write(records: &[u32], text: &[u8], out: &mut [u8]) -> Length
-    ensures { λ r. ⌜ (r, now (out .exit)) ≡ wroteOf (written (now (text .entry)) (given (now (records .entry))) (now (out .entry))) ⌝ }
+    ensures { λ r. ⌜ (r, now (out .exit)) ≡ wroteOf (written (now (text .entry)) (whole width taken (now (records .entry))) (now (out .entry))) ⌝ }
 {
     exported_length(aco_write::write(records, text, out))
 }

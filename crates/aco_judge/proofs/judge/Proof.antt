@@ -1,6 +1,7 @@
 use mathlib.Core.Path.{sym, ap, _∙_}
 use native.Mathlib.Omega.{arith}
-use Rattle.aco_judge.specs.Answer.{toldHeading, verdict}
+use Rattle.algebra.specs.Table.{verdict}
+use Rattle.aco_judge.specs.Answer.{toldHeading, report}
 use Rattle.aco_judge.proofs.Judging.{heading-is, aco-long, aco-heading, aco-count, aco-lists}
 use Rattle.algebra.specs.Reader.{fine}
 use borrow.Author.Needs.{needs}
@@ -8,7 +9,7 @@ use Rattle.aco_judge.proofs.judge.Statement.{statement}
 use Rattle.aco_judge.proofs.judge.Tie as tie
 
 returns : tie.Need-returns
-returns c = sym (ap verdict (aco-long (c .before .before .args .file .now) (c .if1 .taken)))
+returns c = sym (ap (verdict report) (aco-long (c .before .before .args .file .now) (c .if1 .taken)))
 
 heading-at-requires : tie.Need-heading-at-requires
 heading-at-requires c κs = search needs
@@ -25,7 +26,7 @@ returns-2 c =
     let call = v .before .before in
     let a = call .before .before .before .args in
     let e = sym (call .heading-at .ensures) ∙ ap toldHeading (v .n .given .1) in
-    sym (ap verdict (aco-count (a .file .now) (call .before .if1 .left) e (c .if2 .taken)))
+    sym (ap (verdict report) (aco-count (a .file .now) (call .before .if1 .left) e (c .if2 .taken)))
 
 lists-at-requires : tie.Need-lists-at-requires
 lists-at-requires c κs =
@@ -40,7 +41,7 @@ returns-3 c =
     let x = c .before in
     let call = x .before .before in
     let a = call .before .before .before .args in
-    sym (ap verdict (aco-heading (a .file .now) (call .before .if1 .left) (sym (call .heading-at .ensures) ∙ ap toldHeading (x .x .given .1))))
+    sym (ap (verdict report) (aco-heading (a .file .now) (call .before .if1 .left) (sym (call .heading-at .ensures) ∙ ap toldHeading (x .x .given .1))))
 
 returns-4 : tie.Need-returns-4
 returns-4 c =
@@ -48,7 +49,7 @@ returns-4 c =
     let call = v .before .before in
     let a = call .before .before .before .args in
     let e = sym (call .heading-at .ensures) ∙ ap toldHeading (v .n .given .1) in
-    c .lists-at .ensures ∙ sym (ap verdict (aco-lists (a .file .now) (call .before .if1 .left) e (c .before .if2 .left)))
+    c .lists-at .ensures ∙ sym (ap (verdict report) (aco-lists (a .file .now) (call .before .if1 .left) e (c .before .if2 .left)))
 
 pub judge-spec : {M : Type 1} → statement M
 judge-spec =

@@ -19,20 +19,20 @@ abbrev μ-loop : tie.MeasureT-loop
 here : (c : tie.In-loop Inv-loop μ-loop) → (c .before .loop .place + 14 ≤ length (c .before .before .before .args .file .now)) × (length (c .before .before .before .args .file .now) ≤ limit)
 here c =
     let st = c .before .before .before in
-    counted-in (st .args .file .now) 2 (st .args .n) (st .pre .0) refl (c .before .loop .k) (omega (arith, c .loop-test .taken, st .pre .1)) (c .before .loop .place) (c .before .loop .inv .1)
+    counted-in (st .args .file .now) (st .args .n) 2 (st .pre .0) refl (c .before .loop .k) (omega (arith, c .loop-test .taken, st .pre .1)) (c .before .loop .place) (c .before .loop .inv .1)
 
 loaded : (u : tie.After-u32-or-zero Inv-loop μ-loop)
     → Counted (u .before .before .before .before .args .file .now) (u .before .before .before .before .args .n) (u .before .before .loop .k) (u .before .before .loop .place) (u .u32-or-zero .result)
 loaded u =
     let c = u .before in
     let st = c .before .before .before in
-    counted (st .args .file .now) 2 (st .args .n) (st .pre .0) refl (c .before .loop .k) (omega (arith, c .loop-test .taken, st .pre .1)) (c .before .loop .place) (c .before .loop .inv .1) _ (u .u32-or-zero .ensures)
+    counted (st .args .file .now) (st .args .n) 2 (st .pre .0) refl (c .before .loop .k) (omega (arith, c .loop-test .taken, st .pre .1)) (c .before .loop .place) (c .before .loop .inv .1) _ (u .u32-or-zero .ensures)
 
 mul-place : tie.Need-mul-place Inv-loop μ-loop
-mul-place c = let st = c .before in let few = count-small (st .args .file .now) 2 (st .args .n) (st .pre .0) in omega arith
+mul-place c = let st = c .before in let few = count-small (st .args .file .now) (st .args .n) 2 (st .pre .0) in omega arith
 
 add-place : tie.Need-add-place Inv-loop μ-loop
-add-place c = let st = c .before in let few = count-small (st .args .file .now) 2 (st .args .n) (st .pre .0) in omega arith
+add-place c = let st = c .before in let few = count-small (st .args .file .now) (st .args .n) 2 (st .pre .0) in omega arith
 
 loop-holds : tie.Need-loop-holds Inv-loop μ-loop
 loop-holds c = (omega arith, sym (entry-first _ _))

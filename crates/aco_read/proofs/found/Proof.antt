@@ -1,11 +1,13 @@
-use mathlib.Core.Path.{sym, ap, _∙_, subst}
+use mathlib.Core.Path.{ap, _∙_, subst}
 use native.Mathlib.Omega.{arith}
 use Prim.Native.Nat.{ℕ, _+_, _-_}
 use Rattle.colour.specs.declared.space.Colour.{Colour}
 use Rattle.aco.specs.Reading.{aco}
-use Rattle.aco_read.specs.Table.{Accepted, lies}
-use Rattle.aco_read.proofs.Filling.{count-small, plain-swatch, Counted, counted-in, counted}
-use Rattle.aco_read.proofs.Answers.{not-one, colour-in, record-is}
+use Rattle.algebra.specs.Table.{accepted}
+use Rattle.algebra.specs.Filling.{Accepted}
+use Rattle.aco_judge.specs.Answer.{report}
+use Rattle.aco_read.proofs.Filling.{count-small, plain-is, Counted, counted-in, counted}
+use Rattle.aco_read.proofs.Answers.{not-one, colour-in, found-is}
 use borrow.Author.Needs.{needs}
 use Rattle.aco_read.proofs.found.Statement.{statement}
 use Rattle.aco_read.proofs.found.Tie as tie
@@ -32,13 +34,14 @@ returns c =
     let co = c .before in
     let st = co .before .before in
     let s = st .args .file .now in
-    record-is (aco s) _ _ (st .pre .0) (st .args .i) (st .pre .1) _ (ap (λ (b : Colour). (b, lies 0 0)) (co .colour-at .ensures) ∙ sym (plain-swatch s _ _ (st .pre .0) (c .if1 .taken) (st .args .i) (st .pre .1)))
+    let i = st .args .i in
+    ap (λ (b : Colour). (b, accepted (0, 0))) (co .colour-at .ensures) ∙ found-is s _ _ (st .pre .0) i (st .pre .1) _ (plain-is s _ _ (st .pre .0) (c .if1 .taken) i (st .pre .1))
 
 entry-place-requires : tie.Need-entry-place-requires
 entry-place-requires c κs =
     let st = c .before .before .before in
     let s = st .args .file .now in
-    (subst (λ (l : ℕ). Accepted (aco s) l (st .args .colours)) (not-one s _ _ (st .pre .0) (c .if1 .left)) (st .pre .0), st .pre .1)
+    (subst (λ (l : ℕ). Accepted report (aco s) (st .args .colours, l)) (not-one s _ _ (st .pre .0) (c .if1 .left)) (st .pre .0), st .pre .1)
 
 add-u32-or-zero : tie.Need-add-u32-or-zero
 add-u32-or-zero c =
@@ -59,7 +62,9 @@ sub-t13 c = omega (arith, loaded c)
 returns-2 : tie.Need-returns-2
 returns-2 c =
     let co = c .before .before .before in
-    ap (λ (b : Colour). (b, lies (c .before .entry-place .result + 14) (c .u32-or-zero .result - 1))) (co .colour-at .ensures) ∙ sym (loaded c .is-swatch)
+    let st = co .before .before in
+    ap (λ (b : Colour). (b, accepted (c .before .entry-place .result + 14, c .u32-or-zero .result - 1))) (co .colour-at .ensures)
+    ∙ found-is (st .args .file .now) _ _ (st .pre .0) (st .args .i) (st .pre .1) _ (loaded c .is)
 
 pub found-spec : {M : Type 1} → statement M
 found-spec =

@@ -1,11 +1,14 @@
 use Prim.Native.Nat.{ℕ, _-_}
 use mathlib.Core.Path.{sym, ap, _∙_, subst}
 use native.Mathlib.Omega.{arith}
-use Rattle.aco_judge.specs.Answer.{told}
+use Rattle.algebra.specs.Filling.{Accepted}
+use Rattle.algebra.proofs.Table.{accepted-of, filled-short, filled-is, filled-refused}
 use Rattle.aco.specs.Reading.{aco}
-use Rattle.aco_read.specs.Table.{Accepted}
+use Rattle.aco.specs.Row.{width, row}
+use Rattle.aco_judge.specs.Answer.{told, report}
+use Rattle.aco_read.specs.Table.{records}
 use Rattle.aco_read.proofs.Filling.{count-small}
-use Rattle.aco_read.proofs.Answers.{accepted-of, not-one, filled-short, filled-is, filled-refused}
+use Rattle.aco_read.proofs.Answers.{count, counts, not-one, rows-wide}
 use borrow.Author.Needs.{needs}
 use Rattle.aco_read.proofs.read.Statement.{statement}
 use Rattle.aco_read.proofs.read.Tie as tie
@@ -28,7 +31,8 @@ mul-if1 c =
     let j = v .before .before in
     let a = j .before .before .before .args in
     let s = a .file .now in
-    let k = accepted-of (aco s) (sym (ap told (v .colours .given .1)) ∙ j .judge .ensures) in
+    let t = sym (ap told (v .colours .given .1)) ∙ j .judge .ensures in
+    let k = accepted-of report (aco s) t in
     let few = count-small s _ _ k in omega arith
 
 returns : tie.Need-returns
@@ -37,8 +41,9 @@ returns c =
     let j = v .before .before in
     let a = j .before .before .before .args in
     let s = a .file .now in
-    let k = accepted-of (aco s) (sym (ap told (v .colours .given .1)) ∙ j .judge .ensures) in
-    filled-short s _ _ k (a .table .now) (omega (arith, c .if1 .taken))
+    let t = sym (ap told (v .colours .given .1)) ∙ j .judge .ensures in
+    let k = accepted-of report (aco s) t in
+    filled-short records report count counts (aco s) width row (a .table .now) t (omega (arith, c .if1 .taken))
 
 fill-plain-requires : tie.Need-fill-plain-requires
 fill-plain-requires c κs =
@@ -46,8 +51,9 @@ fill-plain-requires c κs =
     let j = v .before .before in
     let a = j .before .before .before .args in
     let s = a .file .now in
-    let k = accepted-of (aco s) (sym (ap told (v .colours .given .1)) ∙ j .judge .ensures) in
-    (subst (λ (l : ℕ). Accepted (aco s) l (v .colours .given .0 .0)) (c .before .if2 .taken) k, omega (arith, c .before .before .if1 .left))
+    let t = sym (ap told (v .colours .given .1)) ∙ j .judge .ensures in
+    let k = accepted-of report (aco s) t in
+    (subst (λ (l : ℕ). Accepted report (aco s) (v .colours .given .0 .0, l)) (c .before .if2 .taken) k, omega (arith, c .before .before .if1 .left))
 
 fill-named-requires : tie.Need-fill-named-requires
 fill-named-requires c κs =
@@ -55,20 +61,21 @@ fill-named-requires c κs =
     let j = v .before .before in
     let a = j .before .before .before .args in
     let s = a .file .now in
-    let k = accepted-of (aco s) (sym (ap told (v .colours .given .1)) ∙ j .judge .ensures) in
-    (subst (λ (l : ℕ). Accepted (aco s) l (v .colours .given .0 .0)) (not-one s _ _ k (c .before .if2 .left)) k, omega (arith, c .before .before .if1 .left))
+    let t = sym (ap told (v .colours .given .1)) ∙ j .judge .ensures in
+    let k = accepted-of report (aco s) t in
+    (subst (λ (l : ℕ). Accepted report (aco s) (v .colours .given .0 .0, l)) (not-one s _ _ k (c .before .if2 .left)) k, omega (arith, c .before .before .if1 .left))
 
 returns-2 : tie.Need-returns-2
 returns-2 c =
     let x = c .before in
     let j = x .before .before in
-    filled-refused (aco (j .before .before .before .args .file .now)) _ (sym (ap told (x .number .given .1)) ∙ j .judge .ensures)
+    filled-refused records report count counts (aco (j .before .before .before .args .file .now)) width row _ (sym (ap told (x .number .given .1)) ∙ j .judge .ensures)
 
 returns-3 : tie.Need-returns-3
 returns-3 c =
     let x = c .before in
     let j = x .before .before in
-    filled-refused (aco (j .before .before .before .args .file .now)) _ (sym (ap told (x .place .given .1)) ∙ j .judge .ensures)
+    filled-refused records report count counts (aco (j .before .before .before .args .file .now)) width row _ (sym (ap told (x .place .given .1)) ∙ j .judge .ensures)
 
 same-length : tie.Need-same-length
 same-length c = search needs
@@ -80,8 +87,9 @@ returns-4 c =
     let j = v .before .before in
     let a = j .before .before .before .args in
     let s = a .file .now in
-    let k = accepted-of (aco s) (sym (ap told (v .colours .given .1)) ∙ j .judge .ensures) in
-    filled-is s _ _ k (a .table .now) (f .before .before .before .if1 .left) _ (f .fill-plain .ensures)
+    let t = sym (ap told (v .colours .given .1)) ∙ j .judge .ensures in
+    let k = accepted-of report (aco s) t in
+    filled-is records report count counts (aco s) width row (a .table .now) t (f .before .before .before .if1 .left) (rows-wide s _ _ k) _ (f .fill-plain .ensures)
 
 same-length-2 : tie.Need-same-length-2
 same-length-2 c = search needs
@@ -93,8 +101,9 @@ returns-5 c =
     let j = v .before .before in
     let a = j .before .before .before .args in
     let s = a .file .now in
-    let k = accepted-of (aco s) (sym (ap told (v .colours .given .1)) ∙ j .judge .ensures) in
-    filled-is s _ _ k (a .table .now) (f .before .before .before .if1 .left) _ (f .fill-named .ensures)
+    let t = sym (ap told (v .colours .given .1)) ∙ j .judge .ensures in
+    let k = accepted-of report (aco s) t in
+    filled-is records report count counts (aco s) width row (a .table .now) t (f .before .before .before .if1 .left) (rows-wide s _ _ k) _ (f .fill-named .ensures)
 
 pub read-spec : {M : Type 1} → statement M
 read-spec =

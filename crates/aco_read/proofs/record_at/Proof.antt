@@ -1,8 +1,12 @@
 use mathlib.Core.Path.{sym, ap, _∙_}
 use native.Mathlib.Omega.{arith}
-use Rattle.aco_judge.specs.Answer.{told}
-use Rattle.aco.specs.Reading.{aco}
-use Rattle.aco_read.proofs.Answers.{accepted-of, record-refused, record-none}
+use Rattle.algebra.specs.Table.{Verdict, seen}
+use Rattle.algebra.proofs.Table.{accepted-of, record-refused, record-none}
+use Rattle.aco.specs.Reading.{Entry, unnamed, black, aco}
+use Rattle.aco.specs.Row.{givenOf}
+use Rattle.aco_judge.specs.Answer.{told, report}
+use Rattle.aco_read.specs.Table.{records, handed}
+use Rattle.aco_read.proofs.Answers.{count, counts}
 use borrow.Author.Needs.{needs}
 use Rattle.aco_read.proofs.record_at.Statement.{statement}
 use Rattle.aco_read.proofs.record_at.Tie as tie
@@ -33,28 +37,28 @@ returns c =
     let v = c .before .before .before in
     let j = v .before .before in
     let a = j .before .before .args in
-    let k = accepted-of (aco (a .file .now)) (sym (ap told (v .colours .given .1)) ∙ j .judge .ensures) in
-    c .none3 .ensures ∙ record-none (aco (a .file .now)) _ _ k (a .i) (omega (arith, c .before .if1 .taken))
+    let k = accepted-of report (aco (a .file .now)) (sym (ap told (v .colours .given .1)) ∙ j .judge .ensures) in
+    c .none3 .ensures ∙ ap (λ (v : Verdict Entry). handed (seen givenOf v)) (record-none records report count counts (aco (a .file .now)) (unnamed black) (a .i) k (omega (arith, c .before .if1 .taken)))
 
 found-requires : tie.Need-found-requires
 found-requires c κs =
     let v = c .before .before in
     let j = v .before .before in
     let a = j .before .before .args in
-    let k = accepted-of (aco (a .file .now)) (sym (ap told (v .colours .given .1)) ∙ j .judge .ensures) in
+    let k = accepted-of report (aco (a .file .now)) (sym (ap told (v .colours .given .1)) ∙ j .judge .ensures) in
     (k, omega (arith, c .if1 .left))
 
 returns-2 : tie.Need-returns-2
 returns-2 c =
     let x = c .before .before in
     let j = x .before .before in
-    c .none .ensures ∙ record-refused (j .before .before .args .i) (aco (j .before .before .args .file .now)) (sym (ap told (x .number .given .1)) ∙ j .judge .ensures)
+    c .none .ensures ∙ ap (λ (v : Verdict Entry). handed (seen givenOf v)) (record-refused records report count counts (aco (j .before .before .args .file .now)) (unnamed black) (j .before .before .args .i) (sym (ap told (x .number .given .1)) ∙ j .judge .ensures))
 
 returns-3 : tie.Need-returns-3
 returns-3 c =
     let x = c .before .before in
     let j = x .before .before in
-    c .none2 .ensures ∙ record-refused (j .before .before .args .i) (aco (j .before .before .args .file .now)) (sym (ap told (x .place .given .1)) ∙ j .judge .ensures)
+    c .none2 .ensures ∙ ap (λ (v : Verdict Entry). handed (seen givenOf v)) (record-refused records report count counts (aco (j .before .before .args .file .now)) (unnamed black) (j .before .before .args .i) (sym (ap told (x .place .given .1)) ∙ j .judge .ensures))
 
 returns-4 : tie.Need-returns-4
 returns-4 c = search needs

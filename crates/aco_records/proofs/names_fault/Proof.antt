@@ -1,15 +1,18 @@
-use Rattle.algebra.proofs.Counted.{faults-start, faults-found, faults-more, faults-end}
-use borrow.Author.Needs.{needs}
-use native.Mathlib.Omega.{arith}
 use Prim.Native.Nat.{_-_, _≤_}
-use mathlib.Core.Path.{_≡_}
+use mathlib.Core.Path.{_≡_, ap, _∙_}
+use native.Mathlib.Omega.{arith}
 use Rattle.algebra.specs.Faults.{faults}
-use Rattle.aco_records.specs.Writing.{givenAt, givens, nameFault}
+use Rattle.algebra.specs.Table.{rows}
+use Rattle.algebra.proofs.Counted.{faults-start, faults-found, faults-more, faults-end}
+use Rattle.aco.specs.Row.{width, taken}
+use Rattle.aco_records.specs.Writing.{nameFault}
+use Rattle.aco_records.proofs.Judging.{givenAt}
+use borrow.Author.Needs.{needs}
 use Rattle.aco_records.proofs.names_fault.Statement.{statement}
 use Rattle.aco_records.proofs.names_fault.Tie as tie
 
 abbrev Inv-loop : tie.InvT-loop
-Inv-loop run text n i₀ i = (i ≤ n) × (faults (nameFault text) (givens run n 0) ≡ faults (nameFault text) (givens run (n - i) i))
+Inv-loop run text n i₀ i = (i ≤ n) × (faults (nameFault text) (rows width taken run n 0) ≡ faults (nameFault text) (rows width taken run (n - i) i))
 
 abbrev μ-loop : tie.MeasureT-loop
 μ-loop run text n i₀ i = n - i
@@ -17,14 +20,20 @@ abbrev μ-loop : tie.MeasureT-loop
 loop-holds : tie.Need-loop-holds Inv-loop μ-loop
 loop-holds c = let a = c .before .before .args in (omega arith, faults-start (nameFault (a .text .now)) (givenAt (a .run .now)) (a .n))
 
+record-at-requires : tie.Need-record-at-requires Inv-loop μ-loop
+record-at-requires c κs = search needs
+
 name-fault-requires : tie.Need-name-fault-requires Inv-loop μ-loop
 name-fault-requires c κs = search needs
 
 returns : tie.Need-returns Inv-loop μ-loop
 returns c =
-    let l = c .before .before .before .loop in
-    let a = c .before .before .before .before .before .before .args in
-    faults-found (nameFault (a .text .now)) (givenAt (a .run .now)) _ (a .n) (l .i) (l .inv .1) (c .before .before .loop-test .taken) _ (c .before .name-fault .ensures) (c .if1 .taken)
+    let t = c .before .before .before in
+    let l = t .before .loop in
+    let st = t .before .before .before .before in
+    let a = st .args in
+    let e = c .before .name-fault .ensures ∙ ap (nameFault (a .text .now)) (c .before .before .record-at .ensures) in
+    faults-found (nameFault (a .text .now)) (givenAt (a .run .now)) _ (a .n) (l .i) (l .inv .1) (t .loop-test .taken) _ e (c .if1 .taken)
 
 add-i : tie.Need-add-i Inv-loop μ-loop
 add-i c = search needs
@@ -34,9 +43,12 @@ loop-less c = search needs
 
 loop-again : tie.Need-loop-again Inv-loop μ-loop
 loop-again c =
-    let l = c .before .before .before .loop in
-    let a = c .before .before .before .before .before .before .args in
-    (omega arith, faults-more (nameFault (a .text .now)) (givenAt (a .run .now)) _ (a .n) (l .i) (l .inv .1) (c .before .before .loop-test .taken) _ (c .before .name-fault .ensures) (c .if1 .left))
+    let t = c .before .before .before in
+    let l = t .before .loop in
+    let st = t .before .before .before .before in
+    let a = st .args in
+    let e = c .before .name-fault .ensures ∙ ap (nameFault (a .text .now)) (c .before .before .record-at .ensures) in
+    (omega arith, faults-more (nameFault (a .text .now)) (givenAt (a .run .now)) _ (a .n) (l .i) (l .inv .1) (t .loop-test .taken) _ e (c .if1 .left))
 
 returns-2 : tie.Need-returns-2 Inv-loop μ-loop
 returns-2 c =
@@ -51,6 +63,7 @@ names-fault-spec =
     Inv-loop
     μ-loop
     loop-holds
+    record-at-requires
     name-fault-requires
     returns
     add-i

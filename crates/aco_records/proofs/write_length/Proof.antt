@@ -3,7 +3,10 @@ use mathlib.Core.Path.{sym, ap, _∙_}
 use Prim.Native.Nat.{_+_, _/_}
 use native.Mathlib.Omega.{arith}
 use lib.ListN.{length}
-use Rattle.aco_records.specs.Writing.{givenAt, givens, sizes}
+use Rattle.algebra.specs.Table.{rows}
+use Rattle.aco.specs.Row.{width, taken}
+use Rattle.aco_records.specs.Writing.{sizes}
+use Rattle.aco_records.proofs.Judging.{givenAt}
 use Rattle.fields.specs.Answer.{toldWritten}
 use Rattle.aco_records.proofs.Outcomes.{too-long, too-many, bad-colour, bad-name, all-fine}
 use Rattle.algebra.proofs.Writing.{size-is, size-passes}
@@ -23,8 +26,8 @@ enum-told c = search needs
 returns : tie.Need-returns
 returns c =
     let a = c .before .before .before .before .before .args in
-    let n = length (a .records .now) / 7 in
-    let gs = givens (a .records .now) n 0 in
+    let n = length (a .records .now) / width in
+    let gs = rows width taken (a .records .now) n 0 in
     let len = length-counted (givenAt (a .records .now)) n 0 in
     too-long (a .text .now) gs (size-passes (8 + sizes gs) _ (sym (ap toldWritten (c .enum-told .given .1)) ∙ c .before .before .size-of .ensures))
 
@@ -34,8 +37,8 @@ cast-if1 c = search needs
 returns-2 : tie.Need-returns-2
 returns-2 c =
     let a = c .before .before .before .before .before .before .before .args in
-    let n = length (a .records .now) / 7 in
-    let gs = givens (a .records .now) n 0 in
+    let n = length (a .records .now) / width in
+    let gs = rows width taken (a .records .now) n 0 in
     let len = length-counted (givenAt (a .records .now)) n 0 in
     let s = size-is (8 + sizes gs) _ (sym (ap toldWritten (c .before .before .size .given .1)) ∙ c .before .before .before .before .size-of .ensures) in
     too-many (a .text .now) gs (s .0) (omega (arith, len, c .if1 .taken))
@@ -46,8 +49,8 @@ colours-fault-requires c κs = search needs
 returns-3 : tie.Need-returns-3
 returns-3 c =
     let a = c .before .before .before .before .before .before .before .before .before .args in
-    let n = length (a .records .now) / 7 in
-    let gs = givens (a .records .now) n 0 in
+    let n = length (a .records .now) / width in
+    let gs = rows width taken (a .records .now) n 0 in
     let len = length-counted (givenAt (a .records .now)) n 0 in
     let s = size-is (8 + sizes gs) _ (sym (ap toldWritten (c .before .before .before .before .size .given .1)) ∙ c .before .before .before .before .before .before .size-of .ensures) in
     bad-colour (a .text .now) gs (s .0) (omega (arith, len, c .before .before .if1 .left)) _ (c .before .colours-fault .ensures) (c .if2 .taken)
@@ -58,8 +61,8 @@ names-fault-requires c κs = search needs
 returns-4 : tie.Need-returns-4
 returns-4 c =
     let a = c .before .before .before .before .before .before .before .before .before .before .before .args in
-    let n = length (a .records .now) / 7 in
-    let gs = givens (a .records .now) n 0 in
+    let n = length (a .records .now) / width in
+    let gs = rows width taken (a .records .now) n 0 in
     let len = length-counted (givenAt (a .records .now)) n 0 in
     let s = size-is (8 + sizes gs) _ (sym (ap toldWritten (c .before .before .before .before .before .before .size .given .1)) ∙ c .before .before .before .before .before .before .before .before .size-of .ensures) in
     bad-name (a .text .now) gs (s .0) (omega (arith, len, c .before .before .before .before .if1 .left)) _ (c .before .before .before .colours-fault .ensures) (c .before .before .if2 .left) _ (c .before .names-fault .ensures) (c .if3 .taken)
@@ -67,8 +70,8 @@ returns-4 c =
 returns-5 : tie.Need-returns-5
 returns-5 c =
     let a = c .before .before .before .before .before .before .before .before .before .before .before .args in
-    let n = length (a .records .now) / 7 in
-    let gs = givens (a .records .now) n 0 in
+    let n = length (a .records .now) / width in
+    let gs = rows width taken (a .records .now) n 0 in
     let len = length-counted (givenAt (a .records .now)) n 0 in
     let s = size-is (8 + sizes gs) _ (sym (ap toldWritten (c .before .before .before .before .before .before .size .given .1)) ∙ c .before .before .before .before .before .before .before .before .size-of .ensures) in
     all-fine (a .text .now) gs (s .0) (omega (arith, len, c .before .before .before .before .if1 .left)) _ (c .before .before .before .colours-fault .ensures) (c .before .before .if2 .left) _ _ (c .before .names-fault .ensures) (c .if3 .left) (s .1)

@@ -4,51 +4,14 @@ use borrow.Author.Needs.{needs}
 use Rattle.aco_write.proofs.name_start.Statement.{statement}
 use Rattle.aco_write.proofs.name_start.Tie as tie
 
-mul-if1 : tie.Need-mul-if1
-mul-if1 c = search needs
-
-add-if1 : tie.Need-add-if1
-add-if1 c = search needs
-
-mul-if1-2 : tie.Need-mul-if1-2
-mul-if1-2 c = search needs
-
-shared-slice-read-if1 : tie.Need-shared-slice-read-if1
-shared-slice-read-if1 c = search needs
-
 returns : tie.Need-returns
 returns c = simp (eq-eqb _ 0 (c .if1 .taken))
-
-mul-wide : tie.Need-mul-wide
-mul-wide c = search needs
-
-add-wide : tie.Need-add-wide
-add-wide c = search needs
-
-mul-wide-2 : tie.Need-mul-wide-2
-mul-wide-2 c = search needs
-
-shared-slice-read-wide : tie.Need-shared-slice-read-wide
-shared-slice-read-wide c = search needs
 
 wide-requires : tie.Need-wide-requires
 wide-requires c κs = search needs
 
 returns-2 : tie.Need-returns-2
-returns-2 c = c .wide .ensures .0 ∙ sym (simp (ne-eqb _ 0 (c .before .before .if1 .left)))
+returns-2 c = c .wide .ensures .0 ∙ sym (simp (ne-eqb _ 0 (c .before .if1 .left)))
 
 pub name-start-spec : {M : Type 1} → statement M
-name-start-spec =
-    tie.close
-    (tie.spec
-    mul-if1
-    add-if1
-    mul-if1-2
-    shared-slice-read-if1
-    returns
-    mul-wide
-    add-wide
-    mul-wide-2
-    shared-slice-read-wide
-    wide-requires
-    returns-2)
+name-start-spec = tie.close (tie.spec returns wide-requires returns-2)

@@ -1,12 +1,11 @@
-use mathlib.Core.Path.{refl, ap, _∙_}
 use Prim.Native.Nat.{ℕ, _+_, _*_, _-_}
-use native.Mathlib.Omega.{arith}
+use mathlib.Core.Path.{refl, ap, _∙_}
 use lib.Seq.{sets}
+use native.Mathlib.Omega.{arith}
 use Rattle.algebra.specs.Store.{stored, part}
 use Rattle.algebra.specs.Text.{countedUnits}
 use Rattle.aco.specs.Grammar.{colourBytes}
-use Rattle.aco_records.specs.Writing.{givenAt}
-use Rattle.aco_records.specs.Parts.{plain, start}
+use Rattle.aco_records.specs.Parts.{toldRecord, plain, start}
 use Rattle.aco_records.proofs.Judging.{name-inside}
 use Rattle.aco_write.proofs.Puts.{put-record}
 use borrow.Author.Needs.{needs}
@@ -19,18 +18,6 @@ colour-of-requires c κs = search needs
 put-colour-requires : tie.Need-put-colour-requires
 put-colour-requires c κs = search needs
 
-mul-units : tie.Need-mul-units
-mul-units c = search needs
-
-add-units : tie.Need-add-units
-add-units c = search needs
-
-mul-units-2 : tie.Need-mul-units-2
-mul-units-2 c = search needs
-
-shared-slice-read-units : tie.Need-shared-slice-read-units
-shared-slice-read-units c = search needs
-
 name-start-requires : tie.Need-name-start-requires
 name-start-requires c κs = search needs
 
@@ -42,8 +29,8 @@ mul-end c = search needs
 
 add-end : tie.Need-add-end
 add-end c =
-    let s = c .before .before .before .before .before .before .before .before .before .before .before in
-    omega (arith, name-inside (s .args .text .now) (givenAt (s .args .run .now) (s .args .k)) (s .pre .1 .name), c .wide .ensures .0, c .before .name-start .ensures, s .good)
+    let s = c .before .before .before .before .before .before .before .before .before in
+    omega (arith, name-inside (s .args .text .now) (toldRecord (s .args .given)) (s .pre .name), c .wide .ensures .0, c .before .name-start .ensures, s .good)
 
 add-put-name32 : tie.Need-add-put-name32
 add-put-name32 c = search needs
@@ -59,8 +46,8 @@ part-put-name32-start c = search needs
 
 part-put-name32-end : tie.Need-part-put-name32-end
 part-put-name32-end c =
-    let s = c .before .before .before .before .before .before .before .before .before .before .before .before in
-    omega (arith, name-inside (s .args .text .now) (givenAt (s .args .run .now) (s .args .k)) (s .pre .1 .name), c .before .wide .ensures .0, c .before .before .name-start .ensures)
+    let s = c .before .before .before .before .before .before .before .before .before .before .before in
+    omega (arith, name-inside (s .args .text .now) (toldRecord (s .args .given)) (s .pre .name), c .before .before .wide .ensures .0, c .before .before .before .name-start .ensures)
 
 put-name32-requires : tie.Need-put-name32-requires
 put-name32-requires c κs = search needs
@@ -70,15 +57,16 @@ same-length c = search needs
 
 returns : tie.Need-returns
 returns c =
-    let s = c .before .before .before .before .before .before .before .before .before .before .before .before .before .before .before .before in
-    let a = s .args in
-    let g = givenAt (a .run .now) (a .k) in
-    let p₁ = c .before .before .before .before .before .before .before .before .before .before in
     let p₂ = c .before .before in
-    let w = c .before .before .before .before .before .wide in
-    let e₁ = p₁ .put-colour .ensures ∙ ap (λ k. sets (a .out .now) (a .at) (colourBytes (plain k))) (c .before .before .before .before .before .before .before .before .before .before .before .colour-of .ensures) in
-    let e₂ = p₂ .put-name32 .ensures ∙ ap (λ (r : ℕ). stored (p₁ .put-colour .last .0) (a .at + 10) (countedUnits 4 (g .units + 1) (part (a .text .now) r (r + 2 * w .result - r)))) (c .before .before .before .before .before .before .name-start .ensures) in
-    put-record (a .text .now) (λ i. omega (arith, c .before .before .before .before .before .before .before .before .before .before .before .before .before .shared-slice-known2 .given i)) g (a .out .now) _ _ (a .at) (start g + 2 * w .result - start g) refl (omega (arith, w .ensures .0)) (s .pre .1 .name) (s .pre .1 .inside) (p₁ .put-colour .kept .0) e₁ e₂
+    let w = p₂ .before .before .before .before in
+    let p₁ = w .before .before .before .before in
+    let k = p₁ .before .before .before in
+    let s = k .before .before in
+    let a = s .args in
+    let g = toldRecord (a .given) in
+    let e₁ = p₁ .put-colour .ensures ∙ ap (λ k. sets (a .out .now) (a .at) (colourBytes (plain k))) (p₁ .before .colour-of .ensures) in
+    let e₂ = p₂ .put-name32 .ensures ∙ ap (λ (r : ℕ). stored (p₁ .put-colour .last .0) (a .at + 10) (countedUnits 4 (g .units + 1) (part (a .text .now) r (r + 2 * w .wide .result - r)))) (w .before .name-start .ensures) in
+    put-record (a .text .now) (λ i. omega (arith, k .shared-slice-known .given i)) g (a .out .now) _ _ (a .at) (start g + 2 * w .wide .result - start g) refl (omega (arith, w .wide .ensures .0)) (s .pre .name) (s .pre .inside) (p₁ .put-colour .kept .0) e₁ e₂
 
 pub put-entry-spec : {M : Type 1} → statement M
 put-entry-spec =
@@ -86,10 +74,6 @@ put-entry-spec =
     (tie.spec
     colour-of-requires
     put-colour-requires
-    mul-units
-    add-units
-    mul-units-2
-    shared-slice-read-units
     name-start-requires
     wide-requires
     mul-end

@@ -3,7 +3,10 @@ use mathlib.Core.Path.{sym, ap, _∙_}
 use Prim.Native.Nat.{_/_}
 use native.Mathlib.Omega.{arith}
 use lib.ListN.{length}
-use Rattle.aco_records.specs.Writing.{givenAt, givens, swatchIn, size, fault}
+use Rattle.algebra.specs.Table.{rows}
+use Rattle.aco.specs.Row.{width, taken}
+use Rattle.aco_records.specs.Writing.{swatchIn, size, fault}
+use Rattle.aco_records.proofs.Judging.{givenAt}
 use Rattle.fields.specs.Answer.{toldWritten}
 use Rattle.aco_write.proofs.Puts.{file-front}
 use mathlib.Core.List.{map}
@@ -26,15 +29,15 @@ enum-known-size c = search needs
 returns : tie.Need-returns
 returns c =
     let a = c .before .before .before .before .before .before .before .before .args in
-    let n = length (a .records .now) / 7 in
-    let gs = givens (a .records .now) n 0 in
+    let n = length (a .records .now) / width in
+    let gs = rows width taken (a .records .now) n 0 in
     writes-none (fault (a .text .now) gs) (size gs) (twoLists (map (swatchIn (a .text .now)) gs)) (a .out .now) _ (sym (ap toldWritten (c .before .before .size .given .1)) ∙ c .before .before .before .before .write-length .ensures) (c .if1 .taken)
 
 put-lists-requires : tie.Need-put-lists-requires
 put-lists-requires c κs =
     let a = c .before .before .before .before .before .before .before .before .before .args in
-    let n = length (a .records .now) / 7 in
-    let gs = givens (a .records .now) n 0 in
+    let n = length (a .records .now) / width in
+    let gs = rows width taken (a .records .now) n 0 in
     let w = needed-bytes (a .text .now) gs _ (sym (ap toldWritten (c .before .before .before .size .given .1)) ∙ c .before .before .before .before .before .write-length .ensures) in
     let f = no-fault (a .text .now) gs (w .0) in
     let len = length-counted (givenAt (a .records .now)) n 0 in
@@ -43,8 +46,8 @@ put-lists-requires c κs =
 returns-2 : tie.Need-returns-2
 returns-2 c =
     let a = c .before .before .before .before .before .before .before .args in
-    let n = length (a .records .now) / 7 in
-    let gs = givens (a .records .now) n 0 in
+    let n = length (a .records .now) / width in
+    let gs = rows width taken (a .records .now) n 0 in
     writes-no (fault (a .text .now) gs) (size gs) (twoLists (map (swatchIn (a .text .now)) gs)) (a .out .now) _ (sym (ap toldWritten (c .before .x .given .1)) ∙ c .before .before .before .write-length .ensures)
 
 same-length : tie.Need-same-length
@@ -53,8 +56,8 @@ same-length c = search needs
 returns-3 : tie.Need-returns-3
 returns-3 c =
     let a = c .before .before .before .before .before .before .before .before .before .before .before .before .args in
-    let n = length (a .records .now) / 7 in
-    let gs = givens (a .records .now) n 0 in
+    let n = length (a .records .now) / width in
+    let gs = rows width taken (a .records .now) n 0 in
     let q = (sym (ap toldWritten (c .before .before .before .before .before .before .size .given .1)) ∙ c .before .before .before .before .before .before .before .before .write-length .ensures) in
     let w = needed-bytes (a .text .now) gs _ q in
     writes-all (fault (a .text .now) gs) (size gs) (twoLists (map (swatchIn (a .text .now)) gs)) (a .out .now) _ q (c .before .before .before .before .if1 .left) _ (file-front (a .records .now) (a .text .now) n (a .out .now) _ (omega (arith, w .1, c .before .before .before .before .if1 .left)) (c .before .before .put-lists .ensures))
