@@ -13,7 +13,8 @@ use native.Mathlib.Nat.{add-zero}
 use native.Mathlib.Decide.{ℕ-discrete}
 use Rattle.algebra.specs.Reader.{pick, refuse, limit}
 use Rattle.aco.specs.Reading.{lists, aco}
-use Rattle.aco_judge.specs.Answer.{Verdict, refused, verdict}
+use Rattle.algebra.specs.Table.{refused, verdict}
+use Rattle.aco_judge.specs.Answer.{report}
 use Rattle.aco_judge.proofs.Judging.{aco-long}
 use Rattle.aco_chunks.specs.declared.Stage.{Stage}
 use Rattle.aco_chunks.specs.declared.Stage.the-variants as v
@@ -155,21 +156,21 @@ module _ (s st : List ℕ) (room : 40960 ≤ length st) where
   begins = (0, record { total = refl; short = some-size v.First; inside = omega arith; bytes = λ k d. absurd (omega arith); left = (refl, refl) }, refl)
 
   -- a file within the limit
-  within : length s ≤ limit → (answer (chunk (begin st) s) ≡ verdict (aco s)) × (chunk (begin st) s .store ≡ held (soundColours s) s st)
+  within : length s ≤ limit → (answer (chunk (begin st) s) ≡ verdict report (aco s)) × (chunk (begin st) s .store ≡ held (soundColours s) s st)
   unfolding answer aco
   within l = go (run-stands s [] 0 (begin st) (sym (append-nil s)) begins (omega arith) (omega arith))
     where
       g : Progress
       g = chunk (begin st) s
 
-      go : Until (0 + length s) g → (answer g ≡ verdict (aco s)) × (g .store ≡ held (soundColours s) s st)
+      go : Until (0 + length s) g → (answer g ≡ verdict report (aco s)) × (g .store ≡ held (soundColours s) s st)
       go u =
           let h = u .1 in
           let c : Window (size (g .stage)) s (u .0) (g .carry) = record { inside = h .inside; most = λ d. omega (arith, u .2); bytes = h .bytes } in
           let r = item-cut s st room (g .stage) (u .0) (g .carry) (g .store) (h .left) (omega (arith, u .2)) (h .short) c in
           let f : g .total - length (g .carry) ≡ u .0 = omega (arith, h .total) in (
             ap (λ (b : Bool). pick b (refused 1 0 0 0) (ending (g .stage) (g .total - length (g .carry)) (g .carry) (g .store))) (le-ltb limit (g .total) (omega (arith, h .total, u .2)))
-                ∙ ap (λ (p : ℕ). ending (g .stage) p (g .carry) (g .store)) f ∙ sym (r .0) ∙ ap (λ (b : Bool). verdict (pick b (lists s 0) (refuse 1 0 0 0))) (sym (le-leb (length s) limit l)),
+                ∙ ap (λ (p : ℕ). ending (g .stage) p (g .carry) (g .store)) f ∙ sym (r .0) ∙ ap (λ (b : Bool). verdict report (pick b (lists s 0) (refuse 1 0 0 0))) (sym (le-leb (length s) limit l)),
             r .1,
           )
 
@@ -185,7 +186,7 @@ module _ (s st : List ℕ) (room : 40960 ≤ length st) where
       (r .0 ∙ ap (λ (b : Bool). limited b g y .store) e, r .1)
 
   -- the limit as a number that does not compute
-  beyond : (L : ℕ) → L ≡ limit → L < length s → (answer (chunk (begin st) s) ≡ verdict (aco s)) × (chunk (begin st) s .store ≡ held (soundColours s) s st)
+  beyond : (L : ℕ) → L ≡ limit → L < length s → (answer (chunk (begin st) s) ≡ verdict report (aco s)) × (chunk (begin st) s .store ≡ held (soundColours s) s st)
   unfolding answer
   beyond L is l =
       let n : length (take L s) ≡ L = length-take-le L s (omega arith) in
@@ -196,14 +197,14 @@ module _ (s st : List ℕ) (room : 40960 ≤ length st) where
       let j : chunk (begin st) s ≡ chunk (chunk (begin st) (take L s)) (drop L s) = ap (chunk (begin st)) (sym (take-append-drop L s)) ∙ chunk-append (take L s) (drop L s) (begin st) in
       let t : limit < chunk (begin st) s .total = subst (λ (z : Progress). limit < z .total) (sym j) (p .1) in (
         ap (λ (b : Bool). pick b (refused 1 0 0 0) (ending (chunk (begin st) s .stage) (chunk (begin st) s .total - length (chunk (begin st) s .carry)) (chunk (begin st) s .carry) (chunk (begin st) s .store))) (lt-ltb limit (chunk (begin st) s .total) t)
-            ∙ sym (ap verdict (aco-long s (omega arith))),
+            ∙ sym (ap (verdict report) (aco-long s (omega arith))),
         ap (λ (z : Progress). z .store) j ∙ p .0 ∙ item-limit s st room (chunk (begin st) (take L s) .stage) (u .0) (length (chunk (begin st) (take L s) .carry)) (chunk (begin st) (take L s) .store) (h .left) (h .short) (omega (arith, u .2)),
       )
 
-  pub whole-file : (answer (chunk (begin st) s) ≡ verdict (aco s)) × (chunk (begin st) s .store ≡ held (soundColours s) s st)
+  pub whole-file : (answer (chunk (begin st) s) ≡ verdict report (aco s)) × (chunk (begin st) s .store ≡ held (soundColours s) s st)
   whole-file = go (leb (length s) limit) refl
     where
-      go : (b : Bool) → leb (length s) limit ≡ b → (answer (chunk (begin st) s) ≡ verdict (aco s)) × (chunk (begin st) s .store ≡ held (soundColours s) s st)
+      go : (b : Bool) → leb (length s) limit ≡ b → (answer (chunk (begin st) s) ≡ verdict report (aco s)) × (chunk (begin st) s .store ≡ held (soundColours s) s st)
       go true e = within (leb-true (length s) limit e)
       go false e = beyond limit refl (leb-false (length s) limit e)
 

@@ -17,10 +17,11 @@ use Rattle.colour.specs.declared.space.Colour.{Colour}
 use Rattle.aco.specs.Reading.{most, firstCount, secondCount, space, sample, samples, colour, heading, fieldOf, twin, black, lists}
 use Rattle.aco.specs.Reading as R
 use Rattle.aco.specs.Raw.{rawColours}
-use Rattle.aco_judge.specs.Answer.{Verdict, accepted, refused, verdict}
+use Rattle.algebra.specs.Table.{accepted, refused, verdict}
+use Rattle.aco_judge.specs.Answer.{report}
 use Rattle.aco_chunks.specs.declared.Stage.{Stage}
 use Rattle.aco_chunks.specs.declared.Stage.the-variants as v
-use Rattle.aco_chunks.specs.Chunks.{loaded, entryHead, colourItem, excess, size, item, colours, entries, unitDone, next, after, kept, isFault, cut, second, ending}
+use Rattle.aco_chunks.specs.Chunks.{FileVerdict, loaded, entryHead, colourItem, excess, size, item, colours, entries, unitDone, next, after, kept, isFault, cut, second, ending}
 use Rattle.aco_chunks.specs.Promise.{soundFrom, soundIn, soundColours, held}
 use Rattle.algebra.specs.Reader.{shift}
 use Rattle.algebra.proofs.Alone.{Window, Alone, judged-alone, give-alone, bind-alone, each-alone, field-alone}
@@ -53,8 +54,8 @@ module _ (w : ℕ) (s : List ℕ) (from : ℕ) (b : List ℕ) (h : Window w s fr
 -- ---- what stands before an item that begins at `from`
 
 module _ (s st : List ℕ) (room : 40960 ≤ length st) where
-  abbrev pub all : Verdict
-  all = verdict (lists s 0)
+  abbrev pub all : FileVerdict
+  all = verdict report (lists s 0)
 
   -- i colours of n are in the store
   pub record Rows (n i from : ℕ) (store : List ℕ) : Type 0 where
@@ -62,7 +63,7 @@ module _ (s st : List ℕ) (room : 40960 ≤ length st) where
     pub here : from ≡ 4 + 10 * i
     pub inside : from ≤ length s
     pub holds : store ≡ held i s st
-    pub comes : all ≡ verdict (coloursLeft n i s from)
+    pub comes : all ≡ verdict report (coloursLeft n i s from)
     pub count : soundColours s ≡ i + soundFrom (n - i) s from
 
   -- all of them are
@@ -75,7 +76,7 @@ module _ (s st : List ℕ) (room : 40960 ≤ length st) where
   abbrev pub Left : Stage → ℕ → List ℕ → Type 0
   Left v.First from store = (from ≡ 0) × (store ≡ st)
   Left (v.Colour n i) from store = Rows n i from store × (i < n)
-  Left (v.Second n) from store = Passed n store × (all ≡ verdict (R.after (raw n s) s from))
+  Left (v.Second n) from store = Passed n store × (all ≡ verdict report (R.after (raw n s) s from))
   Left (v.Entry n i) from store = Passed n store × (i < n) × (all ≡ sealed n (entriesLeft n i s from))
   Left (v.Unit n i at m z) from store = Passed n store × (i < n) × (0 < m) × (all ≡ sealed n (then (unitsLeft at m z s from) (λ u q. entriesLeft n (i + 1) s q)))
   Left (v.End n) from store = Passed n store × (all ≡ sealed n (endAt s from))
@@ -89,7 +90,7 @@ module _ (s st : List ℕ) (room : 40960 ≤ length st) where
       go false e =
           let k : n ≡ i = omega (arith, ltb-false i n e) in
           let r′ : Rows n n from store = subst (λ (j : ℕ). Rows n j from store) (sym k) r in
-          (record { few = r′ .few; inside = omega (arith, r′ .inside, r′ .here); holds = r′ .holds; count = r′ .count ∙ omega (arith, soundFrom-over s n from) }, r′ .comes ∙ ap verdict (colours-over s n from))
+          (record { few = r′ .few; inside = omega (arith, r′ .inside, r′ .here); holds = r′ .holds; count = r′ .count ∙ omega (arith, soundFrom-over s n from) }, r′ .comes ∙ ap (verdict report) (colours-over s n from))
 
   enter-entries : (n i from : ℕ) (store : List ℕ) → i ≤ n → Passed n store → all ≡ sealed n (entriesLeft n i s from) → Left (entries n i) from store
   enter-entries n i from store l p e = go (ltb i n) refl
@@ -135,7 +136,7 @@ module _ (s st : List ℕ) (room : 40960 ≤ length st) where
               here = omega arith;
               inside = omega (arith, h .inside);
               holds = e;
-              comes = ap verdict (first-turn s n y) ∙ ap (λ (x : ℕ). verdict (coloursLeft n 0 s x)) f4;
+              comes = ap (verdict report) (first-turn s n y) ∙ ap (λ (x : ℕ). verdict report (coloursLeft n 0 s x)) f4;
               count = omega arith;
             }),
           )
@@ -154,7 +155,7 @@ module _ (s st : List ℕ) (room : 40960 ≤ length st) where
       colour-no x p r f k =
           let y : colourItem s from ≡ refuse x (from + p) r f = colourItem-here ∙ ap (shift from) k in
           let c : soundColours s ≡ i = omega (arith, rows .count, soundFrom-stop s n i from l y) in
-          (rows .holds ∙ ap (λ (k : ℕ). held k s st) (sym c), rows .comes ∙ ap verdict (colour-stop s n i from l (colourItem-no s from y)))
+          (rows .holds ∙ ap (λ (k : ℕ). held k s st) (sym c), rows .comes ∙ ap (verdict report) (colour-stop s n i from l (colourItem-no s from y)))
 
       colour-moves : (u q : ℕ) → colourItem b 0 ≡ ok u q → (q ≡ 10) × (10 ≤ length b)
       colour-moves u q k = let m = colourItem-alone w s from b h .moves 0 (omega arith) u q k in (omega arith, omega arith)
@@ -169,12 +170,12 @@ module _ (s st : List ℕ) (room : 40960 ≤ length st) where
             here = omega (arith, rows .here);
             inside = omega (arith, h .inside);
             holds = ap (λ (o : List ℕ). stored o (10 * i) b) (rows .holds) ∙ held-more s st i from b (rows .here) (omega (arith, h .inside)) (omega (arith, rows .few)) lb (h .bytes);
-            comes = rows .comes ∙ ap verdict (colour-turn s n i from l (colourItem-ok s from y .1));
+            comes = rows .comes ∙ ap (verdict report) (colour-turn s n i from l (colourItem-ok s from y .1));
             count = omega (arith, rows .count, soundFrom-turn s n i from l y);
           })
 
     -- list 2's heading, which has begun
-    module _ (w : ℕ) (four : 4 ≤ w) (h : Window w s from b) (n : ℕ) (p : Passed n store) (e : all ≡ verdict (R.after (raw n s) s from)) (some : 0 < length b) where
+    module _ (w : ℕ) (four : 4 ≤ w) (h : Window w s from b) (n : ℕ) (p : Passed n store) (e : all ≡ verdict report (R.after (raw n s) s from)) (some : 0 < length b) where
       second-here : heading 2 (secondCount n) s from ≡ shift from (heading 2 (secondCount n) b 0)
       second-here = at-start w s from b h 4 (heading 2 (secondCount n)) (heading-alone w s from b h 2 (secondCount n)) four
 

@@ -17,9 +17,10 @@ use Rattle.colour.specs.declared.space.Colour.{Colour}
 use Rattle.aco.specs.Reading.{colour, heading, firstCount, secondCount, twin, entry, Entry, Contents, black, second, unnamed, after, lists}
 use Rattle.aco.specs.Raw.{rawColours}
 use Rattle.aco.proofs.Raw.{colours-raw, colour-moves, length-raw}
-use Rattle.aco_judge.specs.Answer.{Verdict, accepted, refused, verdict}
+use Rattle.algebra.specs.Table.{accepted, refused, verdict}
+use Rattle.aco_judge.specs.Answer.{report}
 use Rattle.aco_judge.proofs.Judging.{entryOf, second-lists}
-use Rattle.aco_chunks.specs.Chunks.{entryHead, colourItem}
+use Rattle.aco_chunks.specs.Chunks.{FileVerdict, entryHead, colourItem}
 use Rattle.aco_chunks.specs.Promise.{soundFrom, soundBy}
 
 -- ---- what is left
@@ -39,8 +40,8 @@ abbrev pub entriesLeft : ℕ → ℕ → List ℕ → ℕ → Res Unit
 entriesLeft n i s at = then (done (each (n - i) i (entryOf (raw n s)) s at)) (λ u q. endAt s q)
 
 -- what list 2 comes to
-abbrev pub sealed : ℕ → Res Unit → Verdict
-sealed n (ok u q) = accepted n 2
+abbrev pub sealed : ℕ → Res Unit → FileVerdict
+sealed n (ok u q) = accepted (n, 2)
 sealed n (refuse x p r f) = refused x p r f
 
 -- closed, where z says that a unit before these was zero
@@ -55,7 +56,7 @@ unitsLeft at m z s from = pick (leb (m * 2) (length s - from)) (rule (unless (cl
 -- ---- list 1
 
 module _ (s : List ℕ) where
-  pub first-refused : {x p r f : ℕ} → heading 1 firstCount s 0 ≡ refuse x p r f → verdict (lists s 0) ≡ refused x p r f
+  pub first-refused : {x p r f : ℕ} → heading 1 firstCount s 0 ≡ refuse x p r f → verdict report (lists s 0) ≡ refused x p r f
   unfolding lists
   first-refused e = rw e
 
@@ -118,38 +119,38 @@ module _ (s : List ℕ) where
   -- ---- list 2
 
   -- the file ends after list 1
-  pub after-end : (n at : ℕ) → at ≡ length s → verdict (after (raw n s) s at) ≡ accepted n 1
+  pub after-end : (n at : ℕ) → at ≡ length s → verdict report (after (raw n s) s at) ≡ accepted (n, 1)
   unfolding after
-  after-end n at e = rw (eq-eqb _ _ e) (ap (λ (k : ℕ). accepted k 1) (length-map (raw n s) unnamed ∙ length-raw n s 4))
+  after-end n at e = rw (eq-eqb _ _ e) (ap (λ (k : ℕ). accepted (k, 1)) (length-map (raw n s) unnamed ∙ length-raw n s 4))
 
   after-more : (n at : ℕ) → (at ≡ length s → ⊥) → after (raw n s) s at ≡ second (raw n s) s at
   unfolding after
   after-more n at e = rw (ne-eqb _ _ e)
 
-  sealed-by : (n at : ℕ) (m : Res Contents) → second (raw n s) s at ≡ m → verdict m ≡ sealed n (done m)
-  sealed-by n at (ok c q) e = second-lists s at (raw n s) e ∙ ap (λ (k : ℕ). accepted k 2) (length-raw n s 4)
+  sealed-by : (n at : ℕ) (m : Res Contents) → second (raw n s) s at ≡ m → verdict report m ≡ sealed n (done m)
+  sealed-by n at (ok c q) e = second-lists s at (raw n s) e ∙ ap (λ (k : ℕ). accepted (k, 2)) (length-raw n s 4)
   sealed-by n at (refuse x p r f) e = refl
 
   module _ (n at : ℕ) (more : at ≡ length s → ⊥) where
     same-count : heading 2 (λ m. pick (eqb m (length (raw n s))) fine (fault 7 0 5)) s at ≡ heading 2 (secondCount n) s at
     same-count = ap (λ (k : ℕ). heading 2 (secondCount k) s at) (length-raw n s 4)
 
-    second-no : {x p r f : ℕ} → heading 2 (λ m. pick (eqb m (length (raw n s))) fine (fault 7 0 5)) s at ≡ refuse x p r f → verdict (second (raw n s) s at) ≡ refused x p r f
+    second-no : {x p r f : ℕ} → heading 2 (λ m. pick (eqb m (length (raw n s))) fine (fault 7 0 5)) s at ≡ refuse x p r f → verdict report (second (raw n s) s at) ≡ refused x p r f
     unfolding second
     second-no h = rw h
 
-    pub second-stop : {x p r f : ℕ} → heading 2 (secondCount n) s at ≡ refuse x p r f → verdict (after (raw n s) s at) ≡ refused x p r f
-    second-stop e = ap verdict (after-more n at more) ∙ second-no (same-count ∙ e)
+    pub second-stop : {x p r f : ℕ} → heading 2 (secondCount n) s at ≡ refuse x p r f → verdict report (after (raw n s) s at) ≡ refused x p r f
+    second-stop e = ap (verdict report) (after-more n at more) ∙ second-no (same-count ∙ e)
 
     second-done : {m q : ℕ} → heading 2 (λ m. pick (eqb m (length (raw n s))) fine (fault 7 0 5)) s at ≡ ok m q
         → done (second (raw n s) s at) ≡ then (done (each (length (raw n s)) 0 (entryOf (raw n s)) s q)) (λ u p. endAt s p)
     unfolding second
     second-done {m} {q} e = rw e (done-const (each (length (raw n s)) 0 (entryOf (raw n s)) s q) _ _ (λ es p. ended-done (record { lists = 2; records = es }) s p))
 
-    pub second-turn : {m q : ℕ} → heading 2 (secondCount n) s at ≡ ok m q → verdict (after (raw n s) s at) ≡ sealed n (entriesLeft n 0 s q)
+    pub second-turn : {m q : ℕ} → heading 2 (secondCount n) s at ≡ ok m q → verdict report (after (raw n s) s at) ≡ sealed n (entriesLeft n 0 s q)
     second-turn {m} {q} e =
         let k : length (raw n s) ≡ n - 0 = length-raw n s 4 ∙ sym (sub-zero n) in
-        ap verdict (after-more n at more) ∙ sealed-by n at (second (raw n s) s at) refl
+        ap (verdict report) (after-more n at more) ∙ sealed-by n at (second (raw n s) s at) refl
         ∙ ap (sealed n) (second-done (same-count ∙ e) ∙ ap (λ (j : ℕ). then (done (each j 0 (entryOf (raw n s)) s q)) (λ u p. endAt s p)) k)
 
   -- ---- a record of list 2

@@ -9,9 +9,13 @@ use Rattle.algebra.specs.Reader.{Res, ok, refuse, Reader, then, pick, field, fi
 use Rattle.algebra.specs.Store.{stored}
 use Rattle.colour.specs.declared.space.Colour.{Colour}
 use Rattle.aco.specs.Reading.{colour, heading, firstCount, secondCount, twin}
-use Rattle.aco_judge.specs.Answer.{Verdict, accepted, refused}
+use Rattle.algebra.specs.Table.{Verdict, accepted, refused}
 use Rattle.aco_chunks.specs.declared.Stage.{Stage}
 use Rattle.aco_chunks.specs.declared.Stage.the-variants as v
+
+-- what a whole file is found to be: the number of colours and of lists, or the refusal
+abbrev pub FileVerdict : Type 0
+FileVerdict = Verdict (ℕ × ℕ)
 
 -- the colour whose ten bytes stand in a store from `at`; a field that is not there is 0
 abbrev pub loaded : List ℕ → ℕ → Colour
@@ -161,22 +165,22 @@ chunks g (c ∷ cs) = chunks (chunk g c) cs
 -- ---- the end
 
 -- an item that is cut short is refused as the whole-file reader refuses it; one that is whole stands only in an altered state
-abbrev pub cut : ℕ → Res ℕ → Verdict
+abbrev pub cut : ℕ → Res ℕ → FileVerdict
 cut from (ok u q) = refused 5 0 0 0
 cut from (refuse x p r f) = refused x (from + p) r f
 
-abbrev pub second : ℕ → List ℕ → Verdict → Verdict
-second n [] w = accepted n 1
+abbrev pub second : ℕ → List ℕ → FileVerdict → FileVerdict
+second n [] w = accepted (n, 1)
 second n (b ∷ bs) w = w
 
-unfoldable pub ending : Stage → ℕ → List ℕ → List ℕ → Verdict
+unfoldable pub ending : Stage → ℕ → List ℕ → List ℕ → FileVerdict
 ending v.First from b store = cut from (item store v.First b 0)
 ending (v.Colour n i) from b store = cut from (item store (v.Colour n i) b 0)
 ending (v.Second n) from b store = second n b (cut from (item store (v.Second n) b 0))
 ending (v.Entry n i) from b store = cut from (item store (v.Entry n i) b 0)
 ending (v.Unit n i at m z) from b store = refused 2 (at + 4) 0 0
-ending (v.End n) from b store = accepted n 2
+ending (v.End n) from b store = accepted (n, 2)
 ending (v.Fault x p r f) from b store = refused x p r f
 
-unfoldable pub answer : Progress → Verdict
+unfoldable pub answer : Progress → FileVerdict
 answer g = pick (ltb limit (g .total)) (refused 1 0 0 0) (ending (g .stage) (g .total - length (g .carry)) (g .carry) (g .store))

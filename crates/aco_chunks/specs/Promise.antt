@@ -6,7 +6,8 @@ use lib.ListN.{length, drop}
 use Rattle.algebra.specs.Reader.{Res, ok, refuse}
 use Rattle.algebra.specs.Store.{part}
 use Rattle.aco.specs.Reading.{heading, firstCount, aco}
-use Rattle.aco_judge.specs.Answer.{verdict}
+use Rattle.algebra.specs.Table.{verdict}
+use Rattle.aco_judge.specs.Answer.{report}
 use Rattle.aco_chunks.specs.Chunks.{colourItem, chunks, begin, answer}
 
 -- the chunks as one file
@@ -39,4 +40,4 @@ held k s store = part s 4 (10 * k) ++ drop (10 * k) store
 abbrev pub AnyCutting : Type 0
 AnyCutting =
     (cs : List (List ℕ)) (store : List ℕ) → 40960 ≤ length store →
-    (answer (chunks (begin store) cs) ≡ verdict (aco (join cs))) × (chunks (begin store) cs .store ≡ held (soundColours (join cs)) (join cs) store)
+    (answer (chunks (begin store) cs) ≡ verdict report (aco (join cs))) × (chunks (begin store) cs .store ≡ held (soundColours (join cs)) (join cs) store)

@@ -10,9 +10,10 @@ use native.Mathlib.Omega.{arith}
 use Rattle.algebra.specs.Numbers.{All}
 use Rattle.algebra.specs.Store.{part}
 use Rattle.aco.specs.Reading.{aco}
-use Rattle.aco_judge.specs.Answer.{Verdict, verdict}
+use Rattle.algebra.specs.Table.{verdict}
+use Rattle.aco_judge.specs.Answer.{report}
 use Rattle.aco_stream.specs.declared.Stream.{Stream}
-use Rattle.aco_chunks.specs.Chunks.{Progress, chunk, chunks, begin, answer}
+use Rattle.aco_chunks.specs.Chunks.{FileVerdict, Progress, chunk, chunks, begin, answer}
 use Rattle.aco_chunks.specs.Promise.{join, soundColours, held}
 use Rattle.aco_stream.specs.Answer.{progress, usable, roomy, room, Starts, StartsBy, Feeds, FeedsBy, Finishes, FinishesBy}
 use Rattle.aco_stream.proofs.Calls.{is-roomy}
@@ -46,16 +47,16 @@ runs-keep (c ∷ cs) ns i s store₀ store t after h r =
     let k = runs-keep cs (r .4) (i + 1) (r .0) store₀ (r .1) t after m (r .6) in
     (k .0, k .1 ∙ ap (λ (g : Progress). chunks g cs) (f .2), subst (All (λ k n. n ≡ 0) i) (sym (r .5)) (f .0, k .2))
 
-pub record Agrees (cs : List (List ℕ)) (store : List ℕ) (n : ℕ) (ns : List ℕ) (w : Verdict) (after : List ℕ) : Type 0 where
+pub record Agrees (cs : List (List ℕ)) (store : List ℕ) (n : ℕ) (ns : List ℕ) (w : FileVerdict) (after : List ℕ) : Type 0 where
   -- the start is answered 0, and so is every chunk
   pub started : n ≡ 0
   pub fed : All (λ k x. x ≡ 0) 0 ns
   -- the end is answered what the whole file is found to be
-  pub answers : w ≡ verdict (aco (join cs))
+  pub answers : w ≡ verdict report (aco (join cs))
   -- the store begins with the sound colours of list 1, and past them holds what it held
   pub holds : after ≡ held (soundColours (join cs)) (join cs) store
 
-pub calls-agree : (cs : List (List ℕ)) (store : List ℕ) → 40960 ≤ length store → (s : Stream) (n : ℕ) → Starts store s n → (ns : List ℕ) (t : Stream) (after : List ℕ) → Runs s store cs ns t after → (z : Stream) (w : Verdict) → Finishes t after z w → Agrees cs store n ns w after
+pub calls-agree : (cs : List (List ℕ)) (store : List ℕ) → 40960 ≤ length store → (s : Stream) (n : ℕ) → Starts store s n → (ns : List ℕ) (t : Stream) (after : List ℕ) → Runs s store cs ns t after → (z : Stream) (w : FileVerdict) → Finishes t after z w → Agrees cs store n ns w after
 calls-agree cs store l s n b ns t after r z w f =
     let b′ : StartsBy true store s n = subst (λ (b : Bool). StartsBy b store s n) (is-roomy store l) b in
     let k = runs-keep cs ns 0 s store store t after (record { is-usable = b′ .1; long = l; rest = refl }) r in

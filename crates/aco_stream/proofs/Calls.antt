@@ -9,9 +9,9 @@ use lib.Seq.{length-take-le, take-append-seam, drop-append-seam, length-front}
 use borrow.Author.Tests.{lt-ltb, le-ltb, le-leb, lt-leb}
 use native.Mathlib.Omega.{arith}
 use Rattle.algebra.specs.Reader.{pick}
-use Rattle.aco_judge.specs.Answer.{Verdict, refused}
+use Rattle.algebra.specs.Table.{refused}
 use Rattle.aco_stream.specs.declared.Stream.{Stream}
-use Rattle.aco_chunks.specs.Chunks.{size, begin, chunk, answer}
+use Rattle.aco_chunks.specs.Chunks.{FileVerdict, size, begin, chunk, answer}
 use Rattle.aco_stream.specs.Answer.{progress, usable, roomy, room, ended, Starts, StartsBy, Feeds, FeedsBy, Finishes, FinishesBy}
 use Rattle.aco_stream.specs.Parts.{FeedsIn, FeedsInBy, FinishesIn, FinishesInBy}
 
@@ -55,7 +55,7 @@ module _ (s : Stream) (store : List ℕ) where
   pub finishes-11 : usable s ≡ true → roomy store ≡ false → FinishesIn s store s (refused 11 0 0 0)
   finishes-11 e r = subst (λ (b : Bool). FinishesInBy b (roomy store) s store s (refused 11 0 0 0)) (sym e) (subst (λ (b : Bool). FinishesInBy true b s store s (refused 11 0 0 0)) (sym r) (refl, refl))
 
-  pub finishes-0 : usable s ≡ true → roomy store ≡ true → (w : Verdict) → w ≡ answer (progress s store) → FinishesIn s store (ended s) w
+  pub finishes-0 : usable s ≡ true → roomy store ≡ true → (w : FileVerdict) → w ≡ answer (progress s store) → FinishesIn s store (ended s) w
   finishes-0 e r w h = subst (λ (b : Bool). FinishesInBy b (roomy store) s store (ended s) w) (sym e) (subst (λ (b : Bool). FinishesInBy true b s store (ended s) w) (sym r) (h, refl))
 
 -- ---- a store that is too short is handed on as it is, of another its first bytes
@@ -101,7 +101,7 @@ module _ (s : Stream) (store bytes : List ℕ) (t : Stream) (number : ℕ) where
       go false false true q z f = (f .0, f .1, same (f .2))
       go false false false q z f = (f .0, f .1, same (f .2))
 
-module _ (s : Stream) (store : List ℕ) (t : Stream) (w : Verdict) where
+module _ (s : Stream) (store : List ℕ) (t : Stream) (w : FileVerdict) where
   pub finishes-short : length store < 40960 → FinishesIn s store t w → Finishes s store t w
   finishes-short l f = go (usable s) (roomy store) (not-roomy store l) f
     where

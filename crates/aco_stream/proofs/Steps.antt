@@ -14,9 +14,9 @@ use Rattle.algebra.proofs.Laws.{body-in}
 use Rattle.algebra.proofs.Inverse.{clash}
 use Rattle.aco_chunks.specs.declared.Stage.{Stage}
 use Rattle.aco_chunks.specs.declared.Stage.the-variants as v
-use Rattle.aco_chunks.specs.Chunks.{colours, entries, unitDone, next, kept, after, second, cut, item, ending}
+use Rattle.aco_chunks.specs.Chunks.{FileVerdict, colours, entries, unitDone, next, kept, after, second, cut, item, ending}
 use Rattle.aco_stream.specs.Parts.{unitsPassed}
-use Rattle.aco_judge.specs.Answer.{Verdict, accepted}
+use Rattle.algebra.specs.Table.{accepted}
 
 pub colours-some : (n : ℕ) → 0 < n → v.Colour n 0 ≡ colours n 0
 colours-some n h = sym (ap (λ (b : Bool). pick b (v.Colour n 0) (v.Second n)) (lt-ltb 0 n h))
@@ -98,19 +98,19 @@ module _ (s : List ℕ) (at k : ℕ) (inside : at + k * 2 ≤ length s) where
       go false h = clash h
 
 -- the file ends after list 1, or list 2 has begun
-pub second-none : (n : ℕ) (b : List ℕ) → length b ≡ 0 → (w : Verdict) → accepted n 1 ≡ second n b w
+pub second-none : (n : ℕ) (b : List ℕ) → length b ≡ 0 → (w : FileVerdict) → accepted (n, 1) ≡ second n b w
 second-none n [] e w = refl
 second-none n (x ∷ b) e w = absurd (omega arith)
 
-pub second-some : (n : ℕ) (b : List ℕ) → (length b ≡ 0 → ⊥) → (w : Verdict) → w ≡ second n b w
+pub second-some : (n : ℕ) (b : List ℕ) → (length b ≡ 0 → ⊥) → (w : FileVerdict) → w ≡ second n b w
 second-some n [] e w = absurd (e refl)
 second-some n (x ∷ b) e w = refl
 
-pub ending-none : {g : Stage} {n : ℕ} (from : ℕ) (b store : List ℕ) → g ≡ v.Second n → length b ≡ 0 → accepted n 1 ≡ ending g from b store
+pub ending-none : {g : Stage} {n : ℕ} (from : ℕ) (b store : List ℕ) → g ≡ v.Second n → length b ≡ 0 → accepted (n, 1) ≡ ending g from b store
 unfolding ending
 ending-none {g} {n} from b store e l = second-none n b l (cut from (item store (v.Second n) b 0)) ∙ sym (ap (λ (g : Stage). ending g from b store) e)
 
-pub ending-some : {g : Stage} {n : ℕ} (from : ℕ) (b store : List ℕ) (w : Verdict) → g ≡ v.Second n → (length b ≡ 0 → ⊥) → w ≡ cut from (item store (v.Second n) b 0) → w ≡ ending g from b store
+pub ending-some : {g : Stage} {n : ℕ} (from : ℕ) (b store : List ℕ) (w : FileVerdict) → g ≡ v.Second n → (length b ≡ 0 → ⊥) → w ≡ cut from (item store (v.Second n) b 0) → w ≡ ending g from b store
 unfolding ending
 ending-some {g} {n} from b store w e l h =
     h ∙ second-some n b l (cut from (item store (v.Second n) b 0)) ∙ sym (ap (λ (g : Stage). ending g from b store) e)

@@ -6,9 +6,9 @@ use lib.Dec.{leb, ltb}
 use mathlib.Core.List.{List}
 use lib.ListN.{take, drop, length}
 use Rattle.aco_stream.specs.declared.Stream.{Stream}
-use Rattle.aco_chunks.specs.Chunks.{Progress, size, chunk, begin, answer}
+use Rattle.aco_chunks.specs.Chunks.{FileVerdict, Progress, size, chunk, begin, answer}
 use Rattle.algebra.specs.Reader.{Res, ok, refuse, pick}
-use Rattle.aco_judge.specs.Answer.{Verdict, accepted, refused}
+use Rattle.algebra.specs.Table.{accepted, refused}
 use Rattle.aco_stream.specs.declared.Answer.{Answer}
 use Rattle.aco_stream.specs.declared.Answer.the-variants as va
 use Rattle.aco_stream.specs.declared.Item.{Item}
@@ -22,8 +22,8 @@ toldItem (vi.Refused x p r f) = refuse x p r f
 abbrev pub progress : Stream → List ℕ → Progress
 progress s store = record { stage = s .stage; total = s .total; carry = take (s .got) (s .carry); store = store }
 
-abbrev pub told : Answer → Verdict
-told (va.Accepted n l) = accepted n l
+abbrev pub told : Answer → FileVerdict
+told (va.Accepted n l) = accepted (n, l)
 told (va.Refused x p r f) = refused x p r f
 
 -- ---- the calls: for each stream and store, what is answered, what the stream becomes and what the store then holds
@@ -61,10 +61,10 @@ abbrev pub Feeds : Stream → List ℕ → List ℕ → Stream → ℕ → List 
 Feeds s store bytes t number after = FeedsBy (usable s) (roomy store) s store bytes t number after
 
 -- the end: the same refusals, else the file's verdict, and the stream has ended
-abbrev pub FinishesBy : Bool → Bool → Stream → List ℕ → Stream → Verdict → Type 0
+abbrev pub FinishesBy : Bool → Bool → Stream → List ℕ → Stream → FileVerdict → Type 0
 FinishesBy true true s store t w = (w ≡ answer (progress s (take room store))) × (t ≡ ended s)
 FinishesBy true false s store t w = (w ≡ refused 11 0 0 0) × (t ≡ s)
 FinishesBy false large s store t w = (w ≡ refused 5 0 0 0) × (t ≡ s)
 
-abbrev pub Finishes : Stream → List ℕ → Stream → Verdict → Type 0
+abbrev pub Finishes : Stream → List ℕ → Stream → FileVerdict → Type 0
 Finishes s store t w = FinishesBy (usable s) (roomy store) s store t w

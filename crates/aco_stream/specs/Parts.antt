@@ -5,11 +5,11 @@ use mathlib.Core.List.{List}
 use mathlib.Core.Bool.{Bool, true, false}
 use lib.ListN.{length}
 use Rattle.algebra.specs.Reader.{pick}
-use Rattle.aco_judge.specs.Answer.{Verdict, refused}
+use Rattle.algebra.specs.Table.{refused}
 use Rattle.aco_chunks.specs.declared.Stage.{Stage}
 use Rattle.aco_chunks.specs.declared.Stage.the-variants as v
 use Rattle.aco_stream.specs.declared.Stream.{Stream}
-use Rattle.aco_chunks.specs.Chunks.{chunk, answer}
+use Rattle.aco_chunks.specs.Chunks.{FileVerdict, chunk, answer}
 use Rattle.aco_stream.specs.Answer.{progress, usable, roomy, ended}
 
 -- ---- several units at once: all but a name's last
@@ -48,10 +48,10 @@ FeedsInBy false large s store bytes t number after = (number ≡ 5) × (t ≡ s)
 abbrev pub FeedsIn : Stream → List ℕ → List ℕ → Stream → ℕ → List ℕ → Type 0
 FeedsIn s store bytes t number after = FeedsInBy (usable s) (roomy store) s store bytes t number after
 
-abbrev pub FinishesInBy : Bool → Bool → Stream → List ℕ → Stream → Verdict → Type 0
+abbrev pub FinishesInBy : Bool → Bool → Stream → List ℕ → Stream → FileVerdict → Type 0
 FinishesInBy true true s store t w = (w ≡ answer (progress s store)) × (t ≡ ended s)
 FinishesInBy true false s store t w = (w ≡ refused 11 0 0 0) × (t ≡ s)
 FinishesInBy false large s store t w = (w ≡ refused 5 0 0 0) × (t ≡ s)
 
-abbrev pub FinishesIn : Stream → List ℕ → Stream → Verdict → Type 0
+abbrev pub FinishesIn : Stream → List ℕ → Stream → FileVerdict → Type 0
 FinishesIn s store t w = FinishesInBy (usable s) (roomy store) s store t w

@@ -6,7 +6,7 @@ use native.Mathlib.Omega.{arith}
 use lib.ListN.{length, take}
 use lib.Seq.{length-take-le}
 use Rattle.algebra.specs.Reader.{pick, limit}
-use Rattle.aco_judge.specs.Answer.{refused}
+use Rattle.algebra.specs.Table.{refused}
 use Rattle.aco_chunks.specs.Chunks.{size}
 use Rattle.aco_stream.specs.Answer.{progress}
 use Rattle.aco_stream.proofs.Feeds.{answer-long, answer-within, size-most}
