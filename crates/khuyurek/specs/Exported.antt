@@ -6,7 +6,7 @@ use Rattle.aco_judge.specs.Answer.{Verdict, accepted, refused}
 use Rattle.aco_read.specs.Table.{Where, lies, refusal}
 use Rattle.algebra.specs.Writing.{Outcome, bytes, refused as unwritten}
 use lib.Ieee.{Float, binary32, toBits}
-use Rattle.colour.specs.Convert.{Converted, gives, refused as noChannel}
+use Rattle.convert.specs.Convert.{Converted, gives, refused as noChannel}
 use Rattle.ase_judge.specs.Answer as palette
 use Rattle.ase_read.specs.Answer.{Shown, group, close, colour, refusal as refusalAse}
 use Rattle.khuyurek.specs.declared.AcoAnswer.{AcoAnswer}
