@@ -70,7 +70,9 @@ typedef struct {
 
 /* The numbers of a record in a table or run: space, four samples, place of the
  * name's first unit in the file or text, number of its units (16 bits each,
- * big-endian, without the closing zero). */
+ * big-endian, without the closing zero). Samples run from 0 to 65,535, of gray and
+ * Lab's lightness from 0 to 10,000; Lab's two chrominances from -12,800 to 12,700, as
+ * unsigned 16 bits. */
 #define KHUYUREK_ACO_WIDTH 7
 
 /* number 0: accepted, with the number of colours and of lists (2: names).

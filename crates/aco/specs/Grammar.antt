@@ -43,7 +43,7 @@ pub data Scale : Type 0 where
   chrominance : Scale
   unused : Scale
 
--- a chrominance from -12,800 to 12,700, and its 16 bits: those of a number below zero are 65,536 less it
+-- a chrominance, from -12,800 to 12,700, by its 16 bits: those of -n are 65,536 - n
 pub data Chrominance : ℕ → Type 0 where
   plus : (n : ℕ) → n ≤ 12700 → Chrominance n
   minus : (n : ℕ) → 0 < n → n ≤ 12800 → Chrominance (65536 - n)

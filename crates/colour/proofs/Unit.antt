@@ -18,7 +18,29 @@ use lib.Ieee.Positive.{num, den, den-pos}
 use lib.Ieee.Scale.{finite}
 use Rattle.colour.specs.Channels.{inUnit}
 use Rattle.algebra.proofs.Floats.{lead, value, bits-value, finite-bits}
-use Rattle.colour.proofs.Nearest.{U, E, cross, lead-lt, digit-lt, below-ones}
+
+-- size and exponent of the bits b
+abbrev pub U : ℕ → ℕ
+U b = b % 0x8000_0000
+
+abbrev pub E : ℕ → ℕ
+E b = U b / 0x80_0000
+
+pub below-ones : (u : ℕ) → u ≤ 0x3f80_0000 → u < 255 * 0x80_0000
+below-ones u h = omega arith
+
+-- a value's fraction, whatever its sign
+pub cross : (x : Float) (s : Bool) (a c : ℕ) → HasValue x s a c → num x * c ≡ a * den x
+cross lib.Ieee.nan s a c h = absurd h
+cross (lib.Ieee.inf t) s a c h = absurd h
+cross (lib.Ieee.fin t m e) s a c h = h .1
+
+pub lead-lt : (x t : ℕ) → t < 2 ^ 23 → lead binary32 x t < 2 ^ 24
+lead-lt zero t h = omega arith
+lead-lt (suc x) t h = omega arith
+
+pub digit-lt : (b : ℕ) → b % 8388608 < 2 ^ 23
+digit-lt b = omega arith
 
 or-split : (a b : Bool) → T (a || b) → T a ⊎ T b
 or-split true b t = inl tt

@@ -1,10 +1,9 @@
--- Channels: which floats a model allows, a sample as a channel and back, and a colour by its channels' bits.
-use Prim.Native.Nat.{ℕ, _+_, _*_, _/_}
+-- Channels: which floats a model allows, and a colour by its channels' bits.
+use Prim.Native.Nat.{ℕ}
 use mathlib.Core.Bool.{Bool, true, false, _&&_}
 use mathlib.Core.List.{List, [], _∷_}
 use lib.IntN.{pos}
-use lib.Ieee.{Float, fin, binary32, div, ofInt, le, ofBits, toBits}
-use lib.Ieee.Positive.{num, den}
+use lib.Ieee.{Float, fin, binary32, le, ofBits, toBits}
 use lib.Ieee.Scale.{finite}
 use Rattle.algebra.specs.Reader.{pick}
 use Rattle.colour.specs.Models.{modelOf}
@@ -41,20 +40,6 @@ allowsIn Unknown b = false
 -- the model with a tag allows a channel with these bits
 unfoldable pub allowsBits : ℕ → ℕ → Bool
 allowsBits t b = allowsIn (modelOf t) b
-
--- ---- a sample as a channel, and back, on a scale from 0 to n
-
--- one 32-bit division of the sample by n
-abbrev pub channelOf : ℕ → ℕ → Float
-channelOf n s = div binary32 (ofInt binary32 (pos s)) (ofInt binary32 (pos n))
-
--- the whole number nearest to a / c, halves upward
-abbrev pub nearestUp : ℕ → ℕ → ℕ
-nearestUp a c = (2 * a + c) / (2 * c)
-
--- the whole number nearest to n times a channel from 0 to 1, which is the fraction num / den
-unfoldable pub sampleOf : ℕ → Float → ℕ
-sampleOf n x = nearestUp (n * num x) (den x)
 
 -- ---- a colour from the bits of its channels; bits that its model does not use are left alone
 

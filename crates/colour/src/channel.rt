@@ -1,11 +1,10 @@
 // Channels: 32-bit floats, judged by their bits before a float is made, so that no NaN ever is.
 ghost use mathlib.Core.Path.{_≡_};
-ghost use Prim.Native.Nat.{_%_, _≤_};
 ghost use lib.Ieee.{binary32, ofBits, toBits};
 ghost use lib.Ieee.Scale.{finite};
 ghost use Rattle.algebra.specs.Reader.{pick};
 ghost use Rattle.colour.specs.Models.{modelOf};
-ghost use Rattle.colour.specs.Channels.{inUnit, channelOf, sampleOf, made, madeIn, bitsOf, modelIn};
+ghost use Rattle.colour.specs.Channels.{inUnit, made, madeIn, bitsOf, modelIn};
 use crate::model::Known;
 use crate::model::Model;
 
@@ -17,8 +16,6 @@ const MINUS_ZERO: u32 = 0x8000_0000;
 const INFINITY: u32 = 0x7f80_0000;
 
 const NAN: u32 = 0x7fc0_0000;
-
-const UNIT: u64 = 0x100_0000_0000;
 
 // A colour of a model, with its channels.
 pub enum Channels {
@@ -69,30 +66,6 @@ pub fn bits_of(x: f32) -> u32
         return f32::to_bits(x);
     }
     NAN
-}
-
-// The sample of a scale from 0 to `full`, as a channel.
-pub(crate) fn quotient(full: u16, sample: u16) -> f32
-    ensures { λ r. ⌜ r ≡ channelOf full sample ⌝ }
-{
-    (sample as f32) / (full as f32)
-}
-
-// The whole number nearest to `full` times a float that is from 0 to 1, halves upward.
-pub(crate) fn nearest(full: u16, bits: u32) -> u16
-    requires { ⌜ bits % 0x8000_0000 ≤ 0x3f80_0000 ⌝ }
-    ensures { λ r. ⌜ r ≡ sampleOf full (ofBits binary32 bits) ⌝ }
-{
-    let size = (bits % MINUS_ZERO) as u64;
-    let exponent = size / 0x80_0000;
-    // Below 2^-17 the product is less than a half.
-    if exponent < 110 {
-        return 0;
-    }
-    let digits = 0x80_0000 + size % 0x80_0000;
-    // The product in units of 2^-40, which holds all its digits.
-    let product = ((full as u64) * digits) << (exponent - 110);
-    ((2 * product + UNIT) / (2 * UNIT)) as u16
 }
 
 impl Channels {

@@ -1,7 +1,6 @@
-// Colours: the spaces of ACO files, the models of ASE files, and the way from the samples of the
-// one to the channels of the other.
+// Colours: the spaces of ACO files with their samples, and the models of ASE files with their
+// channels.
 mod channel;
-mod convert;
 mod model;
 mod space;
 
@@ -9,10 +8,6 @@ pub use channel::Channels;
 pub use channel::Made;
 pub use channel::bits_of;
 pub use channel::is_channel;
-pub use convert::Channel;
-pub use convert::Sample;
-pub use convert::to_channel;
-pub use convert::to_sample;
 pub use model::Known;
 pub use model::Model;
 pub use model::Traits;

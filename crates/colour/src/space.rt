@@ -14,7 +14,7 @@ pub const LAB: u16 = 7;
 
 pub const GRAY: u16 = 8;
 
-// A chrominance is signed and kept as its 16 bits: 12,700 is the largest, and -12,800 is 65,536 less it.
+// A chrominance is signed and kept as its 16 bits: those of -12,800 are 65,536 - 12,800.
 const CHROMINANCE_MOST: u16 = 12700;
 
 const CHROMINANCE_LEAST: u16 = 52736;

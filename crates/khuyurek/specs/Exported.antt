@@ -5,7 +5,7 @@ use Rattle.colour.specs.declared.space.Colour.{Colour}
 use Rattle.algebra.specs.Table.{Verdict, accepted, refused}
 use Rattle.algebra.specs.Writing.{Outcome, bytes, refused as unwritten}
 use lib.Ieee.{Float, binary32, toBits}
-use Rattle.colour.specs.Convert.{Converted, gives, refused as noChannel}
+use Rattle.convert.specs.Convert.{Converted, gives, refused as noChannel}
 use Rattle.ase_judge.specs.Answer as palette
 use Rattle.ase_read.specs.Answer.{Shown, group, close, colour, refusal as refusalAse}
 use Rattle.khuyurek.specs.declared.AcoAnswer.{AcoAnswer}

@@ -45,7 +45,7 @@ ghost use Rattle.aco_judge.specs.Answer.{report, told};
 ghost use Rattle.aco_read.specs.Table.{filled, recordAt, handed};
 ghost use Rattle.aco_records.specs.Writing.{needed, written};
 ghost use Rattle.fields.specs.Answer.{toldWritten};
-ghost use Rattle.colour.specs.Convert.{toChannel, toSample, toldChannel, toldSample};
+ghost use Rattle.convert.specs.Convert.{toChannel, toSample, toldChannel, toldSample};
 ghost use Rattle.colour.specs.Models.{traitsOf};
 ghost use Rattle.colour.specs.Channels.{bitsOf, modelIn};
 ghost use Rattle.ase.specs.Reading.{ase};
@@ -57,10 +57,10 @@ ghost use Rattle.khuyurek.specs.Exported.{paletteOf, paletteReadOf, plai
 use aco_judge::Answer;
 use aco_read::NamePlace;
 use ase_read::Record;
-use colour::Channel;
 use colour::Channels;
 use colour::Colour;
-use colour::Sample;
+use convert::Channel;
+use convert::Sample;
 use fields::Written;
 
 // Number 0 is accepted, with the number of colours and of lists; else the refusal with its place,
@@ -263,7 +263,7 @@ fn exported_sample(s: Sample) -> SampleValue
 pub extern "C" fn khuyurek_to_channel(space: u16, sample: u16) -> ChannelBits
     ensures { λ r. ⌜ r ≡ channelOf (toChannel space sample) ⌝ }
 {
-    exported_channel(colour::to_channel(space, sample))
+    exported_channel(convert::to_channel(space, sample))
 }
 
 // The sample of a channel, by its bits, of the model with a tag.
@@ -271,7 +271,7 @@ pub extern "C" fn khuyurek_to_channel(space: u16, sample: u16) -> ChannelBits
 pub extern "C" fn khuyurek_to_sample(model: u32, bits: u32) -> SampleValue
     ensures { λ r. ⌜ r ≡ sampleOf (toSample model bits) ⌝ }
 {
-    exported_sample(colour::to_sample(model, bits))
+    exported_sample(convert::to_sample(model, bits))
 }
 
 // Number 0 is accepted, with the number of blocks and of colours; else the refusal.

@@ -1,6 +1,6 @@
 use mathlib.Core.Path.{sym, ap}
 use Rattle.khuyurek.specs.Exported.{sampleOf}
-use Rattle.colour.specs.Convert.{toldSample}
+use Rattle.convert.specs.Convert.{toldSample}
 use borrow.Author.Needs.{needs}
 use Rattle.khuyurek.proofs.exported_sample.Statement.{statement}
 use Rattle.khuyurek.proofs.exported_sample.Tie as tie

@@ -1,0 +1,62 @@
+-- The steps of the conversions on plain values. Assumes nothing.
+use Prim.Native.Nat.{ℕ, _-_, _%_, _≤_, _<_}
+use mathlib.Core.Path.{_≡_, sym, ap, _∙_, subst}
+use mathlib.Core.Bool.{Bool, true, false}
+use native.Mathlib.Omega.{arith}
+use borrow.Author.Tests.{ne-eqb}
+use lib.Dec.{T}
+use lib.Ieee.{Float, binary32, ofBits}
+use Rattle.colour.specs.Spaces.{uses, full, known, ranged, allowed}
+use Rattle.colour.specs.Channels.{inUnit, allows}
+use Rattle.convert.specs.Scale.{channelOf}
+use Rattle.convert.specs.Convert.{Converted, gives, refused, unmatched, channelBy, toChannel, sampleOn, sampleBy, sampleIn}
+use Rattle.colour.specs.declared.model.Model.{Model}
+use Rattle.colour.proofs.Laws.{small-leb}
+use Rattle.colour.proofs.Unit.{unit-bits}
+
+-- ---- a sample to a channel
+
+given-by : (x v n : ℕ) (q : Float) → allowed x 0 v ≡ true → q ≡ channelOf (full x) n → gives q ≡ channelBy x v n
+given-by x v n q a h = rw a (ap gives h)
+
+-- 16 bits hold only samples that RGB and CMYK allow
+pub rgb-given : (v : ℕ) (q : Float) → v < 65536 → q ≡ channelOf 65535 v → gives q ≡ toChannel 0 v
+unfolding toChannel full allowed ranged uses
+rgb-given v q small h = given-by 0 v v q (small-leb v small) h
+
+pub cmyk-given : (v : ℕ) (q : Float) → v < 65536 → q ≡ channelOf 65535 (65535 - v) → gives q ≡ toChannel 2 v
+unfolding toChannel full allowed ranged uses
+cmyk-given v q small h = given-by 2 v (65535 - v) q (small-leb v small) h
+
+-- the same of a space that is known to be that
+pub same-space : (x y v : ℕ) (c : Converted Float) → x ≡ y → c ≡ toChannel y v → c ≡ toChannel x v
+same-space x y v c e h = h ∙ ap (λ (z : ℕ). toChannel z v) (sym e)
+
+pub gray-channel : (x v : ℕ) (q : Float) → x ≡ 8 → allowed x 0 v ≡ true → q ≡ channelOf 10000 v → gives q ≡ toChannel x v
+unfolding toChannel full
+gray-channel x v q k a h = rw (k) (given-by 8 v v q (subst (λ (z : ℕ). allowed z 0 v ≡ true) k a) h)
+
+pub gray-refused : (x v : ℕ) → x ≡ 8 → allowed x 0 v ≡ false → refused 5 0 ≡ toChannel x v
+unfolding toChannel
+gray-refused x v k a = rw k (by (subst (λ (z : ℕ). allowed z 0 v ≡ false) k a))
+  where
+    by : allowed 8 0 v ≡ false → refused 5 0 ≡ channelBy 8 v v
+    by e = rw e
+
+pub other-channel : (x v n : ℕ) → (x ≡ 0 → ⊥) → (x ≡ 2 → ⊥) → (x ≡ 8 → ⊥) → n ≡ unmatched (known x) → refused n 0 ≡ toChannel x v
+unfolding toChannel
+other-channel x v n p q r e = rw (ne-eqb x 0 p, ne-eqb x 2 q, ne-eqb x 8 r, e)
+
+-- ---- a channel to a sample
+
+pub refused-in : (m : Model) (x : Float) → allows m x ≡ false → sampleBy false m x ≡ sampleIn m x
+refused-in m x e = ap (λ (t : Bool). sampleBy t m x) (sym e)
+
+pub given-in : (m n : Model) (x : Float) (s : Converted ℕ) → m ≡ n → allows m x ≡ true → s ≡ sampleOn n x → s ≡ sampleIn m x
+given-in m n x s g e h = h ∙ ap (λ (k : Model). sampleOn k x) (sym g) ∙ ap (λ (t : Bool). sampleBy t m x) (sym e)
+
+pub allows-same : (m n : Model) (x : Float) → m ≡ n → allows m x ≡ true → allows n x ≡ true
+allows-same m n x g e = ap (λ (k : Model). allows k x) (sym g) ∙ e
+
+pub unit-room : (b : ℕ) → inUnit (ofBits binary32 b) ≡ true → b % 0x8000_0000 ≤ 0x3f80_0000
+unit-room b e = unit-bits b (subst T (sym e) tt)

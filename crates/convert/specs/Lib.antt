@@ -1,0 +1,3 @@
+pub mod Scale
+pub mod Convert
+pub mod Refusals

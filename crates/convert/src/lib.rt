@@ -1,0 +1,132 @@
+// Samples of ACO spaces to channels of ASE models, and back. Every refusal is at place 0.
+mod scale;
+
+ghost use mathlib.Core.Path.{_≡_};
+ghost use lib.Ieee.{binary32, ofBits};
+ghost use Rattle.colour.specs.Spaces.{rgb, cmyk, gray, known};
+ghost use Rattle.colour.specs.declared.channel.Channels.the-variants.{Gray};
+ghost use Rattle.convert.specs.Convert.{gives, andThen, unmatched, toChannel, toSample, sampleIn, toChannels, toldChannel, toldSample, toldChannels};
+use crate::scale::nearest;
+use crate::scale::quotient;
+use colour::CMYK;
+use colour::Channels;
+use colour::Colour;
+use colour::GRAY;
+use colour::Known;
+use colour::Made;
+use colour::Model;
+use colour::RGB;
+use colour::is_allowed;
+use colour::is_known;
+
+// A channel, or the number of a refusal.
+pub enum Channel {
+    Is(f32),
+    Refused(u32),
+}
+
+// A sample, or the number of a refusal.
+pub enum Sample {
+    Is(u16),
+    Refused(u32),
+}
+
+// The refusal of a space without a model.
+fn unmatched(space: u16) -> u32
+    ensures { λ r. ⌜ r ≡ unmatched (known space) ⌝ }
+{
+    if is_known(space) {
+        return 14;
+    }
+    4
+}
+
+fn rgb_channel(sample: u16) -> f32
+    ensures { λ r. ⌜ gives r ≡ toChannel rgb sample ⌝ }
+{
+    quotient(Model::RGB.full, sample)
+}
+
+// ACO counts 0 as full ink.
+fn cmyk_channel(sample: u16) -> f32
+    ensures { λ r. ⌜ gives r ≡ toChannel cmyk sample ⌝ }
+{
+    quotient(Model::CMYK.full, Model::CMYK.full - sample)
+}
+
+// The channel of a sample. Of these spaces only gray's scale ends before 16 bits do.
+pub fn to_channel(space: u16, sample: u16) -> Channel
+    ensures { λ r. ⌜ toldChannel r ≡ toChannel space sample ⌝ }
+{
+    match space {
+        RGB => Channel::Is(rgb_channel(sample)),
+        CMYK => Channel::Is(cmyk_channel(sample)),
+        GRAY => {
+            if !is_allowed(space, 0, sample) {
+                return Channel::Refused(5);
+            }
+            Channel::Is(quotient(Model::GRAY.full, sample))
+        }
+        _ => Channel::Refused(unmatched(space)),
+    }
+}
+
+// The sample of a channel of a known model.
+fn sample_in(model: Model, bits: u32) -> Sample
+    ensures { λ r. ⌜ toldSample r ≡ sampleIn model (ofBits binary32 bits) ⌝ }
+{
+    if !model.allows(bits) {
+        return Sample::Refused(5);
+    }
+    match model {
+        Model::Rgb => Sample::Is(nearest(Model::RGB.full, bits)),
+        Model::Cmyk => {
+            let sample = nearest(Model::CMYK.full, bits);
+            Sample::Is(Model::CMYK.full - sample)
+        }
+        Model::Lab => Sample::Refused(14),
+        Model::Gray => Sample::Is(nearest(Model::GRAY.full, bits)),
+    }
+}
+
+// The sample of the channel with these bits, of the model with this tag.
+pub fn to_sample(tag: u32, bits: u32) -> Sample
+    ensures { λ r. ⌜ toldSample r ≡ toSample tag bits ⌝ }
+{
+    match Model::from_tag(tag) {
+        Known::Is(model) => sample_in(model, bits),
+        Known::Unknown => Sample::Refused(4),
+    }
+}
+
+fn gray_of(sample: u16) -> Made
+    ensures { λ r. ⌜ toldChannels r ≡ andThen (toChannel gray sample) (λ x. gives (Gray x)) ⌝ }
+{
+    match to_channel(GRAY, sample) {
+        Channel::Is(x) => Made::Is(Channels::Gray(x)),
+        Channel::Refused(number) => Made::Refused(number),
+    }
+}
+
+// The channels of a colour in its model, or the refusal of its first sample that has none. Samples
+// that the space does not use are left alone.
+pub fn to_channels(colour: Colour) -> Made
+    ensures { λ r. ⌜ toldChannels r ≡ toChannels colour ⌝ }
+{
+    let space = colour.space;
+    let a = colour.samples[0];
+    let b = colour.samples[1];
+    let c = colour.samples[2];
+    let d = colour.samples[3];
+    match space {
+        RGB => Made::Is(Channels::Rgb(rgb_channel(a), rgb_channel(b), rgb_channel(c))),
+        CMYK => Made::Is(Channels::Cmyk(
+            cmyk_channel(a),
+            cmyk_channel(b),
+            cmyk_channel(c),
+            cmyk_channel(d),
+        )),
+        GRAY => gray_of(a),
+        _ => Made::Refused(unmatched(space)),
+    }
+}
