@@ -14,8 +14,10 @@ use Rattle.colour.specs.declared.model.Model.the-variants.{Rgb, Cmyk, Lab, Gray
 use Rattle.colour.specs.declared.channel.Channels.{Channels}
 use Rattle.colour.specs.declared.channel.Channels.the-variants as vc
 use Rattle.ase.specs.Reading.{Entry, ase}
-use Rattle.ase_judge.specs.Answer.{accepted, refused as refusedFile, verdict}
-use Rattle.ase_read.specs.Answer.{Shown}
+use Rattle.algebra.specs.Table.{accepted, refused as refusedFile, verdict}
+use Rattle.algebra.proofs.Table.{accepted-of, refused-of}
+use Rattle.ase.specs.Row.{Given}
+use Rattle.ase_judge.specs.Answer.{report}
 use Rattle.ase_walk.specs.Walking.{firstPlace, blockWalk}
 use Rattle.ase_walk.specs.Answer.{toldBlock, handing, handed}
 use Rattle.ase_walk.specs.declared.Block.{Block}
@@ -69,14 +71,14 @@ module _ (s : List ℕ) (f : Step Entry) (all o : Buffer) (n i at : ℕ) where
   pub answers-start : {p : ℕ} → p ≡ at → all ≡ putAll o (lines (answerLine s) 0 (answers f n at)) → all ≡ putAll o (lines (answerLine s) 0 (answers f (n - 0) p))
   answers-start {p} e g = let z : n ≡ n - 0 = omega arith in g ∙ ap₂ (λ (k q : ℕ). putAll o (lines (answerLine s) 0 (answers f k q))) z (sym e)
 
-  pub answers-turn : (a : Call Shown) (q : ℕ) {p : Buffer} → i < n → all ≡ putAll o (lines (answerLine s) i (answers f (n - i) at)) → (a, q) ≡ handed (f at) → p ≡ putAll o (answerLine s i a) → all ≡ putAll p (lines (answerLine s) (i + 1) (answers f (n - (i + 1)) q))
+  pub answers-turn : (a : Call Given) (q : ℕ) {p : Buffer} → i < n → all ≡ putAll o (lines (answerLine s) i (answers f (n - i) at)) → (a, q) ≡ handed (f at) → p ≡ putAll o (answerLine s i a) → all ≡ putAll p (lines (answerLine s) (i + 1) (answers f (n - (i + 1)) q))
   unfolding answers
   answers-turn a q {p} h e g x =
       let z : n - i ≡ suc (n - (i + 1)) = omega arith in
-      let next : f at .1 ≡ q = sym (ap (λ (w : Call Shown × ℕ). w .1) g) in
-      let first : handed (f at) .0 ≡ a = ap (λ (w : Call Shown × ℕ). w .0) (sym g) in
+      let next : f at .1 ≡ q = sym (ap (λ (w : Call Given × ℕ). w .1) g) in
+      let first : handed (f at) .0 ≡ a = ap (λ (w : Call Given × ℕ). w .0) (sym g) in
       lines-turn (answerLine s) all o i a (answers f (n - (i + 1)) q)
-      (e ∙ ap (λ (k : ℕ). putAll o (lines (answerLine s) i (answers f k at))) z ∙ ap₂ (λ (c : Call Shown) (r : ℕ). putAll o (lines (answerLine s) i (c ∷ answers f (n - (i + 1)) r))) first next) x
+      (e ∙ ap (λ (k : ℕ). putAll o (lines (answerLine s) i (answers f k at))) z ∙ ap₂ (λ (c : Call Given) (r : ℕ). putAll o (lines (answerLine s) i (c ∷ answers f (n - (i + 1)) r))) first next) x
 
   pub answers-end : n ≤ i → all ≡ putAll o (lines (answerLine s) i (answers f (n - i) at)) → all ≡ o
   unfolding answers
@@ -91,16 +93,13 @@ answers-lines s f (e ∷ more) at i h =
     ap (λ (c : Call Entry). answerLine s i (handing c) ++ lines (answerLine s) (i + 1) (answers f (length more) (f at .1))) (h 0)
     ∙ ap (λ (l : List ℕ). line s i e ++ l) (answers-lines s f more (f at .1) (i + 1) (λ k. h (suc k)))
 
-pub listed-refused : (s : List ℕ) (m : Res (List Entry)) {x p : ℕ} → refusedFile x p ≡ verdict m → refusal x p ≡ listing s m
-listed-refused s (ok c q) e = let z : _≡_ {A = ℕ} 0 1 = cc in absurd (omega arith)
-listed-refused s (refuse y k r f) {x = x} {p = p} e = let a : x ≡ y = cc in let b : p ≡ k = cc in ap₂ refusal a b
+pub listed-refused : (s : List ℕ) (m : Res (List Entry)) {x p : ℕ} → refusedFile x p 0 0 ≡ verdict report m → refusal x p ≡ listing s m
+listed-refused s m v = sym (ap (listing s) (refused-of report m v))
 
-pub listed-accepted : (s : List ℕ) {n l : ℕ} → accepted n l ≡ verdict (ase s) → heading n ++ lines (answerLine s) 0 (answers (blockWalk s) n (firstPlace s)) ++ ascii "end\n" ≡ listing s (ase s)
-listed-accepted s {n} {l} e = go (ase s) refl e
-  where
-    go : (m : Res (List Entry)) → ase s ≡ m → accepted n l ≡ verdict m → heading n ++ lines (answerLine s) 0 (answers (blockWalk s) n (firstPlace s)) ++ ascii "end\n" ≡ listing s m
-    go (ok es q) g h =
-        let a : n ≡ length es = cc in
-        ap (λ (n : ℕ). heading n ++ lines (answerLine s) 0 (answers (blockWalk s) n (firstPlace s)) ++ ascii "end\n") a
-        ∙ ap (λ (x : List ℕ). heading (length es) ++ x ++ ascii "end\n") (answers-lines s (blockWalk s) es (firstPlace s) 0 (blocks-in-turn s g))
-    go (refuse x p r f) g h = let z : _≡_ {A = ℕ} 0 1 = cc in absurd (omega arith)
+pub listed-accepted : (s : List ℕ) {n l : ℕ} → accepted (n, l) ≡ verdict report (ase s) → heading n ++ lines (answerLine s) 0 (answers (blockWalk s) n (firstPlace s)) ++ ascii "end\n" ≡ listing s (ase s)
+listed-accepted s {n} {l} v =
+    let a = accepted-of report (ase s) v in
+    let e : n ≡ length (a .0) = sym (ap (λ (b : ℕ × ℕ). b .0) (a .3)) in
+    ap (λ (n : ℕ). heading n ++ lines (answerLine s) 0 (answers (blockWalk s) n (firstPlace s)) ++ ascii "end\n") e
+    ∙ ap (λ (x : List ℕ). heading (length (a .0)) ++ x ++ ascii "end\n") (answers-lines s (blockWalk s) (a .0) (firstPlace s) 0 (blocks-in-turn s (a .2)))
+    ∙ sym (ap (listing s) (a .2))
