@@ -15,3 +15,4 @@ pub mod Faultless
 pub mod Written
 pub mod RoundTrip
 pub mod Placed
+pub mod Row

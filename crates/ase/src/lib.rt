@@ -14,3 +14,17 @@ pub const STOP: u16 = 0xC002;
 pub const COLOUR: u16 = 0x0001;
 // `ASEF`.
 pub const SIGNATURE: u32 = 0x4153_4546;
+
+// A record's numbers in the order of a row: its block's type, where its name lies, and of a colour
+// the tag of its model, the bits of its channels, and its type.
+pub struct Numbers {
+    pub block: u32,
+    pub first: usize,
+    pub units: u32,
+    pub model: u32,
+    pub a: u32,
+    pub b: u32,
+    pub c: u32,
+    pub d: u32,
+    pub kind: u32,
+}

@@ -22,7 +22,8 @@ use Rattle.colour.specs.Channels.{wide, allowsBits}
 use Rattle.colour.specs.declared.model.Known.the-variants.{Is, Unknown}
 use Rattle.ase.specs.Reading.{Entry, started, stopped, coloured, group, model, channel, type, shade, inside, deepest, isType, content, block, standingAfter, marked, heading, blocks, palette, ase}
 use Rattle.ase_judge.specs.Parts.{channelIn, paint, startOf, stopOf, colourOf, whole}
-use Rattle.ase_judge.specs.Answer.{colourIn, colours, passed, tally, accepted, refused, verdict}
+use Rattle.ase_judge.specs.Answer.{colourIn, colours, passed, tally, report}
+use Rattle.algebra.specs.Table.{accepted, refused, verdict}
 
 -- ---- answers with their value changed
 
@@ -334,7 +335,7 @@ chain-length (suc n) d s at es q e =
     ap length (sym (ok-value (b .3))) ∙ ap suc (chain-length n (standingAfter d (a .0)) s (a .1) (b .0) (b .1) (b .2))
 
 module _ (n : ℕ) (s : List ℕ) (at : ℕ) where
-  pub whole-no : (x q : ℕ) → refuse x q 0 0 ≡ mapRes (tally 0) (rest n 0 s at) → refused x q ≡ verdict (whole n s at)
+  pub whole-no : (x q : ℕ) → refuse x q 0 0 ≡ mapRes (tally 0) (rest n 0 s at) → refused x q 0 0 ≡ verdict report (whole n s at)
   unfolding whole blocks
   whole-no x q e = rw (map-refuse (tally 0) (rest n 0 s at) (sym e))
 
@@ -346,30 +347,30 @@ module _ (n : ℕ) (s : List ℕ) (at : ℕ) where
     unfolding whole blocks
     whole-by z h = rw (parts .1) (ap (λ (w : ℕ). then (rule (unless (eqb w 0) 9) q (ok (parts .0) q)) (λ es q. ended es s q)) (ap (λ (w : ℕ × ℕ). w .0) (parts .2)) ∙ ap (λ (y : Bool). then (rule (unless y 9) q (ok (parts .0) q)) (λ es q. ended es s q)) h)
 
-    pub whole-open : (d ≡ 0 → ⊥) → refused 9 q ≡ verdict (whole n s at)
-    whole-open h = sym (ap verdict (whole-by false (ne-eqb d 0 h)))
+    pub whole-open : (d ≡ 0 → ⊥) → refused 9 q 0 0 ≡ verdict report (whole n s at)
+    whole-open h = sym (ap (verdict report) (whole-by false (ne-eqb d 0 h)))
 
-    pub whole-left : d ≡ 0 → (q ≡ length s → ⊥) → refused 6 q ≡ verdict (whole n s at)
+    pub whole-left : d ≡ 0 → (q ≡ length s → ⊥) → refused 6 q 0 0 ≡ verdict report (whole n s at)
     unfolding ended
-    whole-left h l = sym (ap verdict (whole-by true (eq-eqb d 0 h)) ∙ ap (λ (y : Bool). verdict (pick y (ok (parts .0) q) (refuse 6 q 0 0))) (ne-eqb q (length s) l))
+    whole-left h l = sym (ap (verdict report) (whole-by true (eq-eqb d 0 h)) ∙ ap (λ (y : Bool). verdict report (pick y (ok (parts .0) q) (refuse 6 q 0 0))) (ne-eqb q (length s) l))
 
-    pub whole-ok : d ≡ 0 → q ≡ length s → accepted n k ≡ verdict (whole n s at)
+    pub whole-ok : d ≡ 0 → q ≡ length s → accepted (n, k) ≡ verdict report (whole n s at)
     unfolding ended
     whole-ok h l =
         let c : colours (parts .0) ≡ k = ap (λ (w : ℕ × ℕ). w .1) (parts .2) in
-        ap₂ (λ (x y : ℕ). accepted x y) (sym (chain-length n 0 s at (parts .0) q (parts .1))) (sym c)
-        ∙ sym (ap verdict (whole-by true (eq-eqb d 0 h)) ∙ ap (λ (y : Bool). verdict (pick y (ok (parts .0) q) (refuse 6 q 0 0))) (eq-eqb q (length s) l))
+        ap₂ (λ (x y : ℕ). accepted (x, y)) (sym (chain-length n 0 s at (parts .0) q (parts .1))) (sym c)
+        ∙ sym (ap (verdict report) (whole-by true (eq-eqb d 0 h)) ∙ ap (λ (y : Bool). verdict report (pick y (ok (parts .0) q) (refuse 6 q 0 0))) (eq-eqb q (length s) l))
 
 module _ (s : List ℕ) where
-  pub too-long : limit < length s → refused 1 0 ≡ verdict (ase s)
+  pub too-long : limit < length s → refused 1 0 0 0 ≡ verdict report (ase s)
   unfolding ase
   too-long h = rw (lt-leb (length s) limit h)
 
   module _ (h : length s ≤ limit) where
-    pub bad-heading : (x q : ℕ) → refuse x q 0 0 ≡ heading s 0 → refused x q ≡ verdict (ase s)
+    pub bad-heading : (x q : ℕ) → refuse x q 0 0 ≡ heading s 0 → refused x q 0 0 ≡ verdict report (ase s)
     unfolding ase palette
     bad-heading x q e = rw (le-leb (length s) limit h) (rw (← e) refl)
 
-    pub after-heading : (n q : ℕ) → ok n q ≡ heading s 0 → verdict (whole n s q) ≡ verdict (ase s)
+    pub after-heading : (n q : ℕ) → ok n q ≡ heading s 0 → verdict report (whole n s q) ≡ verdict report (ase s)
     unfolding ase palette whole
     after-heading n q e = rw (le-leb (length s) limit h) (rw (← e) refl)

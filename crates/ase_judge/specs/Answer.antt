@@ -3,6 +3,7 @@ use Prim.Native.Nat.{ℕ, _+_}
 use mathlib.Core.List.{List, [], _∷_}
 use lib.ListN.{length}
 use Rattle.algebra.specs.Reader.{Res, ok, refuse, stateAfter}
+use Rattle.algebra.specs.Table.{Verdict, accepted, refused}
 use Rattle.ase.specs.Reading.{Entry, started, stopped, coloured, standingAfter}
 use Rattle.ase_judge.specs.declared.Answer.{Answer}
 use Rattle.ase_judge.specs.declared.Answer.the-variants as va
@@ -21,19 +22,13 @@ unfoldable pub colours : List Entry → ℕ
 colours [] = 0
 colours (e ∷ es) = colourIn e + colours es
 
--- accepted: the number of blocks and of colours; refused: number and place
-pub data Verdict : Type 0 where
-  accepted : ℕ → ℕ → Verdict
-  refused : ℕ → ℕ → Verdict
+-- what is reported of an accepted file: the number of blocks and of colours
+abbrev pub report : List Entry → ℕ × ℕ
+report es = (length es, colours es)
 
--- the verdict on a file
-abbrev pub verdict : Res (List Entry) → Verdict
-verdict (ok es q) = accepted (length es) (colours es)
-verdict (refuse x p r f) = refused x p
-
-abbrev pub told : Answer → Verdict
-told (va.Accepted n k) = accepted n k
-told (va.Refused x p) = refused x p
+abbrev pub told : Answer → Verdict (ℕ × ℕ)
+told (va.Accepted n k) = accepted (n, k)
+told (va.Refused x p) = refused x p 0 0
 
 -- what is told of a block that was passed, where d groups stood open: how many then do, and how many colours it is
 abbrev pub passed : ℕ → Entry → ℕ × ℕ

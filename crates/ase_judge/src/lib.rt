@@ -6,7 +6,8 @@ ghost use Rattle.algebra.specs.Reader.{done, each, judged, mapRes, chain};
 ghost use Rattle.fields.specs.Answer.{toldStep};
 ghost use Rattle.ase.specs.Reading.{type, shade, group, inside, isType, content, block, standingAfter, heading, ase};
 ghost use Rattle.ase_judge.specs.Parts.{channelIn, paint, startOf, stopOf, colourOf, whole};
-ghost use Rattle.ase_judge.specs.Answer.{verdict, told, toldPassed, toldHeading, passed, tally};
+ghost use Rattle.algebra.specs.Table.{verdict};
+ghost use Rattle.ase_judge.specs.Answer.{report, told, toldPassed, toldHeading, passed, tally};
 use ase::COLOUR;
 use ase::DEEPEST;
 use ase::LIMIT;
@@ -289,7 +290,7 @@ fn blocks_at(file: &[u8], at: usize, n: u32) -> Passed
 
 // What follows the heading: n blocks from `at`, no group left open, and the file's end.
 fn whole_at(file: &[u8], at: usize, n: u32) -> Answer
-    ensures { λ r. ⌜ told r ≡ verdict (whole n (now (file .entry)) at) ⌝ }
+    ensures { λ r. ⌜ told r ≡ verdict report (whole n (now (file .entry)) at) ⌝ }
 {
     match blocks_at(file, at, n) {
         Passed::Refused { number, place } => Answer::Refused { number, place },
@@ -342,7 +343,7 @@ fn heading_at(file: &[u8]) -> Heading
 
 // Judges a whole file.
 pub fn judge(file: &[u8]) -> Answer
-    ensures { λ r. ⌜ told r ≡ verdict (ase (now (file .entry))) ⌝ }
+    ensures { λ r. ⌜ told r ≡ verdict report (ase (now (file .entry))) ⌝ }
 {
     if LIMIT < file.len() {
         return Answer::Refused {

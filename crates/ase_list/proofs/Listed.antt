@@ -14,8 +14,10 @@ use Rattle.colour.specs.declared.model.Model.the-variants.{Rgb, Cmyk, Lab, Gray
 use Rattle.colour.specs.declared.channel.Channels.{Channels}
 use Rattle.colour.specs.declared.channel.Channels.the-variants as vc
 use Rattle.ase.specs.Reading.{Entry, ase}
-use Rattle.ase_judge.specs.Answer.{accepted, refused as refusedFile, verdict}
-use Rattle.ase_read.specs.Answer.{Shown}
+use Rattle.algebra.specs.Table.{accepted, refused as refusedFile, verdict}
+use Rattle.algebra.proofs.Table.{accepted-of, refused-of}
+use Rattle.ase.specs.Row.{Given}
+use Rattle.ase_judge.specs.Answer.{report}
 use Rattle.ase_walk.specs.Walking.{firstPlace, blockWalk}
 use Rattle.ase_walk.specs.Answer.{toldBlock, handing, handed}
 use Rattle.ase_walk.specs.declared.Block.{Block}
@@ -68,13 +70,13 @@ module _ (s : List ℕ) (o : Buffer) (b : Block) where
 
 module _ (s : List ℕ) (all o : Buffer) (n i at : ℕ) where
   pub lines-start : {p : ℕ} → p ≡ at → all ≡ putAll o (lines (answerLine s) 0 (answers (shownWalk s) n at)) → all ≡ putAll o (lines (answerLine s) 0 (answers (shownWalk s) (n - 0) p))
-  lines-start e g = g ∙ ap (λ (l : List (Call Shown)). putAll o (lines (answerLine s) 0 l)) (answers-start (shownWalk s) n e)
+  lines-start e g = g ∙ ap (λ (l : List (Call Given)). putAll o (lines (answerLine s) 0 l)) (answers-start (shownWalk s) n e)
 
   module _ (all-is : all ≡ putAll o (lines (answerLine s) i (answers (shownWalk s) (n - i) at))) where
-    by : {l : List (Call Shown)} → answers (shownWalk s) (n - i) at ≡ l → all ≡ putAll o (lines (answerLine s) i l)
-    by e = all-is ∙ ap (λ (l : List (Call Shown)). putAll o (lines (answerLine s) i l)) e
+    by : {l : List (Call Given)} → answers (shownWalk s) (n - i) at ≡ l → all ≡ putAll o (lines (answerLine s) i l)
+    by e = all-is ∙ ap (λ (l : List (Call Given)). putAll o (lines (answerLine s) i l)) e
 
-    pub line-turn : (a : Call Shown) (q : ℕ) {p : Buffer} → i < n → (a, q) ≡ handed (blockWalk s at) → p ≡ putAll o (answerLine s i a) → all ≡ putAll p (lines (answerLine s) (i + 1) (answers (shownWalk s) (n - (i + 1)) q))
+    pub line-turn : (a : Call Given) (q : ℕ) {p : Buffer} → i < n → (a, q) ≡ handed (blockWalk s at) → p ≡ putAll o (answerLine s i a) → all ≡ putAll p (lines (answerLine s) (i + 1) (answers (shownWalk s) (n - (i + 1)) q))
     line-turn a q h g x = lines-turn (answerLine s) all o i a (answers (shownWalk s) (n - (i + 1)) q) (by (answers-next (shownWalk s) n i at h (sym g))) x
 
     pub lines-end : n ≤ i → all ≡ o
@@ -89,16 +91,13 @@ answers-lines s (e ∷ more) at i h =
     ap (λ (c : Call Entry). answerLine s i (handing c) ++ lines (answerLine s) (i + 1) (answers (shownWalk s) (length more) (blockWalk s at .1))) (h 0)
     ∙ ap (λ (l : List ℕ). line s i e ++ l) (answers-lines s more (blockWalk s at .1) (i + 1) (λ k. h (suc k)))
 
-pub listed-refused : (s : List ℕ) (m : Res (List Entry)) {x p : ℕ} → refusedFile x p ≡ verdict m → refusal x p ≡ listing s m
-listed-refused s (ok c q) e = let z : _≡_ {A = ℕ} 0 1 = cc in absurd (omega arith)
-listed-refused s (refuse y k r f) {x = x} {p = p} e = let a : x ≡ y = cc in let b : p ≡ k = cc in ap₂ refusal a b
+pub listed-refused : (s : List ℕ) (m : Res (List Entry)) {x p : ℕ} → refusedFile x p 0 0 ≡ verdict report m → refusal x p ≡ listing s m
+listed-refused s m v = sym (ap (listing s) (refused-of report m v))
 
-pub listed-accepted : (s : List ℕ) {n l : ℕ} → accepted n l ≡ verdict (ase s) → heading n ++ lines (answerLine s) 0 (answers (shownWalk s) n (firstPlace s)) ++ ascii "end\n" ≡ listing s (ase s)
-listed-accepted s {n} {l} e = go (ase s) refl e
-  where
-    go : (m : Res (List Entry)) → ase s ≡ m → accepted n l ≡ verdict m → heading n ++ lines (answerLine s) 0 (answers (shownWalk s) n (firstPlace s)) ++ ascii "end\n" ≡ listing s m
-    go (ok es q) g h =
-        let a : n ≡ length es = cc in
-        ap (λ (n : ℕ). heading n ++ lines (answerLine s) 0 (answers (shownWalk s) n (firstPlace s)) ++ ascii "end\n") a
-        ∙ ap (λ (x : List ℕ). heading (length es) ++ x ++ ascii "end\n") (answers-lines s es (firstPlace s) 0 (blocks-in-turn s g))
-    go (refuse x p r f) g h = let z : _≡_ {A = ℕ} 0 1 = cc in absurd (omega arith)
+pub listed-accepted : (s : List ℕ) {n l : ℕ} → accepted (n, l) ≡ verdict report (ase s) → heading n ++ lines (answerLine s) 0 (answers (shownWalk s) n (firstPlace s)) ++ ascii "end\n" ≡ listing s (ase s)
+listed-accepted s {n} {l} v =
+    let a = accepted-of report (ase s) v in
+    let e : n ≡ length (a .0) = sym (ap (λ (b : ℕ × ℕ). b .0) (a .3)) in
+    ap (λ (n : ℕ). heading n ++ lines (answerLine s) 0 (answers (shownWalk s) n (firstPlace s)) ++ ascii "end\n") e
+    ∙ ap (λ (x : List ℕ). heading (length (a .0)) ++ x ++ ascii "end\n") (answers-lines s (a .0) (firstPlace s) 0 (blocks-in-turn s (a .2)))
+    ∙ sym (ap (listing s) (a .2))

@@ -13,7 +13,7 @@ use Rattle.colour.specs.declared.model.Known.{Known}
 use Rattle.colour.specs.declared.model.Known.the-variants.{Is, Unknown}
 use Rattle.colour.specs.declared.channel.Channels.{Channels}
 use Rattle.ase.specs.Reading.{Entry}
-use Rattle.ase_read.specs.Answer.{Shown, group, close, colour, refusal as missing, entryShown}
+use Rattle.ase.specs.Row.{Given, givenOf}
 use Rattle.ase_walk.specs.Walking.{blockWalk}
 use Rattle.ase_walk.specs.Answer.{handed}
 use Rattle.walk.specs.Walk.{Call, gives, over, refused, Step}
@@ -44,14 +44,14 @@ type k = pick (eqb k 0) (ascii " global ") (pick (eqb k 1) (ascii " spot ") (asc
 
 -- ---- a block, as it is handed out: a name by its place in the file s and its number of units, and four channels, of which the model has the first
 
-abbrev pub block : List ℕ → Shown → List ℕ
-block s (group p u) = ascii " group " ++ name (namePart s p u)
-block s close = ascii " close"
-block s (colour p u t bs k) = ascii " colour " ++ (tagged (modelOf t) ++ joined channel (take (channelsOf t) bs) ++ type k ++ name (namePart s p u))
-block s (missing x p) = []
+abbrev pub block : List ℕ → Given → List ℕ
+block s g =
+    pick (eqb (g .block) 0xC001) (ascii " group " ++ name (namePart s (g .first) (g .units)))
+    (pick (eqb (g .block) 0xC002) (ascii " close")
+    (ascii " colour " ++ (tagged (modelOf (g .model)) ++ joined channel (take (channelsOf (g .model)) (g .channels)) ++ type (g .type) ++ name (namePart s (g .first) (g .units)))))
 
 abbrev pub line : List ℕ → ℕ → Entry → List ℕ
-line s i e = decimal i ++ block s (entryShown e) ++ ascii "\n"
+line s i e = decimal i ++ block s (givenOf e) ++ ascii "\n"
 
 -- the listing of a file s, by what reading it gives
 abbrev pub listing : List ℕ → Res (List Entry) → List ℕ
@@ -64,14 +64,14 @@ listing s (refuse x p r f) = refusal x p
 abbrev pub shade : Channels → ℕ → List ℕ → List ℕ
 shade c k b = model (modelIn c) ++ joined channel (take (traitsOf (modelIn c) .channels) (bitsOf c)) ++ type k ++ name b
 
-abbrev pub answer : List ℕ → Call Shown → List ℕ
+abbrev pub answer : List ℕ → Call Given → List ℕ
 answer s (gives b) = block s b
 answer s over = []
 answer s (refused x p) = []
 
-abbrev pub answerLine : List ℕ → ℕ → Call Shown → List ℕ
+abbrev pub answerLine : List ℕ → ℕ → Call Given → List ℕ
 answerLine s i a = decimal i ++ answer s a ++ ascii "\n"
 
 -- a block as it is handed out, one a call
-abbrev pub shownWalk : List ℕ → Step Shown
+abbrev pub shownWalk : List ℕ → Step Given
 shownWalk s at = handed (blockWalk s at)

@@ -1,17 +1,14 @@
 -- What `read`, `record_at` and `name_at` answer, on plain values. Assumes nothing.
 use Prim.Native.Nat.{ℕ, _+_, _*_, _-_, _^_, _≤_, _<_}
 use mathlib.Core.Path.{_≡_, refl, sym, ap, ap₂, _∙_, subst}
-use mathlib.Core.List.{List, [], _∷_, _++_}
+use mathlib.Core.List.{List, [], _∷_}
 use mathlib.Core.Bool.{Bool, true, false, _&&_}
 use lib.ListN.{length, getD, take, drop, List·getD-eq-default}
-use lib.Seq.{sets, sets-eq}
 use lib.Dec.{ltb}
-use borrow.Author.Tests.{le-leb, lt-leb, lt-ltb, le-ltb, ltb-true}
+use borrow.Author.Tests.{ltb-true}
 use native.Mathlib.Omega.{arith}
-use Rattle.algebra.specs.Numbers.{joined}
 use Rattle.algebra.specs.Reader.{Res, ok, refuse, pick}
 use Rattle.algebra.specs.Text.{Name}
-use Rattle.algebra.proofs.Places.{length-joined}
 use Rattle.colour.specs.Models.{traitsOf, modelOf, isKnown, countIn, isModel, channelsOf}
 use Rattle.colour.specs.Channels.{allowsIn, allowsBits, made, madeIn, bitsOf, modelIn, channel}
 use Rattle.colour.specs.declared.model.Model.{Model}
@@ -24,10 +21,16 @@ use Rattle.colour.specs.declared.channel.Made.the-variants as vm
 use Rattle.colour.proofs.Models.{tag-known}
 use Rattle.colour.proofs.Kept.{same-four, bits-kept}
 use Rattle.ase.specs.Reading.{Entry, started, stopped, coloured, ase}
-use Rattle.ase_judge.specs.Answer.{Verdict, accepted, refused, verdict, colours}
-use Rattle.ase_read.specs.Table.{fourOf, row, filled, Found, found, missing, recordAt, nameBytesIn}
+use Rattle.ase.specs.Row.{Given, width, group, close, colour, givenOf, givenIn}
+use Rattle.ase.specs.declared.Numbers.{Numbers}
+use Rattle.algebra.specs.Numbers.{joined}
+use Rattle.algebra.specs.Table.{Verdict, accepted, refused, verdict, seen}
+use Rattle.algebra.proofs.Places.{length-joined}
+use Rattle.algebra.proofs.Table.{accepted-of, accepted-by, record-found}
+use Rattle.ase_judge.specs.Answer.{report}
+use Rattle.ase_read.specs.Table.{row, recordAt, nameBytesIn}
 use Rattle.ase_read.specs.Raw.{nextBlock, blockPlace, entriesOf, Accepted}
-use Rattle.ase_read.specs.Answer.{Shown, group, close, colour, refusal, entryShown, shown, IsColour}
+use Rattle.ase_read.specs.Answer.{IsColour}
 use Rattle.ase_read.proofs.Blocks.{Sound, NameIn}
 use Rattle.ase_read.proofs.Filling.{here}
 
@@ -91,133 +94,70 @@ sound-colour nm t bs k h = go (modelOf t) refl (h .0) (h .1) (h .2)
     )
     go Unknown e a n c = let z : _≡_ {A = ℕ} 0 1 = cc in absurd (omega arith)
 
--- ---- a record by the numbers of its row
+-- ---- a record by its numbers
 
-num-at : (w : List ℕ) {v : List ℕ} → w ≡ v → (i : ℕ) → getD w i 0 ≡ getD v i 0
-num-at w e i = ap (λ (l : List ℕ). getD l i 0) e
+block-is : (r : Numbers) {g : Given} → givenIn r ≡ g → r .block ≡ g .block
+block-is r e = ap (λ (x : Given). x .block) e
 
-pub row-group : (e : Entry) (w : List ℕ) → w ≡ row e → getD w 0 0 ≡ 0xC001 → (p : ℕ) → p ≡ getD w 1 0 → group p (getD w 2 0) ≡ entryShown e
-row-group (started nm) w r h p e = ap₂ (λ (p u : ℕ). group p u) (e ∙ num-at w r 1) (num-at w r 2)
-row-group stopped w r h p e = let z : _≡_ {A = ℕ} 0xC002 0xC001 = sym (num-at w r 0) ∙ h in absurd (omega arith)
-row-group (coloured nm t bs k) w r h p e = let z : _≡_ {A = ℕ} 0x0001 0xC001 = sym (num-at w r 0) ∙ h in absurd (omega arith)
+module _ (r : Numbers) where
+  pub is-group : (e : Entry) → givenIn r ≡ givenOf e → r .block ≡ 0xC001 → group (r .first) (r .units) ≡ givenOf e
+  is-group (started nm) w h = ap (λ (x : Given). group (x .first) (x .units)) w
+  is-group stopped w h = let z : _≡_ {A = ℕ} 0xC002 0xC001 = sym (block-is r w) ∙ h in absurd (omega arith)
+  is-group (coloured nm t bs k) w h = let z : _≡_ {A = ℕ} 0x0001 0xC001 = sym (block-is r w) ∙ h in absurd (omega arith)
 
-pub row-close : (e : Entry) (w : List ℕ) → w ≡ row e → getD w 0 0 ≡ 0xC002 → close ≡ entryShown e
-row-close (started nm) w r h = let z : _≡_ {A = ℕ} 0xC001 0xC002 = sym (num-at w r 0) ∙ h in absurd (omega arith)
-row-close stopped w r h = refl
-row-close (coloured nm t bs k) w r h = let z : _≡_ {A = ℕ} 0x0001 0xC002 = sym (num-at w r 0) ∙ h in absurd (omega arith)
+  pub is-close : (e : Entry) → givenIn r ≡ givenOf e → r .block ≡ 0xC002 → close ≡ givenOf e
+  is-close (started nm) w h = let z : _≡_ {A = ℕ} 0xC001 0xC002 = sym (block-is r w) ∙ h in absurd (omega arith)
+  is-close stopped w h = refl
+  is-close (coloured nm t bs k) w h = let z : _≡_ {A = ℕ} 0x0001 0xC002 = sym (block-is r w) ∙ h in absurd (omega arith)
 
--- the colour that a row's numbers make
-pub record Hue (e : Entry) (w : List ℕ) : Type 0 where
-  pub is : IsColour (getD w 3 0) (getD w 4 0) (getD w 5 0) (getD w 6 0) (getD w 7 0)
-  pub type : getD w 8 0 ≤ 2
-  pub shows : (p : ℕ) → p ≡ getD w 1 0 → colour p (getD w 2 0) (getD w 3 0) (getD w 4 0 ∷ getD w 5 0 ∷ getD w 6 0 ∷ getD w 7 0 ∷ []) (getD w 8 0) ≡ entryShown e
+-- the colour that they make
+pub record Hue (e : Entry) (r : Numbers) : Type 0 where
+  pub is : IsColour (r .model) (r .a) (r .b) (r .c) (r .d)
+  pub type : r .kind ≤ 2
+  pub shows : colour (r .first) (r .units) (r .model) (r .a ∷ r .b ∷ r .c ∷ r .d ∷ []) (r .kind) ≡ givenOf e
 
-pub row-colour : (e : Entry) → Sound e → (w : List ℕ) → w ≡ row e → (getD w 0 0 ≡ 0xC001 → ⊥) → (getD w 0 0 ≡ 0xC002 → ⊥) → Hue e w
-row-colour (started nm) o w r h g = absurd (h (num-at w r 0))
-row-colour stopped o w r h g = absurd (g (num-at w r 0))
-row-colour (coloured nm t bs k) o w r h g = subst (Hue (coloured nm t bs k)) (sym r) (record { is = sound-colour nm t bs k o; type = o .3; shows = λ p e. ap (λ (x : ℕ). colour x (length (nm .units)) t (fourOf bs) k) e })
-
--- the type of its block fits 16 bits
-pub row-type : (e : Entry) (w : List ℕ) → w ≡ row e → getD w 0 0 < 65536
-row-type (started nm) w r = omega (arith, num-at w r 0)
-row-type stopped w r = omega (arith, num-at w r 0)
-row-type (coloured nm t bs k) w r = omega (arith, num-at w r 0)
+pub is-colour : (e : Entry) → Sound e → (r : Numbers) → givenIn r ≡ givenOf e → (r .block ≡ 0xC001 → ⊥) → (r .block ≡ 0xC002 → ⊥) → Hue e r
+is-colour (started nm) o r w h g = absurd (h (block-is r w))
+is-colour stopped o r w h g = absurd (g (block-is r w))
+is-colour (coloured nm t bs k) o r w h g = record {
+  is = subst (λ (x : Given). IsColour (x .model) (getD (x .channels) 0 0) (getD (x .channels) 1 0) (getD (x .channels) 2 0) (getD (x .channels) 3 0)) (sym w) (sound-colour nm t bs k o);
+  type = subst (λ (x : Given). x .type ≤ 2) (sym w) (o .3);
+  shows = ap (λ (x : Given). colour (x .first) (x .units) (x .model) (x .channels) (x .type)) w;
+}
 
 -- ---- from the verdict to what the file holds
 
-pub accepted-of : (m : Res (List Entry)) {n k : ℕ} → accepted n k ≡ verdict m → Accepted m n × (k ≡ colours (entriesOf m))
-accepted-of (ok es q) e = ((es, q, refl, cc), cc)
-accepted-of (refuse x p r f) e = let z : _≡_ {A = ℕ} 0 1 = cc in absurd (omega arith)
+pub judged-of : (m : Res (List Entry)) {n k : ℕ} → accepted (n, k) ≡ verdict report m → Accepted m n
+judged-of m v = accepted-by report (λ b. b .0) m (accepted-of report m v)
 
-refused-of : (m : Res (List Entry)) {x p : ℕ} → refused x p ≡ verdict m → (r f : ℕ) × (m ≡ refuse x p r f)
-refused-of (ok es q) e = let z : _≡_ {A = ℕ} 0 1 = cc in absurd (omega arith)
-refused-of (refuse x p r f) e = (r, f, cc)
+pub rows-wide : (es : List Entry) → length (joined row es) ≡ width * length es
+rows-wide es = omega (arith, length-joined row width (λ e. refl) es)
 
--- ---- the table
-
-pub row-length : (e : Entry) → length (row e) ≡ 9
-row-length (started nm) = refl
-row-length stopped = refl
-row-length (coloured nm t bs k) = refl
-
-module _ (m : Res (List Entry)) (n k : ℕ) (v : accepted n k ≡ verdict m) (t : List ℕ) where
-  pub filled-short : length t < 9 * n → (refused 11 0, t) ≡ filled m t
-  filled-short h =
-      let a = accepted-of m v .0 in
-      let l : length t < 9 * length (a .0) = omega (arith, a .3) in
-      sym (ap (λ (r : Res (List Entry)). filled r t) (a .2) ∙ simp (lt-leb _ _ l))
-
-  pub filled-is : 9 * n ≤ length t → (t′ : List ℕ) → t′ ≡ sets t 0 (joined row (entriesOf m)) → (accepted n k, t′) ≡ filled m t
-  filled-is h t′ e =
-      let a = accepted-of m v .0 in
-      let es : List Entry = a .0 in
-      let l : 9 * length es ≤ length t = omega (arith, a .3) in
-      let z : entriesOf m ≡ es = ap entriesOf (a .2) in
-      let len : length (joined row es) ≡ length es * 9 = length-joined row 9 row-length es in
-      let end : 0 + length (joined row es) ≡ 9 * length es = omega arith in
-      let w : t′ ≡ joined row es ++ drop (9 * length es) t = e ∙ ap (λ (x : List Entry). sets t 0 (joined row x)) z ∙ sets-eq (joined row es) t 0 (omega arith) ∙ ap (λ (i : ℕ). joined row es ++ drop i t) end in
-      ap₂ (λ (x : Verdict) (y : List ℕ). (x, y)) (v ∙ ap verdict (a .2)) w ∙ sym (ap (λ (r : Res (List Entry)). filled r t) (a .2) ∙ simp (le-leb _ _ l))
-
-pub filled-refused : (m : Res (List Entry)) (t : List ℕ) {x p : ℕ} → refused x p ≡ verdict m → (refused x p, t) ≡ filled m t
-filled-refused m t e = sym (ap (λ (k : Res (List Entry)). filled k t) (refused-of m e .2))
-
--- ---- a record by its number
-
-pub record-refused : (i : ℕ) (m : Res (List Entry)) {x p : ℕ} → refused x p ≡ verdict m → refusal x p ≡ shown (recordAt i m)
-record-refused i m e = sym (ap (λ (k : Res (List Entry)). shown (recordAt i k)) (refused-of m e .2))
-
-module _ (m : Res (List Entry)) (n : ℕ) (a : Accepted m n) (i : ℕ) where
-  pub record-none : n ≤ i → refusal 12 0 ≡ shown (recordAt i m)
-  record-none h = let k : length (a .0) ≤ i = omega (arith, a .3) in sym (ap (λ (r : Res (List Entry)). shown (recordAt i r)) (a .2) ∙ simp (le-ltb _ _ k))
-
-  record-found : i < n → recordAt i m ≡ found (getD (entriesOf m) i stopped)
-  record-found h =
-      let k : i < length (a .0) = omega (arith, a .3) in
-      ap (recordAt i) (a .2) ∙ simp (lt-ltb _ _ k) (ap (λ (r : Res (List Entry)). found (getD (entriesOf r) i stopped)) (sym (a .2)))
-
-  pub record-is : i < n → (w : Shown) → w ≡ entryShown (getD (entriesOf m) i stopped) → w ≡ shown (recordAt i m)
-  record-is h w e = e ∙ sym (ap shown (record-found h))
+-- a record that the file has
+pub record-is : (m : Res (List Entry)) (n i : ℕ) → Accepted m n → i < n → (g : Given) → g ≡ givenOf (getD (entriesOf m) i stopped) → accepted g ≡ recordAt i m
+record-is m n i a h g e = ap (λ (x : Given). accepted x) e ∙ ap (seen givenOf) (record-found (λ es. es) length (λ k. k) (λ es. refl) m stopped i a h)
 
 -- ---- a record's name
 
--- its place and its number of units; a record without a name has none
-abbrev pub nameOf : Shown → ℕ × ℕ
-nameOf (group p u) = (p, u)
-nameOf close = (0, 0)
-nameOf (colour p u t bs k) = (p, u)
-nameOf (refusal x p) = (0, 0)
-
 -- the part of the file that a name is
-pub name-part : (s : List ℕ) (f : Found) (p u : ℕ) → (p, u) ≡ nameOf (shown f) → take (p + 2 * u - p) (drop p s) ≡ nameBytesIn s f
-name-part s f p u e = go f (ap (λ (x : ℕ × ℕ). x .0) e) (ap (λ (x : ℕ × ℕ). x .1) e)
-  where
-    there : (q v : ℕ) → p ≡ q → u ≡ v → take (p + 2 * u - p) (drop p s) ≡ take (2 * v) (drop q s)
-    there q v a b = let n : p + 2 * u - p ≡ 2 * v = omega arith in ap₂ (λ (x y : ℕ). take x (drop y s)) n a
-
-    go : (f : Found) → p ≡ nameOf (shown f) .0 → u ≡ nameOf (shown f) .1 → take (p + 2 * u - p) (drop p s) ≡ nameBytesIn s f
-    go (found (started nm)) a b = there (nm .first) (length (nm .units)) a b
-    go (found stopped) a b = there 0 0 a b
-    go (found (coloured nm t bs k)) a b = there (nm .first) (length (nm .units)) a b
-    go (missing x q) a b = there 0 0 a b
+pub name-part : (s : List ℕ) (v : Verdict Given) (g : Given) → accepted g ≡ v → take (g .first + 2 * g .units - g .first) (drop (g .first) s) ≡ nameBytesIn s v
+name-part s v g e = let n : g .first + 2 * g .units - g .first ≡ 2 * g .units = omega arith in ap (λ (x : ℕ). take x (drop (g .first) s)) n ∙ ap (nameBytesIn s) e
 
 -- it lies inside the file
-pub name-in : (s : List ℕ) (i p u : ℕ) → (p, u) ≡ nameOf (shown (recordAt i (ase s))) → p + 2 * u ≤ length s
-name-in s i p u e = go (ase s) refl e
+pub name-in : (s : List ℕ) (i : ℕ) (g : Given) → accepted g ≡ recordAt i (ase s) → g .first + 2 * g .units ≤ length s
+name-in s i g e = go (ase s) refl e
   where
-    none : _≡_ {A = ℕ × ℕ} (p, u) (0, 0) → p + 2 * u ≤ length s
-    none z = omega (arith, ap (λ (x : ℕ × ℕ). x .0) z, ap (λ (x : ℕ × ℕ). x .1) z)
+    entry : (q : ℕ) → q ≤ length s → (x : Entry) → NameIn q x → accepted g ≡ accepted (givenOf x) → g .first + 2 * g .units ≤ length s
+    entry q l (started nm) h z = let w : g ≡ givenOf (started nm) = cc in omega (arith, h, ap (λ (x : Given). x .first) w, ap (λ (x : Given). x .units) w)
+    entry q l stopped h z = let w : g ≡ givenOf stopped = cc in omega (arith, ap (λ (x : Given). x .first) w, ap (λ (x : Given). x .units) w)
+    entry q l (coloured nm t bs k) h z = let w : g ≡ givenOf (coloured nm t bs k) = cc in omega (arith, h, ap (λ (x : Given). x .first) w, ap (λ (x : Given). x .units) w)
 
-    entry : (q : ℕ) → q ≤ length s → (x : Entry) → NameIn q x → (p, u) ≡ nameOf (entryShown x) → p + 2 * u ≤ length s
-    entry q l (started nm) h z = omega (arith, h, ap (λ (x : ℕ × ℕ). x .0) z, ap (λ (x : ℕ × ℕ). x .1) z)
-    entry q l stopped h z = none z
-    entry q l (coloured nm t bs k) h z = omega (arith, h, ap (λ (x : ℕ × ℕ). x .0) z, ap (λ (x : ℕ × ℕ). x .1) z)
-
-    test : (es : List Entry) (q : ℕ) → ase s ≡ ok es q → (b : Bool) → ltb i (length es) ≡ b → (p, u) ≡ nameOf (shown (pick b (found (getD es i stopped)) (missing 12 0))) → p + 2 * u ≤ length s
+    test : (es : List Entry) (q : ℕ) → ase s ≡ ok es q → (b : Bool) → ltb i (length es) ≡ b → accepted g ≡ seen givenOf (pick b (accepted (getD es i stopped)) (refused 12 0 0 0)) → g .first + 2 * g .units ≤ length s
     test es q x true l z =
         let h = here s (length es) (es, q, x, refl) i (ltb-true _ _ l) (blockPlace s i) refl in
         entry _ (h .inside) (getD es i stopped) (subst (λ (y : List Entry). NameIn (nextBlock s (blockPlace s i)) (getD y i stopped)) (ap entriesOf x) (h .named)) z
-    test es q x false l z = none z
+    test es q x false l z = let w : _≡_ {A = ℕ} 0 1 = cc in absurd (omega arith)
 
-    go : (m : Res (List Entry)) → ase s ≡ m → (p, u) ≡ nameOf (shown (recordAt i m)) → p + 2 * u ≤ length s
+    go : (m : Res (List Entry)) → ase s ≡ m → accepted g ≡ recordAt i m → g .first + 2 * g .units ≤ length s
     go (ok es q) x z = test es q x (ltb i (length es)) refl z
-    go (refuse y r f g) x z = none z
+    go (refuse y r f h) x z = let w : _≡_ {A = ℕ} 0 1 = cc in absurd (omega arith)

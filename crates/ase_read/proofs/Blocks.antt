@@ -20,8 +20,8 @@ use Rattle.colour.specs.Channels.{allowsBits}
 use Rattle.ase.specs.Reading.{Entry, started, stopped, coloured, group, model, channel, type, shade, inside, within, deepest, isType, content, block}
 use Rattle.ase.proofs.Payload.{inside-inv}
 use Rattle.ase.proofs.Laws.{block-inv}
-use Rattle.ase_read.specs.Table.{row}
-use Rattle.ase_read.specs.Raw.{load, countAt, firstAt, modelAt, rowIn, nextBlock}
+use Rattle.ase.specs.Row.{Given, givenOf}
+use Rattle.ase_read.specs.Raw.{load, countAt, firstAt, modelAt, loaded, nextBlock}
 
 -- ---- a number as it is loaded
 
@@ -60,7 +60,7 @@ NameIn q (coloured nm t bs k) = nm .first + 2 * length (nm .units) ≤ q
 
 -- block e at a place, in the file u that ends with it
 pub record Ended (u : List ℕ) (at : ℕ) (e : Entry) : Type 0 where
-  pub is-row : row e ≡ rowIn u at (length u)
+  pub is-row : givenOf e ≡ loaded u at
   pub sound : Sound e
   pub named : NameIn (length u) e
 
@@ -73,7 +73,7 @@ pub record Blocked (s : List ℕ) (at : ℕ) (e : Entry) (q : ℕ) : Type 0 wher
 -- ---- its name
 
 -- the name of the block at a place, by the numbers that are loaded: it ends at q with its closing zero
-record Loaded (u : List ℕ) (at : ℕ) (nm : Name) (q : ℕ) : Type 0 where
+record Naming (u : List ℕ) (at : ℕ) (nm : Name) (q : ℕ) : Type 0 where
   pub first : nm .first ≡ firstAt u at
   pub units : length (nm .units) ≡ countAt u at - 1
   pub end : modelAt u at ≡ q
@@ -91,8 +91,8 @@ last-zero n u at h e =
     go true z = absurd (true≢false (sym z))
     go false z = eqb-true _ _ z
 
-loaded : (u : List ℕ) (at n : ℕ) (nm : Name) (q : ℕ) → Name-read 2 u (at + 6) n nm q → Loaded u at nm q
-loaded u at n nm q r =
+named-as : (u : List ℕ) (at n : ℕ) (nm : Name) (q : ℕ) → Name-read 2 u (at + 6) n nm q → Naming u at nm q
+named-as u at n nm q r =
     let c : ℕ = at + 6 in
     let l : countAt u at ≡ n = load-in 2 u c (r .room) ∙ r .count in
     let f : c + 2 ≡ nm .first = ap (λ (z : Name). z .first) (r .is) in
@@ -111,16 +111,16 @@ loaded u at n nm q r =
 
 -- ---- its row
 
-pub nine : {a b c d e f g h j a′ b′ c′ d′ e′ f′ g′ h′ j′ : ℕ} → a ≡ a′ → b ≡ b′ → c ≡ c′ → d ≡ d′ → e ≡ e′ → f ≡ f′ → g ≡ g′ → h ≡ h′ → j ≡ j′
-    → _≡_ {A = List ℕ} (a ∷ b ∷ c ∷ d ∷ e ∷ f ∷ g ∷ h ∷ j ∷ []) (a′ ∷ b′ ∷ c′ ∷ d′ ∷ e′ ∷ f′ ∷ g′ ∷ h′ ∷ j′ ∷ [])
-nine a b c d e f g h j = λ i. a i ∷ b i ∷ c i ∷ d i ∷ e i ∷ f i ∷ g i ∷ h i ∷ j i ∷ []
+pub same : {a b c d e f g h j a′ b′ c′ d′ e′ f′ g′ h′ j′ : ℕ} → a ≡ a′ → b ≡ b′ → c ≡ c′ → d ≡ d′ → e ≡ e′ → f ≡ f′ → g ≡ g′ → h ≡ h′ → j ≡ j′
+    → _≡_ {A = Given} (record { block = a; first = b; units = c; model = d; channels = e ∷ f ∷ g ∷ h ∷ []; type = j }) (record { block = a′; first = b′; units = c′; model = d′; channels = e′ ∷ f′ ∷ g′ ∷ h′ ∷ []; type = j′ })
+same a b c d e f g h j = λ i. record { block = a i; first = b i; units = c i; model = d i; channels = e i ∷ f i ∷ g i ∷ h i ∷ []; type = j i }
 
 -- a group start ends with its name, whose closing zero is the last number
-group-ended : (u : List ℕ) (at : ℕ) (nm : Name) → num 2 u at ≡ 0xC001 → Loaded u at nm (length u) → Ended u at (started nm)
+group-ended : (u : List ℕ) (at : ℕ) (nm : Name) → num 2 u at ≡ 0xC001 → Naming u at nm (length u) → Ended u at (started nm)
 group-ended u at nm t l =
     let past : (k : ℕ) → 0 ≡ load 4 u (modelAt u at + k) = λ k. sym (load-short 4 u (modelAt u at + k) (omega (arith, l .end))) in record {
       is-row =
-          nine (sym (load-in 2 u at (omega (arith, l .long)) ∙ t)) (l .first) (l .units) (sym (load-short 4 u (modelAt u at) (omega (arith, l .end))))
+          same (sym (load-in 2 u at (omega (arith, l .long)) ∙ t)) (l .first) (l .units) (sym (load-short 4 u (modelAt u at) (omega (arith, l .end))))
           (past 4) (past 8) (past 12) (past 16)
           (sym (load-in 2 u (length u - 2) (omega (arith, l .long)) ∙ l .zero));
       sound = tt;
@@ -134,7 +134,7 @@ stop-ended u at t z e =
     let past : (k : ℕ) → 0 ≡ load 4 u (modelAt u at + k) = λ k. sym (load-short 4 u (modelAt u at + k) (omega arith)) in
     let low : num 2 u (length u - 2) ≡ 0 = half u (at + 2) (length u - 2) (omega arith) z in record {
       is-row =
-          nine (sym (load-in 2 u at (omega arith) ∙ t)) (sym (ap (λ (b : Bool). pick b 0 (at + 8)) (eq-eqb _ _ none))) (ap (λ (k : ℕ). k - 1) (sym none))
+          same (sym (load-in 2 u at (omega arith) ∙ t)) (sym (ap (λ (b : Bool). pick b 0 (at + 8)) (eq-eqb _ _ none))) (ap (λ (k : ℕ). k - 1) (sym none))
           (sym (load-short 4 u (modelAt u at) (omega arith)))
           (past 4) (past 8) (past 12) (past 16)
           (sym (load-in 2 u (length u - 2) (omega arith) ∙ low));
@@ -146,7 +146,7 @@ stop-ended u at t z e =
     half u at q e z = ap (num 2 u) e ∙ omega (arith, num-split 2 2 u at, z)
 
 -- a colour: its model and channels stand behind the name, and its type is the last number
-colour-ended : (u : List ℕ) (at r n : ℕ) (nm : Name) (t : ℕ) (bs : List ℕ) (k : ℕ) → num 2 u at ≡ 0x0001 → Loaded u at nm r
+colour-ended : (u : List ℕ) (at r n : ℕ) (nm : Name) (t : ℕ) (bs : List ℕ) (k : ℕ) → num 2 u at ≡ 0x0001 → Naming u at nm r
     → num 4 u r ≡ t → nums 4 n u (r + 4) ≡ bs → num 2 u (r + 4 + n * 4) ≡ k → r + 4 + n * 4 + 2 ≡ length u → Sound (coloured nm t bs k) → Ended u at (coloured nm t bs k)
 colour-ended u at r n nm t bs k kind l et eb ek e snd =
     let b : modelAt u at ≡ r = l .end in
@@ -154,7 +154,7 @@ colour-ended u at r n nm t bs k kind l et eb ek e snd =
     λ i p z. sym (ap (λ (x : List ℕ). getD x i 0) eb) ∙ load-channel u n (r + 4) i e ∙ ap (load 4 u) z in
     let last : length u - 2 ≡ r + 4 + n * 4 = omega arith in record {
       is-row =
-          nine (sym (load-in 2 u at (omega (arith, l .long, l .inside)) ∙ kind)) (l .first) (l .units)
+          same (sym (load-in 2 u at (omega (arith, l .long, l .inside)) ∙ kind)) (l .first) (l .units)
           (sym (ap (load 4 u) b ∙ load-in 4 u r (omega arith) ∙ et))
           (four 0 4 (omega arith)) (four 1 8 (omega arith)) (four 2 12 (omega arith)) (four 3 16 (omega arith))
           (sym (ap (load 2 u) last ∙ load-in 2 u (r + 4 + n * 4) (omega arith) ∙ ek));
@@ -170,7 +170,7 @@ group-inv u at {e} {q} t z x =
     let i = then-inv (name 2 u (at + 6)) _ x in
     let y = name-inv 2 u (at + 6) (i .2) in
     let l : i .1 ≡ length u = ok-place (i .3) ∙ z in
-    subst (Ended u at) (ok-value (i .3)) (group-ended u at (i .0) t (subst (Loaded u at (i .0)) l (loaded u at (y .0) (i .0) (i .1) (y .1))))
+    subst (Ended u at) (ok-value (i .3)) (group-ended u at (i .0) t (subst (Naming u at (i .0)) l (named-as u at (y .0) (i .0) (i .1) (y .1))))
 
 channels-sound : (u : List ℕ) (n r t : ℕ) (bs : List ℕ) → nums 4 n u r ≡ bs → ((i : ℕ) → i < n → channel t (num 4 u (r + 4 * i)) ≡ fine) → (i : ℕ) → i < length bs → allowsBits t (getD bs i 0) ≡ true
 channels-sound u n r t bs e h i l =
@@ -197,7 +197,7 @@ shade-inv u at {e} {q} kind z x =
     let allowed : (j : ℕ) → j < channelsOf t → channel t (num 4 u (r + 4 + 4 * j)) ≡ fine =
     λ j l. ap (λ (p : ℕ). channel t (num 4 u (p + 4 * j))) (sym at4) ∙ fields-fine 4 (λ i. channel t) u (channelsOf t) 0 (m .1) (c .2) j l in
     subst (Ended u at) (ok-value (k .3))
-    (colour-ended u at r (channelsOf t) (i .0) t (c .0) (k .0) kind (loaded u at (y .0) (i .0) r (y .1)) (mj .1) bits (ap (num 2 u) (sym end) ∙ kj .1) whole
+    (colour-ended u at r (channelsOf t) (i .0) t (c .0) (k .0) kind (named-as u at (y .0) (i .0) r (y .1)) (mj .1) bits (ap (num 2 u) (sym end) ∙ kj .1) whole
     (unless-fine (isModel t) 4 (mj .3), sym (ap length bits) ∙ length-nums 4 (channelsOf t) u (r + 4), channels-sound u (channelsOf t) (r + 4) t (c .0) bits allowed, leb-true (k .0) 2 (unless-fine (leb (k .0) 2) 5 (kj .3))))
 
 -- the block's content, behind its type t and its length n

@@ -2,6 +2,7 @@
 use Prim.Native.Nat.{ℕ, zero, suc, _+_, _*_, _-_, _≤_, _<_}
 use mathlib.Core.Path.{_≡_, refl, sym, ap, ap₂, _∙_, subst}
 use mathlib.Core.List.{List, [], _∷_}
+use mathlib.Core.Bool.{Bool, true, false}
 use lib.ListN.{length, getD, take}
 use lib.Seq.{length-take-le}
 use lib.Dec.{leb, eqb}
@@ -14,18 +15,25 @@ use Rattle.algebra.proofs.Inverse.{ok-value, then-inv, rule-inv, pick-inv, ende
 use Rattle.algebra.proofs.Chain.{chain-inv, chain-length}
 use Rattle.ase.proofs.Whole.{heading-inv}
 use Rattle.ase.specs.Reading.{Entry, stopped, block, standingAfter, heading, blocks, palette, ase}
-use Rattle.ase_read.specs.Table.{row}
-use Rattle.ase_read.specs.Raw.{load, countAt, modelAt, rowIn, rawRow, nextBlock, blockPlace, entriesOf, Accepted}
-use Rattle.ase_read.proofs.Blocks.{nine, Sound, NameIn, Blocked, blocked}
+use Rattle.ase.specs.Row.{givenOf}
+use Rattle.ase_read.specs.Raw.{load, countAt, firstAt, modelAt, loaded, nextBlock, blockPlace, entriesOf, Accepted}
+use Rattle.ase_read.proofs.Blocks.{same, Sound, NameIn, Blocked, blocked}
 
--- ---- a row as it is loaded
+-- ---- a block's numbers as they are loaded
 
-pub row-loaded : (u : List ℕ) (p end kind count place units tag a b c d last : ℕ) → kind ≡ load 2 u p → count ≡ countAt u p → place ≡ pick (eqb count 0) 0 (p + 8) → units ≡ count - 1
-    → tag ≡ load 4 u (p + 8 + 2 * count) → a ≡ load 4 u (p + 8 + 2 * count + 4) → b ≡ load 4 u (p + 8 + 2 * count + 8) → c ≡ load 4 u (p + 8 + 2 * count + 12) → d ≡ load 4 u (p + 8 + 2 * count + 16) → last ≡ load 2 u (end - 2)
-    → _≡_ {A = List ℕ} (kind ∷ place ∷ units ∷ tag ∷ a ∷ b ∷ c ∷ d ∷ last ∷ []) (rowIn u p end)
-row-loaded u p end kind count place units tag a b c d last ek en ep eu et ea eb ec ed el =
+pub numbers-loaded : (u : List ℕ) (p kind count place units tag a b c d last : ℕ) → kind ≡ load 2 u p → count ≡ countAt u p → place ≡ pick (eqb count 0) 0 (p + 8) → units ≡ count - 1
+    → tag ≡ load 4 u (p + 8 + 2 * count) → a ≡ load 4 u (p + 8 + 2 * count + 4) → b ≡ load 4 u (p + 8 + 2 * count + 8) → c ≡ load 4 u (p + 8 + 2 * count + 12) → d ≡ load 4 u (p + 8 + 2 * count + 16) → last ≡ load 2 u (length u - 2)
+    → record { block = kind; first = place; units = units; model = tag; channels = a ∷ b ∷ c ∷ d ∷ []; type = last } ≡ loaded u p
+numbers-loaded u p kind count place units tag a b c d last ek en ep eu et ea eb ec ed el =
     let four : (k v : ℕ) → v ≡ load 4 u (p + 8 + 2 * count + k) → v ≡ load 4 u (modelAt u p + k) = λ k v e. e ∙ ap (λ (n : ℕ). load 4 u (p + 8 + 2 * n + k)) en in
-    nine ek (ep ∙ ap (λ (n : ℕ). pick (eqb n 0) 0 (p + 8)) en) (eu ∙ ap (λ (n : ℕ). n - 1) en) (et ∙ ap (λ (n : ℕ). load 4 u (p + 8 + 2 * n)) en) (four 4 a ea) (four 8 b eb) (four 12 c ec) (four 16 d ed) el
+    same ek (ep ∙ ap (λ (n : ℕ). pick (eqb n 0) 0 (p + 8)) en) (eu ∙ ap (λ (n : ℕ). n - 1) en) (et ∙ ap (λ (n : ℕ). load 4 u (p + 8 + 2 * n)) en) (four 4 a ea) (four 8 b eb) (four 12 c ec) (four 16 d ed) el
+
+pub first-few : (u : List ℕ) (p : ℕ) → firstAt u p ≤ p + 8
+first-few u p = go (eqb (countAt u p) 0)
+  where
+    go : (b : Bool) → pick b 0 (p + 8) ≤ p + 8
+    go true = omega arith
+    go false = omega arith
 
 -- ---- places of blocks
 
@@ -114,7 +122,7 @@ pub record Here (s : List ℕ) (i p : ℕ) : Type 0 where
   pub short : length s ≤ limit
   pub inside : nextBlock s p ≤ length s
   pub next : nextBlock s p ≡ blockPlace s (i + 1)
-  pub is-row : row (entryAt s i) ≡ rawRow s p (nextBlock s p)
+  pub is-row : givenOf (entryAt s i) ≡ loaded (take (nextBlock s p) s) p
   pub sound : Sound (entryAt s i)
   pub named : NameIn (nextBlock s p) (entryAt s i)
 
@@ -128,7 +136,7 @@ here s n a i h p e = subst (Here s i) (sym e) (go (block-is s n a i h))
           short = small s n a;
           inside = b .inside;
           next = sym (place-next s i);
-          is-row = ap row e ∙ b .ended .is-row ∙ ap (rowIn (take (nextBlock s (blockPlace s i)) s) (blockPlace s i)) l;
+          is-row = ap givenOf e ∙ b .ended .is-row;
           sound = subst Sound (sym e) (b .ended .sound);
           named = subst (NameIn (nextBlock s (blockPlace s i))) (sym e) (subst (λ (q : ℕ). NameIn q (getD (a .0) i stopped)) l (b .ended .named));
         }

@@ -1,12 +1,14 @@
 -- What the filling pass goes by: where the blocks of a judged file stand, and a block's numbers as they are loaded, each 0 where the payload ends before it.
 use Prim.Native.Nat.{ℕ, zero, suc, _+_, _-_, _*_}
-use mathlib.Core.Path.{_≡_}
 use mathlib.Core.List.{List, [], _∷_}
 use lib.Dec.{eqb}
 use lib.ListN.{length, take}
 use Rattle.algebra.specs.Numbers.{num}
-use Rattle.algebra.specs.Reader.{Res, ok, refuse, pick, field, orZero}
+use Rattle.algebra.specs.Reader.{Res, pick, field, orZero}
+use Rattle.algebra.specs.Filling.{recordsIn}
+use Rattle.algebra.specs.Filling as filling
 use Rattle.ase.specs.Reading.{Entry}
+use Rattle.ase.specs.Row.{Given, numbers}
 
 -- ---- places
 
@@ -37,23 +39,26 @@ firstAt u p = pick (eqb (countAt u p) 0) 0 (p + 8)
 abbrev pub modelAt : List ℕ → ℕ → ℕ
 modelAt u p = p + 8 + 2 * countAt u p
 
--- the numbers of the block at p in the order of a row, in the file u that ends with the block: a colour's type is the last of all
-abbrev pub rowIn : List ℕ → ℕ → ℕ → List ℕ
-rowIn u p end =
-    load 2 u p ∷ firstAt u p ∷ (countAt u p - 1) ∷ load 4 u (modelAt u p)
-    ∷ load 4 u (modelAt u p + 4) ∷ load 4 u (modelAt u p + 8) ∷ load 4 u (modelAt u p + 12) ∷ load 4 u (modelAt u p + 16)
-    ∷ load 2 u (end - 2) ∷ []
+-- the record of the block at p, in the file u that ends with it: a colour's type is the last number of all
+abbrev pub loaded : List ℕ → ℕ → Given
+loaded u p = record {
+  block = load 2 u p;
+  first = firstAt u p;
+  units = countAt u p - 1;
+  model = load 4 u (modelAt u p);
+  channels = load 4 u (modelAt u p + 4) ∷ load 4 u (modelAt u p + 8) ∷ load 4 u (modelAt u p + 12) ∷ load 4 u (modelAt u p + 16) ∷ [];
+  type = load 2 u (length u - 2);
+}
 
--- the block at p that ends at `end`
+-- the row of the block from p to `end`
 abbrev pub rawRow : List ℕ → ℕ → ℕ → List ℕ
-rawRow s p end = rowIn (take end s) p end
+rawRow s p end = numbers (loaded (take end s) p)
 
 -- ---- of an accepted file
 
 abbrev pub entriesOf : Res (List Entry) → List Entry
-entriesOf (ok es q) = es
-entriesOf (refuse x p r f) = []
+entriesOf m = recordsIn (λ es. es) m
 
--- the file is accepted with this number of blocks
+-- it has this number of blocks
 abbrev pub Accepted : Res (List Entry) → ℕ → Type 0
-Accepted m n = (es : List Entry) × (q : ℕ) × (m ≡ ok es q) × (length es ≡ n)
+Accepted m n = filling.Accepted length m n

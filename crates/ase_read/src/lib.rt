@@ -1,19 +1,20 @@
 // ASE palettes: a file's records into a lent table, and a record by its number.
 ghost use mathlib.Core.Path.{_≡_};
 ghost use mathlib.Core.List.{_∷_, []};
-ghost use Prim.Native.Nat.{_+_, _-_, _*_, _≤_, _<_};
+ghost use Prim.Native.Nat.{_+_, _-_, _*_, _^_, _≤_, _<_};
 ghost use lib.Dec.{eqb};
 ghost use lib.ListN.{length};
 ghost use lib.Seq.{sets};
 ghost use Rattle.algebra.specs.Numbers.{joined};
 ghost use Rattle.algebra.specs.Reader.{pick, limit};
+ghost use Rattle.algebra.specs.Table.{accepted};
 ghost use Rattle.ase.specs.Reading.{ase};
+ghost use Rattle.ase.specs.Row.{width, numbers, givenIn, colour};
 ghost use Rattle.ase_judge.specs.Answer.{told};
 ghost use Rattle.ase_read.specs.Table.{row, filled, recordAt, nameBytesIn};
-ghost use Rattle.ase_read.specs.Raw.{nextBlock, blockPlace, rawRow, entriesOf, Accepted};
-ghost use Rattle.ase_read.specs.Answer.{colour, shown, toldRecord, IsColour};
-use ase::START;
-use ase::STOP;
+ghost use Rattle.ase_read.specs.Raw.{nextBlock, blockPlace, loaded, rawRow, entriesOf, Accepted};
+ghost use Rattle.ase_read.specs.Answer.{toldRecord, IsColour};
+use ase::Numbers;
 use ase::WIDTH;
 use ase_judge::Answer;
 use colour::Channels;
@@ -21,6 +22,11 @@ use colour::Made;
 
 // The length of the heading.
 const HEADING: usize = 12;
+
+// The types of a block, as a row has them.
+const START: u32 = ase::START as u32;
+
+const STOP: u32 = ase::STOP as u32;
 
 // A record: a group start with its name's place and number of units, a group end, or a colour with
 // its name, its channels and its type; or a refusal.
@@ -52,14 +58,14 @@ fn block_end(file: &[u8], at: usize) -> usize
 }
 
 // The place of the name of the block at `at`; 0 where the block has no name.
-fn first_at(count: u16, at: usize) -> u32
-    requires { ⌜ at ≤ limit ⌝ }
+fn first_at(count: u16, at: usize) -> usize
+    requires { ⌜ at + 8 < 2 ^ 64 ⌝ }
     ensures { λ r. ⌜ r ≡ pick (eqb count 0) 0 (at + 8) ⌝ }
 {
     if count == 0 {
         return 0;
     }
-    (at + 8) as u32
+    at + 8
 }
 
 // The units of a name without its closing zero.
@@ -72,71 +78,57 @@ fn units_of(count: u16) -> u32
     (count - 1) as u32
 }
 
-// Stores the nine numbers of a row. The stores stand by themselves, so that their proof knows of
-// nothing else.
-fn put_numbers(
-    table: &mut [u32],
-    to: usize,
-    kind: u32,
-    place: u32,
-    units: u32,
-    tag: u32,
-    a: u32,
-    b: u32,
-    c: u32,
-    d: u32,
-    last: u32,
-)
-    requires { ⌜ to + 9 ≤ length (now table) ⌝ }
-    ensures { λ _. ⌜ now (table .exit) ≡ sets (now (table .entry)) to (kind ∷ place ∷ units ∷ tag ∷ a ∷ b ∷ c ∷ d ∷ last ∷ []) ⌝ }
+// The block from `at` to the end of `part`: what a shorter payload does not have is 0.
+fn numbers_in(part: &[u8], at: usize) -> Numbers
+    requires { ⌜ at + 6 ≤ length (now part) ⌝ }
+    ensures { λ r. ⌜ givenIn r ≡ loaded (now (part .entry)) at ⌝ }
 {
-    table[to] = kind;
-    table[to + 1] = place;
-    table[to + 2] = units;
-    table[to + 3] = tag;
-    table[to + 4] = a;
-    table[to + 5] = b;
-    table[to + 6] = c;
-    table[to + 7] = d;
-    table[to + 8] = last;
-}
-
-// Stores the numbers of the block from `at` to `end`. All is loaded from the file up to its end, so
-// that what a shorter payload does not have is 0, and only then stored, which compilers join.
-fn put_row(file: &[u8], at: usize, end: usize, table: &mut [u32], to: usize)
-    requires { ⌜ (at + 6 ≤ end) × (end ≤ length (now file)) × (length (now file) ≤ limit) × (to + 9 ≤ length (now table)) ⌝ }
-    ensures { λ _. ⌜ now (table .exit) ≡ sets (now (table .entry)) to (rawRow (now (file .entry)) at end) ⌝ }
-{
-    let part = &file[..end];
-    let kind = fields::u16_or_zero(part, at);
+    let block = fields::u16_or_zero(part, at);
     let count = fields::u16_or_zero(part, at + 6);
     let model = at + 8 + 2 * (count as usize);
-    let tag = fields::u32_or_zero(part, model);
-    let a = fields::u32_or_zero(part, model + 4);
-    let b = fields::u32_or_zero(part, model + 8);
-    let c = fields::u32_or_zero(part, model + 12);
-    let d = fields::u32_or_zero(part, model + 16);
-    let last = fields::u16_or_zero(part, end - 2);
-    let place = first_at(count, at);
-    let units = units_of(count);
-    put_numbers(
-        table,
-        to,
-        kind as u32,
-        place,
-        units,
-        tag,
-        a,
-        b,
-        c,
-        d,
-        last as u32,
-    );
+    Numbers {
+        block: block as u32,
+        first: first_at(count, at),
+        units: units_of(count),
+        model: fields::u32_or_zero(part, model),
+        a: fields::u32_or_zero(part, model + 4),
+        b: fields::u32_or_zero(part, model + 8),
+        c: fields::u32_or_zero(part, model + 12),
+        d: fields::u32_or_zero(part, model + 16),
+        kind: fields::u16_or_zero(part, part.len() - 2) as u32,
+    }
+}
+
+// Stores a row; nothing else knows its order. The stores stand by themselves, so that their proof
+// knows of nothing else.
+fn put_numbers(table: &mut [u32], to: usize, row: Numbers)
+    requires { ⌜ (to + width ≤ length (now table)) × (row .first < 2 ^ 32) ⌝ }
+    ensures { λ _. ⌜ now (table .exit) ≡ sets (now (table .entry)) to (numbers (givenIn row)) ⌝ }
+{
+    table[to] = row.block;
+    table[to + 1] = row.first as u32;
+    table[to + 2] = row.units;
+    table[to + 3] = row.model;
+    table[to + 4] = row.a;
+    table[to + 5] = row.b;
+    table[to + 6] = row.c;
+    table[to + 7] = row.d;
+    table[to + 8] = row.kind;
+}
+
+// Stores the row of the block from `at` to `end`. All is loaded and only then stored, which compilers
+// join.
+fn put_row(file: &[u8], at: usize, end: usize, table: &mut [u32], to: usize)
+    requires { ⌜ (at + 6 ≤ end) × (end ≤ length (now file)) × (length (now file) ≤ limit) × (to + width ≤ length (now table)) ⌝ }
+    ensures { λ _. ⌜ now (table .exit) ≡ sets (now (table .entry)) to (rawRow (now (file .entry)) at end) ⌝ }
+{
+    let row = numbers_in(&file[..end], at);
+    put_numbers(table, to, row);
 }
 
 // Stores the n records of an accepted file.
 fn fill(file: &[u8], n: usize, table: &mut [u32])
-    requires { ⌜ Accepted (ase (now file)) n × (9 * n ≤ length (now table)) ⌝ }
+    requires { ⌜ Accepted (ase (now file)) n × (width * n ≤ length (now table)) ⌝ }
     ensures { λ _. ⌜ now (table .exit) ≡ sets (now (table .entry)) 0 (joined row (entriesOf (ase (now (file .entry))))) ⌝ }
 {
     let mut i: usize = 0;
@@ -163,17 +155,17 @@ fn block_place(file: &[u8], n: usize, i: usize) -> usize
     at
 }
 
-// A colour by its tag and the bits of its channels, which are judged.
-fn coloured(place: usize, units: u32, tag: u32, a: u32, b: u32, c: u32, d: u32, kind: u16) -> Record
-    requires { ⌜ IsColour tag a b c d ⌝ }
-    ensures { λ r. ⌜ toldRecord r ≡ colour place units tag (a ∷ b ∷ c ∷ d ∷ []) kind ⌝ }
+// A colour by its numbers, which are judged.
+fn coloured(row: Numbers) -> Record
+    requires { ⌜ IsColour (row .model) (row .a) (row .b) (row .c) (row .d) × (row .kind ≤ 2) ⌝ }
+    ensures { λ r. ⌜ toldRecord r ≡ accepted (colour (row .first) (row .units) (row .model) (row .a ∷ row .b ∷ row .c ∷ row .d ∷ []) (row .kind)) ⌝ }
 {
-    match Channels::from_tag(tag, a, b, c, d) {
+    match Channels::from_tag(row.model, row.a, row.b, row.c, row.d) {
         Made::Is(colour) => Record::Colour {
-            place,
-            units,
+            place: row.first,
+            units: row.units,
             colour,
-            kind,
+            kind: row.kind as u16,
         },
         Made::Refused(number) => Record::Refused { number, place: 0 },
     }
@@ -182,30 +174,21 @@ fn coloured(place: usize, units: u32, tag: u32, a: u32, b: u32, c: u32, d: u32, 
 // Record i of an accepted file, which has it.
 fn found(file: &[u8], n: usize, i: usize) -> Record
     requires { ⌜ Accepted (ase (now file)) n × (i < n) ⌝ }
-    ensures { λ r. ⌜ toldRecord r ≡ shown (recordAt i (ase (now (file .entry)))) ⌝ }
+    ensures { λ r. ⌜ toldRecord r ≡ recordAt i (ase (now (file .entry))) ⌝ }
 {
     let at = block_place(file, n, i);
     let end = block_end(file, at);
-    let mut row = [0; WIDTH];
-    put_row(file, at, end, &mut row, 0);
-    let place = fields::wide(row[1]);
-    let block = row[0] as u16;
+    let mut table = [0; WIDTH];
+    put_row(file, at, end, &mut table, 0);
+    let row = ase_records::record_at(&table, 0);
+    let block = row.block;
     match block {
         START => Record::Group {
-            place,
-            units: row[2],
+            place: row.first,
+            units: row.units,
         },
         STOP => Record::Close,
-        _ => coloured(
-            place,
-            row[2],
-            row[3],
-            row[4],
-            row[5],
-            row[6],
-            row[7],
-            row[8] as u16,
-        ),
+        _ => coloured(row),
     }
 }
 
@@ -230,7 +213,7 @@ pub fn read(file: &[u8], table: &mut [u32]) -> Answer
 
 // Record i of a file.
 pub fn record_at(file: &[u8], i: usize) -> Record
-    ensures { λ r. ⌜ toldRecord r ≡ shown (recordAt i (ase (now (file .entry)))) ⌝ }
+    ensures { λ r. ⌜ toldRecord r ≡ recordAt i (ase (now (file .entry))) ⌝ }
 {
     match ase_judge::judge(file) {
         Answer::Refused { number, place } => Record::Refused { number, place },

@@ -1,6 +1,6 @@
 -- Which fault is found first, and how long the file is, on plain values. Assumes nothing.
 use Rattle.algebra.proofs.Counted.{counted-end, counted-start, counted-turn}
-use Prim.Native.Nat.{ℕ, zero, suc, _+_, _*_, _-_, _/_, _≤_, _<_}
+use Prim.Native.Nat.{ℕ, zero, suc, _+_, _*_, _-_, _≤_, _<_}
 use mathlib.Core.Path.{_≡_, refl, sym, ap, _∙_, subst}
 use mathlib.Core.List.{List, [], _∷_}
 use mathlib.Core.Bool.{Bool, true, false, not, _&&_}
@@ -13,6 +13,7 @@ use native.Mathlib.Nat.{lt-of-not-le}
 use native.Mathlib.Decide.{ℕ-discrete, decLe}
 use Rattle.algebra.specs.Reader.{Res, pick, done, numberOf, stateAfter}
 use Rattle.algebra.specs.Text.{text}
+use Rattle.algebra.specs.Numbers.{counted}
 use Rattle.algebra.specs.Faults.{firstOf, faults, faultsFrom, faultsIn}
 use Rattle.algebra.proofs.Tells.{first-none, first-zero, first-inv, pick-none}
 use Rattle.algebra.proofs.Texts.{text-short}
@@ -23,20 +24,10 @@ use Rattle.colour.specs.declared.model.Known.the-variants.{Is, Unknown}
 use Rattle.colour.specs.declared.model.Model.{Model}
 use Rattle.colour.specs.declared.model.Model.the-variants.{Rgb, Cmyk, Lab, Gray}
 use Rattle.ase.specs.Reading.{deepest}
-use Rattle.ase_records.specs.Writing.{Given, givenAt, givens, channelsIn, sizeIn, sizes, nameFault, blockFault, standingIn}
-use Rattle.ase_records.specs.Parts.{noRecord, recordIn, headFault, depthAfter, channelsFault, shadeFault, blocksFault, start, ownFault, RecordFits, RecordsFit}
+use Rattle.ase.specs.Row.{Given}
+use Rattle.ase_records.specs.Writing.{channelsIn, sizeIn, sizes, nameFault, blockFault, standingIn}
+use Rattle.ase_records.specs.Parts.{headFault, depthAfter, channelsFault, shadeFault, blocksFault, start, ownFault, RecordFits, RecordsFit}
 use Rattle.algebra.proofs.Firsts.{first-found, hit, pass, test-holds, name-number}
-
--- ---- a record of a run
-
-pub record-in : (run : List ℕ) (k : ℕ) → k < length run / 9 → recordIn run k ≡ givenAt run k
-record-in run k h = ap (λ (b : Bool). pick b (givenAt run k) noRecord) (lt-ltb _ _ h)
-
-pub record-whole : (run : List ℕ) (n k : ℕ) → 9 * n ≤ length run → k < n → recordIn run k ≡ givenAt run k
-record-whole run n k h l = record-in run k (omega arith)
-
-pub record-out : (run : List ℕ) (k : ℕ) → length run / 9 ≤ k → recordIn run k ≡ noRecord
-record-out run k h = ap (λ (b : Bool). pick b (givenAt run k) noRecord) (le-ltb _ _ h)
 
 -- ---- the first of two faults
 
@@ -85,10 +76,8 @@ module _ (names : List ℕ) (g : Given) where
   pub name-large : 65534 < g .units → nameFault names g ≡ 5
   name-large h = simp (lt-leb (g .units + 1) 65535 (omega arith))
 
-  pub name-is : g .units ≤ 65534 → (at : ℕ) (r : Res Unit) → at ≡ g .first → r ≡ done (text (g .units) names at) → numberOf r ≡ nameFault names g
-  name-is h at r a e =
-      name-number (text (g .units) names (g .first)) r (e ∙ ap (λ (k : ℕ). done (text (g .units) names k)) a)
-      ∙ sym (simp (le-leb (g .units + 1) 65535 (omega arith)))
+  pub name-is : g .units ≤ 65534 → (r : Res Unit) → r ≡ done (text (g .units) names (g .first)) → numberOf r ≡ nameFault names g
+  name-is h r e = name-number (text (g .units) names (g .first)) r e ∙ sym (simp (le-leb (g .units + 1) 65535 (omega arith)))
 
   -- a name without a fault fits its count
   pub name-short : nameFault names g ≡ 0 → g .units ≤ 65534
@@ -305,14 +294,14 @@ module _ (names : List ℕ) (d : ℕ) (g : Given) where
 
 -- ---- a loop over the records of a run
 
-module _ (run : List ℕ) where
-  pub sizes-turn : (n i : ℕ) → i < n → sizes (givens run (n - i) i) ≡ sizeIn (givenAt run i) + sizes (givens run (n - (i + 1)) (i + 1))
+module _ (item : ℕ → Given) where
+  pub sizes-turn : (n i : ℕ) → i < n → sizes (counted item (n - i) i) ≡ sizeIn (item i) + sizes (counted item (n - (i + 1)) (i + 1))
   unfolding sizes
-  sizes-turn n i h = ap sizes (counted-turn (givenAt run) n i h)
+  sizes-turn n i h = ap sizes (counted-turn item n i h)
 
-  pub sizes-end : (n i : ℕ) → n ≤ i → sizes (givens run (n - i) i) ≡ 0
+  pub sizes-end : (n i : ℕ) → n ≤ i → sizes (counted item (n - i) i) ≡ 0
   unfolding sizes
-  sizes-end n i h = ap sizes (counted-end (givenAt run) n i h)
+  sizes-end n i h = ap sizes (counted-end item n i h)
 
 -- every record takes six bytes or more
 pub size-least : (g : Given) → 6 ≤ sizeIn g
@@ -330,34 +319,34 @@ sizes-all [] = omega arith
 sizes-all (g ∷ gs) = let h = sizes-all gs in let k = size-least g in omega arith
 
 -- what is left has the first fault of all
-module _ (names run : List ℕ) where
+module _ (names : List ℕ) (item : ℕ → Given) where
   blocks-turn : (d n i : ℕ) → i < n
-      → blocksFault names d (givens run (n - i) i) ≡ firstOf (blockFault names d (givenAt run i)) (blocksFault names (standingIn names d (givenAt run i)) (givens run (n - (i + 1)) (i + 1)))
+      → blocksFault names d (counted item (n - i) i) ≡ firstOf (blockFault names d (item i)) (blocksFault names (standingIn names d (item i)) (counted item (n - (i + 1)) (i + 1)))
   unfolding blocksFault faultsIn stateAfter
   blocks-turn d n i h =
-      ap (blocksFault names d) (counted-turn (givenAt run) n i h)
-      ∙ first-assoc (blockFault names d (givenAt run i)) (faultsIn (standingIn names) (blockFault names) (standingIn names d (givenAt run i)) (givens run (n - (i + 1)) (i + 1))) _
+      ap (blocksFault names d) (counted-turn item n i h)
+      ∙ first-assoc (blockFault names d (item i)) (faultsIn (standingIn names) (blockFault names) (standingIn names d (item i)) (counted item (n - (i + 1)) (i + 1))) _
 
-  pub blocks-start : (n : ℕ) → blocksFault names 0 (givens run n 0) ≡ blocksFault names 0 (givens run (n - 0) 0)
-  blocks-start n = ap (blocksFault names 0) (counted-start (givenAt run) n)
+  pub blocks-start : (n : ℕ) → blocksFault names 0 (counted item n 0) ≡ blocksFault names 0 (counted item (n - 0) 0)
+  blocks-start n = ap (blocksFault names 0) (counted-start item n)
 
-  module _ (all d n i : ℕ) (inv : all ≡ blocksFault names d (givens run (n - i) i)) where
-    module _ (h : i < n) (r : ℕ) (g : Given) (at : g ≡ givenAt run i) (e : r ≡ blockFault names d g) where
-      next : r ≡ blockFault names d (givenAt run i)
+  module _ (all d n i : ℕ) (inv : all ≡ blocksFault names d (counted item (n - i) i)) where
+    module _ (h : i < n) (r : ℕ) (g : Given) (at : g ≡ item i) (e : r ≡ blockFault names d g) where
+      next : r ≡ blockFault names d (item i)
       next = e ∙ ap (blockFault names d) at
 
       pub blocks-found : (r ≡ 0 → ⊥) → r ≡ all
       blocks-found z = hit r _ _ next z ∙ sym (inv ∙ blocks-turn d n i h)
 
-      pub blocks-more : r ≡ 0 → (k : ℕ) → k ≡ depthAfter d (g .block) → all ≡ blocksFault names k (givens run (n - (i + 1)) (i + 1))
+      pub blocks-more : r ≡ 0 → (k : ℕ) → k ≡ depthAfter d (g .block) → all ≡ blocksFault names k (counted item (n - (i + 1)) (i + 1))
       blocks-more z k w =
-          let s : standingIn names d (givenAt run i) ≡ k = sym (w ∙ sym (standing-is names d g) ∙ ap (standingIn names d) at) in
-          inv ∙ blocks-turn d n i h ∙ first-none _ _ (sym next ∙ z) ∙ ap (λ (x : ℕ). blocksFault names x (givens run (n - (i + 1)) (i + 1))) s
+          let s : standingIn names d (item i) ≡ k = sym (w ∙ sym (standing-is names d g) ∙ ap (standingIn names d) at) in
+          inv ∙ blocks-turn d n i h ∙ first-none _ _ (sym next ∙ z) ∙ ap (λ (x : ℕ). blocksFault names x (counted item (n - (i + 1)) (i + 1))) s
 
     module _ (h : n ≤ i) where
       last : all ≡ pick (eqb d 0) 0 9
       unfolding blocksFault faultsIn stateAfter
-      last = inv ∙ ap (blocksFault names d) (counted-end (givenAt run) n i h)
+      last = inv ∙ ap (blocksFault names d) (counted-end item n i h)
 
       pub blocks-open : (d ≡ 0 → ⊥) → 9 ≡ all
       blocks-open z = sym (last ∙ rw (ne-eqb d 0 z))
@@ -375,21 +364,21 @@ all-own names d (g ∷ gs) e =
     let x = first-inv (blockFault names d g) (faultsIn (standingIn names) (blockFault names) (standingIn names d g) gs) e in
     first-none (ownFault names g) (faults (ownFault names) gs) (block-own names d g (x .0)) ∙ all-own names (standingIn names d g) gs (x .1)
 
-module _ (names run : List ℕ) where
-  pub fit-start : (n at room : ℕ) → RecordsFit names (givens run n 0) at room → RecordsFit names (givens run (n - 0) 0) at room
-  fit-start n at room e = subst (λ (gs : List Given). RecordsFit names gs at room) (counted-start (givenAt run) n) e
+module _ (names : List ℕ) (item : ℕ → Given) where
+  pub fit-start : (n at room : ℕ) → RecordsFit names (counted item n 0) at room → RecordsFit names (counted item (n - 0) 0) at room
+  fit-start n at room e = subst (λ (gs : List Given). RecordsFit names gs at room) (counted-start item n) e
 
-  module _ (n i at room : ℕ) (h : i < n) (e : RecordsFit names (givens run (n - i) i) at room) where
-    none : (ownFault names (givenAt run i) ≡ 0) × (faults (ownFault names) (givens run (n - (i + 1)) (i + 1)) ≡ 0)
+  module _ (n i at room : ℕ) (h : i < n) (e : RecordsFit names (counted item (n - i) i) at room) where
+    none : (ownFault names (item i) ≡ 0) × (faults (ownFault names) (counted item (n - (i + 1)) (i + 1)) ≡ 0)
     unfolding faults
-    none = first-inv _ _ (sym (ap (faults (ownFault names)) (counted-turn (givenAt run) n i h)) ∙ e .sound)
+    none = first-inv _ _ (sym (ap (faults (ownFault names)) (counted-turn item n i h)) ∙ e .sound)
 
-    pub fit-next : RecordFits names (givenAt run i) at room
+    pub fit-next : RecordFits names (item i) at room
     fit-next =
-        let t = sizes-turn run n i h in
+        let t = sizes-turn item n i h in
         record { inside = omega (arith, e .inside); short = omega (arith, e .short); sound = none .0 }
 
-    pub fit-rest : (k : ℕ) → k ≡ sizeIn (givenAt run i) → RecordsFit names (givens run (n - (i + 1)) (i + 1)) (at + k) room
+    pub fit-rest : (k : ℕ) → k ≡ sizeIn (item i) → RecordsFit names (counted item (n - (i + 1)) (i + 1)) (at + k) room
     fit-rest k w =
-        let t = sizes-turn run n i h in
+        let t = sizes-turn item n i h in
         record { inside = omega (arith, e .inside); short = omega (arith, e .short); sound = none .1 }

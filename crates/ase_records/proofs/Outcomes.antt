@@ -10,7 +10,8 @@ use Rattle.algebra.specs.Faults.{faults, faultsIn}
 use Rattle.algebra.specs.Writing.{bytes, refused}
 use Rattle.algebra.proofs.Tells.{first-inv}
 use Rattle.algebra.proofs.Writing.{needs-no, needs-all, needs-inv}
-use Rattle.ase_records.specs.Writing.{Given, size, blockFault, standingIn, fault, needed}
+use Rattle.ase.specs.Row.{Given}
+use Rattle.ase_records.specs.Writing.{size, blockFault, standingIn, fault, needed}
 use Rattle.ase_records.specs.Parts.{blocksFault, ownFault}
 use Rattle.ase_records.proofs.Judging.{all-own}
 use Rattle.algebra.proofs.Firsts.{test-holds}

@@ -13,7 +13,8 @@ use Rattle.colour.specs.Channels.{allowsBits}
 use Rattle.ase.specs.Grammar.{fileBytes}
 use Rattle.ase.specs.Reading.{deepest}
 use Rattle.ase_records.specs.Refusals.{refusals}
-use Rattle.ase_records.specs.Writing.{Given, channelsIn, blockIn, size, nameFault, colourFault, blockFault, standingIn, fault, needed, written}
+use Rattle.ase.specs.Row.{Given}
+use Rattle.ase_records.specs.Writing.{channelsIn, blockIn, size, nameFault, colourFault, blockFault, standingIn, fault, needed, written}
 
 name-numbered : (text : List ℕ) (g : Given) → Fault refusals (nameFault text g)
 name-numbered text g = pick-fault (leb (g .units + 1) 65535) (text-fault (among refl) (among refl) (g .units) text (g .first)) (among refl)

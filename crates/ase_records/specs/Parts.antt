@@ -1,9 +1,9 @@
 -- What the parts of judging and storing a record take of it.
-use Prim.Native.Nat.{ℕ, _+_, _-_, _/_, _≤_}
+use Prim.Native.Nat.{ℕ, _+_, _-_, _≤_}
 use mathlib.Core.Path.{_≡_}
-use mathlib.Core.List.{List, [], _∷_, _++_}
+use mathlib.Core.List.{List, _++_}
 use lib.Dec.{leb, ltb, eqb}
-use lib.ListN.{length, take}
+use lib.ListN.{take}
 use lib.Ieee.{binary32, ofBits}
 use Rattle.algebra.specs.Numbers.{be, joined}
 use Rattle.algebra.specs.Reader.{pick, stateAfter, limit}
@@ -12,26 +12,8 @@ use Rattle.colour.specs.Models.{traitsOf, isModel}
 use Rattle.colour.specs.Channels.{allows, allowsBits}
 use Rattle.colour.specs.declared.model.Model.{Model}
 use Rattle.ase.specs.Reading.{deepest}
-use Rattle.ase_records.specs.declared.Record.{Record}
-use Rattle.ase_records.specs.Writing.{Given, givenAt, channelsIn, sizeIn, sizes, blockFault, standingIn}
-
--- a record that was taken out of a run
-abbrev pub givenOf : Record → Given
-givenOf r = record {
-  block = r .block;
-  first = r .first;
-  units = r .units;
-  model = r .model;
-  channels = r .a ∷ r .b ∷ r .c ∷ r .d ∷ [];
-  type = r .kind;
-}
-
--- record k of a run, all zeros where the run does not have it whole
-abbrev pub noRecord : Given
-noRecord = record { block = 0; first = 0; units = 0; model = 0; channels = 0 ∷ 0 ∷ 0 ∷ 0 ∷ []; type = 0 }
-
-abbrev pub recordIn : List ℕ → ℕ → Given
-recordIn run k = pick (ltb k (length run / 9)) (givenAt run k) noRecord
+use Rattle.ase.specs.Row.{Given}
+use Rattle.ase_records.specs.Writing.{channelsIn, sizeIn, sizes, blockFault, standingIn}
 
 -- ---- judging
 

@@ -1,9 +1,9 @@
--- Writing records of a run of numbers: what is judged first, and the bytes that are made.
-use Prim.Native.Nat.{ℕ, _+_, _*_, _/_}
+-- Writing records as they are given: what is judged first, and the bytes that are made.
+use Prim.Native.Nat.{ℕ, _+_, _*_}
 use mathlib.Core.List.{List, [], _∷_, map}
-use lib.ListN.{length, getD, take}
+use lib.ListN.{take}
 use lib.Dec.{leb, ltb, eqb}
-use Rattle.algebra.specs.Numbers.{counted, nums}
+use Rattle.algebra.specs.Numbers.{nums}
 use Rattle.algebra.specs.Reader.{pick, numberOf, stateAfter, limit}
 use Rattle.algebra.specs.Text.{text}
 use Rattle.algebra.specs.Faults.{firstOf, faultsFrom, faultsIn}
@@ -12,36 +12,7 @@ use Rattle.colour.specs.Models.{isModel, channelsOf}
 use Rattle.colour.specs.Channels.{allowsBits}
 use Rattle.ase.specs.Grammar.{Block, start, stop, colour, other, fileBytes}
 use Rattle.ase.specs.Reading.{deepest, standing}
-
--- ---- the records of a run
-
--- a record as it is given: its block's type, its name by place and number of units in lent bytes, and a colour's model, channels and type
-pub record Given : Type 0 where
-  pub block : ℕ
-  pub first : ℕ
-  pub units : ℕ
-  pub model : ℕ
-  pub channels : List ℕ
-  pub type : ℕ
-
--- record k of a run, nine numbers to a record
-abbrev pub givenAt : List ℕ → ℕ → Given
-givenAt run k = record {
-  block = getD run (9 * k) 0;
-  first = getD run (9 * k + 1) 0;
-  units = getD run (9 * k + 2) 0;
-  model = getD run (9 * k + 3) 0;
-  channels = getD run (9 * k + 4) 0 ∷ getD run (9 * k + 5) 0 ∷ getD run (9 * k + 6) 0 ∷ getD run (9 * k + 7) 0 ∷ [];
-  type = getD run (9 * k + 8) 0;
-}
-
--- the n records from record k
-abbrev pub givens : List ℕ → ℕ → ℕ → List Given
-givens run n k = counted (givenAt run) n k
-
--- as many records as fit whole in a run
-abbrev pub given : List ℕ → List Given
-given run = givens run (length run / 9) 0
+use Rattle.ase.specs.Row.{Given}
 
 -- ---- the block of a record: its spare places are no part of it
 

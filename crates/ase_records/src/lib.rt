@@ -2,14 +2,17 @@
 ghost use mathlib.Core.Path.{_≡_};
 ghost use Prim.Native.Nat.{_+_, _*_, _≤_, _<_};
 ghost use lib.Dec.{leb};
-ghost use lib.ListN.{length};
+ghost use lib.ListN.{length, getD};
 ghost use Rattle.algebra.specs.Reader.{pick, limit};
+ghost use Rattle.algebra.specs.Table.{rowAt, rows, whole};
 ghost use Rattle.algebra.specs.Writing.{bytes, refused};
 ghost use Rattle.colour.specs.Models.{channelsOf};
 ghost use Rattle.ase.specs.Reading.{deepest};
-ghost use Rattle.ase_records.specs.Writing.{givenAt, givens, given, sizeIn, size, nameFault, blockFault, needed};
+ghost use Rattle.ase.specs.Row.{width, taken, givenIn, noRecord};
+ghost use Rattle.ase_records.specs.Writing.{sizeIn, size, nameFault, blockFault, needed};
 ghost use Rattle.fields.specs.Answer.{toldWritten};
-ghost use Rattle.ase_records.specs.Parts.{givenOf, noRecord, recordIn, headFault, shadeFault, depthAfter, blocksFault};
+ghost use Rattle.ase_records.specs.Parts.{headFault, shadeFault, depthAfter, blocksFault};
+use ase::Numbers;
 use ase::WIDTH;
 use colour::Known;
 use colour::Model;
@@ -26,42 +29,37 @@ const COLOUR: u32 = ase::COLOUR as u32;
 // How many groups may stand open.
 const DEEPEST: u32 = ase::DEEPEST as u32;
 
-// A record of a run: its block's type, where its name lies, and of a colour the tag of its model,
-// the bits of its channels, and its type.
-pub struct Record {
-    pub block: u32,
-    pub first: u32,
-    pub units: u32,
-    pub model: u32,
-    pub a: u32,
-    pub b: u32,
-    pub c: u32,
-    pub d: u32,
-    pub kind: u32,
-}
-
-// Record k of a run that has it; nothing else knows how a run lays it out.
-fn whole_at(run: &[u32], k: usize) -> Record
-    requires { ⌜ 9 * k + 9 ≤ length (now run) ⌝ }
-    ensures { λ r. ⌜ givenOf r ≡ givenAt (now (run .entry)) k ⌝ }
+// The record that a row gives; nothing else takes numbers out of one.
+fn taken_from(row: &[u32]) -> Numbers
+    requires { ⌜ length (now row) ≡ width ⌝ }
+    ensures { λ r. ⌜ givenIn r ≡ taken (now (row .entry)) ⌝ }
 {
-    Record {
-        block: run[WIDTH * k],
-        first: run[WIDTH * k + 1],
-        units: run[WIDTH * k + 2],
-        model: run[WIDTH * k + 3],
-        a: run[WIDTH * k + 4],
-        b: run[WIDTH * k + 5],
-        c: run[WIDTH * k + 6],
-        d: run[WIDTH * k + 7],
-        kind: run[WIDTH * k + 8],
+    Numbers {
+        block: row[0],
+        first: fields::wide(row[1]),
+        units: row[2],
+        model: row[3],
+        a: row[4],
+        b: row[5],
+        c: row[6],
+        d: row[7],
+        kind: row[8],
     }
 }
 
-fn no_record() -> Record
-    ensures { λ r. ⌜ givenOf r ≡ noRecord ⌝ }
+// Record k of a run that has it.
+fn whole_at(run: &[u32], k: usize) -> Numbers
+    requires { ⌜ width * k + width ≤ length (now run) ⌝ }
+    ensures { λ r. ⌜ givenIn r ≡ taken (rowAt width (now (run .entry)) k) ⌝ }
 {
-    Record {
+    let at = WIDTH * k;
+    taken_from(&run[at..at + WIDTH])
+}
+
+fn no_record() -> Numbers
+    ensures { λ r. ⌜ givenIn r ≡ noRecord ⌝ }
+{
+    Numbers {
         block: 0,
         first: 0,
         units: 0,
@@ -75,8 +73,8 @@ fn no_record() -> Record
 }
 
 // Record k of a run, all zeros where the run does not have it whole.
-pub fn record_at(run: &[u32], k: usize) -> Record
-    ensures { λ r. ⌜ givenOf r ≡ recordIn (now (run .entry)) k ⌝ }
+pub fn record_at(run: &[u32], k: usize) -> Numbers
+    ensures { λ r. ⌜ givenIn r ≡ getD (whole width taken (now (run .entry))) k noRecord ⌝ }
 {
     if run.len() / WIDTH <= k {
         return no_record();
@@ -97,8 +95,8 @@ pub fn channels_of(tag: u32) -> usize
 }
 
 // How many bytes a record takes.
-pub fn size_in(given: Record) -> usize
-    ensures { λ r. ⌜ (r ≡ sizeIn (givenOf given)) × (r < 0x3_0000_0000) ⌝ }
+pub fn size_in(given: Numbers) -> usize
+    ensures { λ r. ⌜ (r ≡ sizeIn (givenIn given)) × (r < 0x3_0000_0000) ⌝ }
 {
     if given.block == START {
         return 10 + 2 * fields::wide(given.units);
@@ -111,8 +109,8 @@ pub fn size_in(given: Record) -> usize
 
 // How many bytes the n records take. It stops at the limit, so that no sum passes 64 bits.
 fn size_of(run: &[u32], n: usize) -> Written
-    requires { ⌜ 9 * n ≤ length (now run) ⌝ }
-    ensures { λ r. ⌜ toldWritten r ≡ pick (leb (size (givens (now (run .entry)) n 0)) limit) (bytes (size (givens (now (run .entry)) n 0))) (refused 1 0) ⌝ }
+    requires { ⌜ width * n ≤ length (now run) ⌝ }
+    ensures { λ r. ⌜ toldWritten r ≡ pick (leb (size (rows width taken (now (run .entry)) n 0)) limit) (bytes (size (rows width taken (now (run .entry)) n 0))) (refused 1 0) ⌝ }
 {
     let mut total: usize = 12;
     let mut i: usize = 0;
@@ -129,21 +127,21 @@ fn size_of(run: &[u32], n: usize) -> Written
 // ---- judging
 
 // The fault of a name.
-fn name_fault(text: &[u8], given: Record) -> u32
-    ensures { λ r. ⌜ r ≡ nameFault (now (text .entry)) (givenOf given) ⌝ }
+fn name_fault(text: &[u8], given: Numbers) -> u32
+    ensures { λ r. ⌜ r ≡ nameFault (now (text .entry)) (givenIn given) ⌝ }
 {
     if 65534 < given.units {
         return 5;
     }
-    match names::text_at(text, fields::wide(given.first), given.units) {
+    match names::text_at(text, given.first, given.units) {
         Step::Next(_) => 0,
         Step::Refused(x, _) => x,
     }
 }
 
 // The fault of what stands behind a colour's name: its model, its channels, its type.
-fn shade_fault(given: Record) -> u32
-    ensures { λ r. ⌜ r ≡ shadeFault (givenOf given) ⌝ }
+fn shade_fault(given: Numbers) -> u32
+    ensures { λ r. ⌜ r ≡ shadeFault (givenIn given) ⌝ }
 {
     let Known::Is(model) = Model::from_tag(given.model) else {
         return 4;
@@ -180,8 +178,8 @@ fn head_fault(depth: u32, block: u32) -> u32
 }
 
 // The fault of a record, where `depth` groups stand open.
-fn block_fault(text: &[u8], depth: u32, given: Record) -> u32
-    ensures { λ r. ⌜ r ≡ blockFault (now (text .entry)) depth (givenOf given) ⌝ }
+fn block_fault(text: &[u8], depth: u32, given: Numbers) -> u32
+    ensures { λ r. ⌜ r ≡ blockFault (now (text .entry)) depth (givenIn given) ⌝ }
 {
     let x = head_fault(depth, given.block);
     if x != 0 {
@@ -219,8 +217,8 @@ fn depth_after(depth: u32, block: u32) -> u32
 
 // The first fault of the n records, and of a group that is left open.
 fn blocks_fault(run: &[u32], text: &[u8], n: usize) -> u32
-    requires { ⌜ 9 * n ≤ length (now run) ⌝ }
-    ensures { λ r. ⌜ r ≡ blocksFault (now (text .entry)) 0 (givens (now (run .entry)) n 0) ⌝ }
+    requires { ⌜ width * n ≤ length (now run) ⌝ }
+    ensures { λ r. ⌜ r ≡ blocksFault (now (text .entry)) 0 (rows width taken (now (run .entry)) n 0) ⌝ }
 {
     let mut depth: u32 = 0;
     let mut i: usize = 0;
@@ -241,7 +239,7 @@ fn blocks_fault(run: &[u32], text: &[u8], n: usize) -> u32
 
 // The exact length that writing needs, or the refusal.
 pub fn write_length(records: &[u32], text: &[u8]) -> Written
-    ensures { λ r. ⌜ toldWritten r ≡ needed (now (text .entry)) (given (now (records .entry))) ⌝ }
+    ensures { λ r. ⌜ toldWritten r ≡ needed (now (text .entry)) (whole width taken (now (records .entry))) ⌝ }
 {
     let n = records.len() / WIDTH;
     let Written::Bytes(size) = size_of(records, n) else {

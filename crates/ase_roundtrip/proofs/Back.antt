@@ -14,7 +14,8 @@ use Rattle.ase.specs.Reading.{Entry, blockOf, ase}
 use Rattle.ase.specs.Faults.{paletteFault}
 use Rattle.ase.proofs.RoundTrip.{accepted-allowed, allowed-written}
 use Rattle.algebra.proofs.Writing.{Wrote, writes-inv}
-use Rattle.ase_records.specs.Writing.{Given, size, fault, needed, written}
+use Rattle.ase.specs.Row.{Given}
+use Rattle.ase_records.specs.Writing.{size, fault, needed, written}
 use Rattle.ase_roundtrip.specs.Tie.{made, tabled}
 use Rattle.ase_roundtrip.proofs.Fitting.{length-made, fault-same}
 use Rattle.ase_roundtrip.proofs.Records.{given-blocks, given-fit}

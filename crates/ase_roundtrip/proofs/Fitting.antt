@@ -1,15 +1,17 @@
 -- Given records that fit: their length and their first fault are those of the blocks that are written. Assumes nothing.
 use Prim.Native.Nat.{ℕ, zero, suc, _+_, _*_, _-_, _^_, _≤_, _<_}
-use mathlib.Core.Path.{_≡_, refl, sym, ap, ap₂, _∙_}
+use mathlib.Core.Path.{_≡_, refl, sym, ap, ap₂, _∙_, subst}
 use mathlib.Core.List.{List, [], _∷_, _++_, map}
 use mathlib.Core.Bool.{Bool, true, false}
 use lib.Dec.{leb, ltb, eqb}
-use lib.ListN.{length, take, length-append}
+use lib.ListN.{length, getD, take, length-append}
 use lib.Seq.{length-take-le}
 use borrow.Author.Tests.{leb-true, le-leb, eqb-true}
 use native.Mathlib.Omega.{arith}
 use native.Mathlib.Nat.{lt-of-not-le}
 use native.Mathlib.Decide.{ℕ-discrete, decLe}
+use Rattle.algebra.specs.Table.{rowAt, rows}
+use Rattle.algebra.proofs.Table.{row-at}
 use Rattle.algebra.specs.Numbers.{counted, be, joined, Bytes, nums, All}
 use Rattle.algebra.specs.Reader.{Res, ok, refuse, pick, numberOf, done, stateAfter, limit}
 use Rattle.algebra.specs.Text.{anyZero, text, nameBytes}
@@ -28,7 +30,8 @@ use Rattle.ase.specs.Faults as a
 use Rattle.ase.proofs.Tables.{no-start, no-stop, no-colour, known-model, model-small}
 use Rattle.ase.proofs.Laws.{length-block}
 use Rattle.ase.proofs.Blocks.{length-file}
-use Rattle.ase_records.specs.Writing.{Given, givens, unitsIn, channelsIn, blockIn, sizeIn, sizes, size, nameFault, colourFault, blockFault, standingIn, fault}
+use Rattle.ase.specs.Row.{Given, width, taken}
+use Rattle.ase_records.specs.Writing.{unitsIn, channelsIn, blockIn, sizeIn, sizes, size, nameFault, colourFault, blockFault, standingIn, fault}
 use Rattle.ase_roundtrip.specs.Tie.{Words, made, NameFitting, ColourFitting, Fitting, a-start, an-end, a-colour, another}
 use Rattle.algebra.proofs.Firsts.{test-holds, all-image}
 use Rattle.ase_records.proofs.Judging.{channels-few}
@@ -58,10 +61,12 @@ channels-all g four = length-take-le (channelsOf (g .model)) (g .channels) (omeg
 abbrev pub Worded : Given → Type 0
 Worded g = (length (g .channels) ≡ 4) × All (λ i b. b < 256 ^ 4) 0 (g .channels)
 
-pub givens-words : (run : List ℕ) → Words run → (n k i : ℕ) → All (λ k g. Worded g) i (givens run n k)
+pub givens-words : (run : List ℕ) → Words run → (n k i : ℕ) → All (λ k g. Worded g) i (rows width taken run n k)
 unfolding counted
 givens-words run h zero k i = tt
-givens-words run h (suc n) k i = ((refl, (h _, (h _, (h _, (h _, tt))))), givens-words run h n (k + 1) (i + 1))
+givens-words run h (suc n) k i =
+    let w : (j : ℕ) → j < width → getD (rowAt width run k) j 0 < 256 ^ 4 = λ j l. subst (λ (x : ℕ). x < 256 ^ 4) (sym (row-at width run k j l)) (h _) in
+    ((refl, (w 4 (omega arith), (w 5 (omega arith), (w 6 (omega arith), (w 7 (omega arith), tt))))), givens-words run h n (k + 1) (i + 1))
 
 -- ---- a record of an unknown type
 

@@ -1,22 +1,23 @@
 -- The records of an accepted file, from a table to a writer. Assumes nothing.
-use Prim.Native.Nat.{ℕ, zero, suc, _+_, _*_, _-_, _/_, _^_, _≤_, _<_}
+use Prim.Native.Nat.{ℕ, zero, suc, _+_, _*_, _-_, _^_, _≤_, _<_}
 use mathlib.Core.Path.{_≡_, refl, sym, ap, ap₂, _∙_, subst}
-use mathlib.Core.List.{List, [], _∷_, _++_, map}
+use mathlib.Core.List.{List, [], _∷_, map}
 use mathlib.Core.Bool.{Bool, true, false}
 use lib.Dec.{leb, ltb, eqb}
-use lib.ListN.{length, getD, take}
-use lib.Seq.{getD-append-add, length-take-le, getD-take}
+use lib.ListN.{length, take}
+use lib.Seq.{length-take-le, getD-take}
 use native.Mathlib.Omega.{arith}
-use native.Mathlib.Nat.{add-zero}
-use Rattle.algebra.specs.Numbers.{counted, nums, joined, Bytes, All}
+use Rattle.algebra.specs.Numbers.{nums, joined, Bytes, All}
 use Rattle.algebra.specs.Reader.{ok, pick, rule, unless, judged, each, chain, stateAfter, limit}
+use Rattle.algebra.specs.Table.{whole}
 use Rattle.algebra.specs.Text.{Name, name, front}
 use Rattle.algebra.proofs.Places.{length-nums, nums-cong}
 use Rattle.algebra.proofs.Inverse.{then-inv, rule-inv, pick-inv, ok-value, Name-read, name-inv, front-nums, ended-inv}
 use Rattle.algebra.proofs.Exact.{all-map, all-both}
 use Rattle.algebra.proofs.Chain.{chain-none, chain-inv}
 use Rattle.colour.specs.Models.{channelsOf}
-use Rattle.algebra.proofs.Rows.{rows-back, length-rows, all-fit}
+use Rattle.algebra.proofs.Rows.{all-fit}
+use Rattle.algebra.proofs.Table.{whole-back}
 use Rattle.ase.specs.Grammar.{Block, start, colour, Allowed, File, file}
 use Rattle.ase.specs.Reading.{Entry, started, stopped, coloured, blockOf, group, model, channel, type, shade, within, deepest, content, block, standingAfter, heading, blocks, palette, ase}
 use Rattle.ase.specs.Faults.{BlockFits}
@@ -24,33 +25,18 @@ use Rattle.ase.proofs.Payload.{inside-inv}
 use Rattle.ase.proofs.Laws.{block-inv}
 use Rattle.ase.proofs.Faultless.{allowed-fits}
 use Rattle.ase.proofs.RoundTrip.{accepted-allowed}
-use Rattle.ase_read.specs.Table.{fourOf, row}
-use Rattle.ase_records.specs.Writing.{givenAt, givens, given, blockIn}
-use Rattle.ase_roundtrip.specs.Tie.{taken, tabled, Fitting, a-start, an-end, a-colour}
+use Rattle.ase.specs.Row.{width, fourOf, taken, givenOf}
+use Rattle.ase.proofs.Row.{given-back}
+use Rattle.ase_read.specs.Table.{row}
+use Rattle.ase_records.specs.Writing.{blockIn}
+use Rattle.ase_roundtrip.specs.Tie.{tabled, Fitting, a-start, an-end, a-colour}
 use Rattle.algebra.proofs.Firsts.{all-image, all-source}
-use Rattle.ase_read.proofs.Answers.{row-length}
 use Rattle.ase_records.proofs.Judging.{channels-few}
 
 -- ---- a run made of rows gives the records
 
-nine-back : (p : List ℕ) (k a b c d e f g h j : ℕ) (more : List ℕ) → length p ≡ 9 * k
-    → givenAt (p ++ (a ∷ b ∷ c ∷ d ∷ e ∷ f ∷ g ∷ h ∷ j ∷ more)) k ≡ record { block = a; first = b; units = c; model = d; channels = e ∷ f ∷ g ∷ h ∷ []; type = j }
-nine-back p k a b c d e f g h j more l =
-    let y : List ℕ = a ∷ b ∷ c ∷ d ∷ e ∷ f ∷ g ∷ h ∷ j ∷ more in
-    let s : List ℕ = p ++ y in
-    let at : (i : ℕ) → getD s (9 * k + i) 0 ≡ getD y i 0 = λ i. ap (λ (n : ℕ). getD s (n + i) 0) (sym l) ∙ getD-append-add p y i 0 in
-    let at0 : getD s (9 * k) 0 ≡ a = ap (λ (n : ℕ). getD s n 0) (sym (add-zero (9 * k))) ∙ at 0 in
-    λ i. record { block = at0 i; first = at 1 i; units = at 2 i; model = at 3 i; channels = at 4 i ∷ at 5 i ∷ at 6 i ∷ at 7 i ∷ []; type = at 8 i }
-
-row-back : (p : List ℕ) (k : ℕ) (e : Entry) (more : List ℕ) → length p ≡ 9 * k → Unit {0} → givenAt (p ++ (row e ++ more)) k ≡ taken e
-row-back p k (started nm) more l u = nine-back p k 0xC001 (nm .first) (length (nm .units)) 0 0 0 0 0 0 more l
-row-back p k stopped more l u = nine-back p k 0xC002 0 0 0 0 0 0 0 0 more l
-row-back p k (coloured nm t bs c) more l u = nine-back p k 0x0001 (nm .first) (length (nm .units)) t (getD bs 0 0) (getD bs 1 0) (getD bs 2 0) (getD bs 3 0) c more l
-
-pub given-rows : (es : List Entry) → given (joined row es) ≡ tabled es
-given-rows es =
-    let n : length (joined row es) / 9 ≡ length es = omega (arith, length-rows 9 row givenAt taken (λ e. Unit {0}) (λ e u. row-length e) row-back es (all-fit 0 es)) in
-    ap (λ (k : ℕ). givens (joined row es) k 0) n ∙ rows-back 9 row givenAt taken (λ e. Unit {0}) (λ e u. row-length e) row-back es (all-fit 0 es)
+pub given-rows : (es : List Entry) → whole width taken (joined row es) ≡ tabled es
+given-rows es = whole-back width row taken givenOf (λ e. Unit {0}) (omega arith) (λ e u. refl) (λ e u. given-back e) es (all-fit 0 es)
 
 -- ---- the names of an accepted file lie in it
 
@@ -160,16 +146,16 @@ four-take (a ∷ b ∷ c ∷ d ∷ e ∷ more) h = absurd (omega arith)
 used-back : (t : ℕ) (bs : List ℕ) → length bs ≡ channelsOf t → take (channelsOf t) (fourOf bs) ≡ bs
 used-back t bs l = ap (λ (n : ℕ). take n (fourOf bs)) (sym l) ∙ four-take bs (omega (arith, channels-few t))
 
-block-back : (s : List ℕ) (e : Entry) → Lies s e → BlockFits (blockOf e) → blockIn s (taken e) ≡ blockOf e
+block-back : (s : List ℕ) (e : Entry) → Lies s e → BlockFits (blockOf e) → blockIn s (givenOf e) ≡ blockOf e
 block-back s (started nm) l f = ap start (l .are)
 block-back s stopped l f = refl
 block-back s (coloured nm t bs k) l f = ap₂ (λ (us cs : List ℕ). colour us t cs k) (l .are) (used-back t bs (f .all))
 
-blocks-back : (s : List ℕ) (i : ℕ) (es : List Entry) → All (λ k e. Lies s e × BlockFits (blockOf e)) i es → map (blockIn s) (map taken es) ≡ map blockOf es
+blocks-back : (s : List ℕ) (i : ℕ) (es : List Entry) → All (λ k e. Lies s e × BlockFits (blockOf e)) i es → map (blockIn s) (map givenOf es) ≡ map blockOf es
 blocks-back s i [] h = refl
 blocks-back s i (e ∷ es) h = ap₂ (λ (b : Block) (bs : List Block). b ∷ bs) (block-back s e (h .0 .0) (h .0 .1)) (blocks-back s (i + 1) es (h .1))
 
-taken-fits : (s : List ℕ) (e : Entry) → Lies s e → BlockFits (blockOf e) → Fitting s (taken e)
+taken-fits : (s : List ℕ) (e : Entry) → Lies s e → BlockFits (blockOf e) → Fitting s (givenOf e)
 taken-fits s (started nm) l f = a-start refl (record { counted = omega (arith, f .counted); inside = λ h. l .inside })
 taken-fits s stopped l f = an-end refl
 taken-fits s (coloured nm t bs k) l f = a-colour refl (record { counted = omega (arith, f .name .counted); inside = λ h. l .inside }) (record {
@@ -192,4 +178,4 @@ module _ (s : List ℕ) (bytes : Bytes s) {es : List Entry} {q : ℕ} (e : ase s
 
   -- they fit
   pub given-fit : All (λ k g. Fitting s g) 0 (tabled es)
-  given-fit = all-image taken (λ k g. Fitting s g) 0 es (all-map (λ k e. Lies s e × BlockFits (blockOf e)) (λ k e. Fitting s (taken e)) (λ k e h. taken-fits s e (h .0) (h .1)) 0 es both)
+  given-fit = all-image givenOf (λ k g. Fitting s g) 0 es (all-map (λ k e. Lies s e × BlockFits (blockOf e)) (λ k e. Fitting s (givenOf e)) (λ k e h. taken-fits s e (h .0) (h .1)) 0 es both)

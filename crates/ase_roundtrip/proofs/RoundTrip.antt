@@ -7,6 +7,7 @@ use lib.ListN.{length, take, drop, length-append, length-drop}
 use lib.Seq.{take-at, drop-at}
 use borrow.Author.Tests.{leb-true}
 use native.Mathlib.Omega.{arith}
+use Rattle.algebra.specs.Table.{whole}
 use Rattle.algebra.specs.Numbers.{joined, Bytes, All}
 use Rattle.algebra.specs.Reader.{ok, numberOf, limit}
 use Rattle.algebra.specs.Writing.{bytes}
@@ -15,7 +16,8 @@ use Rattle.ase.specs.Reading.{Entry, ase}
 use Rattle.ase.specs.Faults.{paletteFault}
 use Rattle.ase.proofs.RoundTrip.{allowed-reads, written-number, written-allowed}
 use Rattle.ase_read.specs.Table.{row}
-use Rattle.ase_records.specs.Writing.{Given, given, blockIn, sizeIn, size, blockFault, fault, needed, written}
+use Rattle.ase.specs.Row.{Given, width, taken}
+use Rattle.ase_records.specs.Writing.{blockIn, sizeIn, size, blockFault, fault, needed, written}
 use Rattle.ase_roundtrip.specs.Tie.{Words, Holds, made, tabled, Fitting, Alike, AllAlike}
 use Rattle.ase_roundtrip.proofs.Fitting.{length-made, all-fit, fault-same, faultless-fit, givens-words}
 use Rattle.ase_roundtrip.proofs.Records.{given-rows}
@@ -26,31 +28,31 @@ use Rattle.algebra.proofs.Firsts.{test-holds}
 -- ---- what is written reads back
 
 -- records without a fault are made into a file that holds their blocks, and that is as long as the writer says
-pub written-reads : (text run : List ℕ) → Bytes text → Words run → fault text (given run) ≡ 0
-    → Holds (made text (given run)) (map (blockIn text) (given run)) × (length (made text (given run)) ≡ size (given run))
+pub written-reads : (text run : List ℕ) → Bytes text → Words run → fault text (whole width taken run) ≡ 0
+    → Holds (made text (whole width taken run)) (map (blockIn text) (whole width taken run)) × (length (made text (whole width taken run)) ≡ size (whole width taken run))
 written-reads text run b w e =
-    let gs : List Given = given run in
+    let gs : List Given = whole width taken run in
     let bs : List Block = map (blockIn text) gs in
     let fit = faultless-fit text gs (givens-words run w _ 0 0) e in
     let x = test-holds (leb (length (fileBytes bs)) limit) (paletteFault bs) 1 (omega arith) (sym (fault-same text gs fit) ∙ e) in
     (allowed-reads (written-allowed bs (all-fit text gs fit b) (x .1) (leb-true (length (fileBytes bs)) limit (x .0))), length-made text gs fit)
 
 -- where the writer says that it wrote n bytes, the first n bytes are a file that holds the blocks that were given, and the rest is as it was
-pub written-holds : (text run out out′ : List ℕ) (n : ℕ) → Bytes text → Words run → written text (given run) out ≡ (bytes n, out′)
-    → (n ≤ length out′) × (length out′ ≡ length out) × Holds (take n out′) (map (blockIn text) (given run)) × (drop n out′ ≡ drop n out)
+pub written-holds : (text run out out′ : List ℕ) (n : ℕ) → Bytes text → Words run → written text (whole width taken run) out ≡ (bytes n, out′)
+    → (n ≤ length out′) × (length out′ ≡ length out) × Holds (take n out′) (map (blockIn text) (whole width taken run)) × (drop n out′ ≡ drop n out)
 written-holds text run out out′ n b w e =
-    let file : List ℕ = made text (given run) in
-    let i = written-inv text (given run) out e in
+    let file : List ℕ = made text (whole width taken run) in
+    let i = written-inv text (whole width taken run) out e in
     let r = written-reads text run b w (i .none) in
     let l : length file ≡ n = r .1 ∙ i .size-is in
     let m : length out′ ≡ length out = ap length (i .is) ∙ length-append file (drop n out) ∙ omega (arith, length-drop n out, i .inside) in
     let t : take n out′ ≡ file = ap (take n) (i .is) ∙ take-at file (drop n out) n l in
-    (omega (arith, i .inside), m, subst (λ (f : List ℕ). Holds f (map (blockIn text) (given run))) (sym t) (r .0), ap (drop n) (i .is) ∙ drop-at file (drop n out) n l)
+    (omega (arith, i .inside), m, subst (λ (f : List ℕ). Holds f (map (blockIn text) (whole width taken run))) (sym t) (r .0), ap (drop n) (i .is) ∙ drop-at file (drop n out) n l)
 
 -- ---- what is read is written back
 
 -- the table that reading fills gives the records of the file
-pub read-gives : (es : List Entry) → given (joined row es) ≡ tabled es
+pub read-gives : (es : List Entry) → whole width taken (joined row es) ≡ tabled es
 read-gives es = given-rows es
 
 -- the records of an accepted file, written back with the file itself for their names, are the file, byte for byte

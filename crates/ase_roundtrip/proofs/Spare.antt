@@ -12,7 +12,8 @@ use Rattle.colour.specs.Models.{isModel, channelsOf}
 use Rattle.colour.specs.Channels.{allowsBits}
 use Rattle.ase.specs.Grammar.{Block, start, stop, colour, other, fileBytes}
 use Rattle.ase.specs.Reading.{deepest, standing}
-use Rattle.ase_records.specs.Writing.{Given, unitsIn, blockIn, sizeIn, sizes, nameFault, blockFault, standingIn, fault, needed, written}
+use Rattle.ase.specs.Row.{Given}
+use Rattle.ase_records.specs.Writing.{unitsIn, blockIn, sizeIn, sizes, nameFault, blockFault, standingIn, fault, needed, written}
 use Rattle.ase_roundtrip.specs.Tie.{Alike, starts, ends, colours, AllAlike}
 
 module _ (names : List ℕ) where

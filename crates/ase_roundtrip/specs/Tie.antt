@@ -6,9 +6,9 @@ use lib.ListN.{length, getD}
 use Rattle.algebra.specs.Numbers.{All}
 use Rattle.algebra.specs.Reader.{ok}
 use Rattle.ase.specs.Grammar.{Block, fileBytes, Unknown}
-use Rattle.ase.specs.Reading.{Entry, started, stopped, coloured, blockOf, ase}
-use Rattle.ase_read.specs.Table.{fourOf}
-use Rattle.ase_records.specs.Writing.{Given, blockIn, channelsIn}
+use Rattle.ase.specs.Reading.{Entry, blockOf, ase}
+use Rattle.ase.specs.Row.{Given, givenOf}
+use Rattle.ase_records.specs.Writing.{blockIn, channelsIn}
 
 -- every number of a run fits 32 bits, as in a lent `&[u32]`
 abbrev pub Words : List ℕ → Type 0
@@ -22,16 +22,9 @@ Holds b bs = (es : List Entry) × (ase b ≡ ok es (length b)) × (map blockOf e
 abbrev pub made : List ℕ → List Given → List ℕ
 made text gs = fileBytes (map (blockIn text) gs)
 
--- ---- the records of a file that was read, as they are given to a writer
-
--- spare places are 0
-abbrev pub taken : Entry → Given
-taken (started nm) = record { block = 0xC001; first = nm .first; units = length (nm .units); model = 0; channels = 0 ∷ 0 ∷ 0 ∷ 0 ∷ []; type = 0 }
-taken stopped = record { block = 0xC002; first = 0; units = 0; model = 0; channels = 0 ∷ 0 ∷ 0 ∷ 0 ∷ []; type = 0 }
-taken (coloured nm t bs k) = record { block = 0x0001; first = nm .first; units = length (nm .units); model = t; channels = fourOf bs; type = k }
-
+-- the records of a file that was read, as they are given to a writer
 abbrev pub tabled : List Entry → List Given
-tabled es = map taken es
+tabled es = map givenOf es
 
 -- ---- given records that fit their fields; they may be refused all the same
 

@@ -4,16 +4,16 @@ use mathlib.Core.Path.{_≡_, refl, sym, ap, _∙_, subst}
 use mathlib.Core.List.{List, []}
 use mathlib.Core.Bool.{Bool, true, false, true≢false}
 use lib.ListN.{length, take}
-use lib.Seq.{length-take-le}
 use borrow.Author.Tests.{le-leb, lt-leb}
 use native.Mathlib.Omega.{arith}
 use Rattle.algebra.specs.Reader.{Res, ok, refuse, pick, mapRes}
 use Rattle.ase.specs.Reading.{Entry, started, stopped, coloured}
-use Rattle.ase_judge.specs.Answer.{accepted, refused, verdict, passed}
+use Rattle.algebra.specs.Table.{accepted, refused, verdict}
+use Rattle.algebra.proofs.Table.{accepted-of, refused-of}
+use Rattle.ase.specs.Row.{Given, givenOf}
+use Rattle.ase_judge.specs.Answer.{report, passed}
 use Rattle.ase_judge.proofs.Judging.{map-inv, map-refuse}
-use Rattle.ase_read.specs.Table.{row}
-use Rattle.ase_read.specs.Raw.{rowIn, rawRow}
-use Rattle.ase_read.specs.Answer.{Shown, entryShown}
+use Rattle.ase_read.specs.Raw.{loaded}
 use Rattle.ase_read.proofs.Blocks.{Sound, blocked}
 use Rattle.walk.specs.Walk as w
 use Rattle.walk.proofs.Calls.{step-over, step-elsewhere, from-turn}
@@ -26,16 +26,14 @@ use Rattle.ase_walk.proofs.Walked.{past-refused}
 
 module _ (s : List ℕ) (at end : ℕ) (b : Stands s at end) where
   -- its numbers, as they are loaded
-  pub stands-row : (xs : List ℕ) → xs ≡ rawRow s at end → xs ≡ row (b .0)
-  stands-row xs e =
-      let k = blocked 1 s at (b .1) in
-      e ∙ sym (k .ended .is-row ∙ ap (rowIn (take end s) at) (length-take-le end s (k .inside)))
+  pub stands-given : (g : Given) → g ≡ loaded (take end s) at → g ≡ givenOf (b .0)
+  stands-given g e = e ∙ sym (blocked 1 s at (b .1) .ended .is-row)
 
   pub stands-sound : Sound (b .0)
   stands-sound = blocked 1 s at (b .1) .ended .sound
 
-  pub stands-shown : (c : w.Call Shown) → c ≡ w.gives (entryShown (b .0)) → (c, end) ≡ handed (w.answered (length s) (blockFrom s at))
-  stands-shown c e = ap (λ (x : w.Call Shown). (x, end)) e ∙ sym (ap (λ (m : Res Entry). handed (w.answered (length s) m)) (b .1))
+  pub stands-shown : (c : w.Call Given) → c ≡ w.gives (givenOf (b .0)) → (c, end) ≡ handed (w.answered (length s) (blockFrom s at))
+  stands-shown c e = ap (λ (x : w.Call Given). (x, end)) e ∙ sym (ap (λ (m : Res Entry). handed (w.answered (length s) m)) (b .1))
 
 -- ---- the block step
 
@@ -51,7 +49,7 @@ module _ (s : List ℕ) (at : ℕ) where
     pub block-lost : {x p : ℕ} → refuse x p 0 0 ≡ mapRes (passed 1) (blockFrom s at) → handed (w.lost (length s)) ≡ handed (blockWalk s at)
     block-lost e = sym (ap handed (step-elsewhere blockFrom s at apart ∙ ap (w.answered (length s)) (map-refuse (passed 1) (blockFrom s at) (sym e))))
 
-    pub block-shown : (v : w.Call Shown × ℕ) → v ≡ handed (w.answered (length s) (blockFrom s at)) → v ≡ handed (blockWalk s at)
+    pub block-shown : (v : w.Call Given × ℕ) → v ≡ handed (w.answered (length s) (blockFrom s at)) → v ≡ handed (blockWalk s at)
     block-shown v e = e ∙ sym (ap handed (step-elsewhere blockFrom s at apart))
 
 -- ---- the colour step, by what the block step answers
@@ -61,8 +59,8 @@ module _ (s : List ℕ) (at : ℕ) where
   turn = from-turn isColour (blockWalk s) (length s) (walk-moves s) at
 
   -- a group is passed over
-  pub passes-on : (c : w.Call Shown) (n : ℕ) → passes c ≡ true → (c, n) ≡ handed (blockWalk s at) → (walk s at ≡ walk s n) × (at < n) × (n ≤ length s)
-  passes-on c n h e = go (blockWalk s at .0) (blockWalk s at .1) refl (subst (λ (d : w.Call Shown). passes d ≡ true) (ap (λ (y : w.Call Shown × ℕ). y .0) e) h) (ap (λ (y : w.Call Shown × ℕ). y .1) e)
+  pub passes-on : (c : w.Call Given) (n : ℕ) → passes c ≡ true → (c, n) ≡ handed (blockWalk s at) → (walk s at ≡ walk s n) × (at < n) × (n ≤ length s)
+  passes-on c n h e = go (blockWalk s at .0) (blockWalk s at .1) refl (subst (λ (d : w.Call Given). passes d ≡ true) (ap (λ (y : w.Call Given × ℕ). y .0) e) h) (ap (λ (y : w.Call Given × ℕ). y .1) e)
     where
       skip : (e : Entry) (q : ℕ) → isColour e ≡ false → blockWalk s at ≡ (w.gives e, q) → n ≡ q → (walk s at ≡ walk s n) × (at < n) × (n ≤ length s)
       skip e q k b z =
@@ -78,8 +76,8 @@ module _ (s : List ℕ) (at : ℕ) where
       go (w.refused x p) q b k z = absurd (true≢false (sym k))
 
   -- any other answer is the colour step's own
-  pub ends-here : (c : w.Call Shown) (n : ℕ) → passes c ≡ false → (c, n) ≡ handed (blockWalk s at) → (c, n) ≡ handed (walk s at)
-  ends-here c n h e = e ∙ go (blockWalk s at .0) (blockWalk s at .1) (subst (λ (d : w.Call Shown). passes d ≡ false) (ap (λ (y : w.Call Shown × ℕ). y .0) e) h) ∙ sym (ap handed turn)
+  pub ends-here : (c : w.Call Given) (n : ℕ) → passes c ≡ false → (c, n) ≡ handed (blockWalk s at) → (c, n) ≡ handed (walk s at)
+  ends-here c n h e = e ∙ go (blockWalk s at .0) (blockWalk s at .1) (subst (λ (d : w.Call Given). passes d ≡ false) (ap (λ (y : w.Call Given × ℕ). y .0) e) h) ∙ sym (ap handed turn)
     where
       go : (x : w.Call Entry) (q : ℕ) → passes (handing x) ≡ false → handed (x, q) ≡ handed (w.sought isColour x q (walk s))
       go (w.gives (coloured nm t bs k)) q z = refl
@@ -106,30 +104,14 @@ unfolding firstPlace
 first-none s h = sym (ap (λ (b : Bool). pick b 12 (length s)) (lt-leb 12 (length s) h))
 
 module _ (s : List ℕ) (m : Res (List Entry)) where
-  pub start-refused : {x p : ℕ} → refused x p ≡ verdict m → refusal x p ≡ startOf m s
-  start-refused e = go m e
-    where
-      go : {x p : ℕ} (m : Res (List Entry)) → refused x p ≡ verdict m → refusal x p ≡ startOf m s
-      go (ok es q) z = let y : _≡_ {A = ℕ} 0 1 = cc in absurd (omega arith)
-      go (refuse y q r f) z = cc
+  pub start-refused : {x p : ℕ} → refused x p 0 0 ≡ verdict report m → refusal x p ≡ startOf m s
+  start-refused v = sym (ap (λ (k : Res (List Entry)). startOf k s) (refused-of report m v))
 
-  pub start-is : {n k : ℕ} → accepted n k ≡ verdict m → (p : ℕ) → p ≡ firstPlace s → starts p ≡ startOf m s
-  start-is v p e = ap starts e ∙ go m v
-    where
-      go : {n k : ℕ} (m : Res (List Entry)) → accepted n k ≡ verdict m → starts (firstPlace s) ≡ startOf m s
-      go (ok es q) z = refl
-      go (refuse y q r f) z = let y : _≡_ {A = ℕ} 0 1 = cc in absurd (omega arith)
+  pub start-is : {n k : ℕ} → accepted (n, k) ≡ verdict report m → (p : ℕ) → p ≡ firstPlace s → starts p ≡ startOf m s
+  start-is v p e = ap starts e ∙ sym (ap (λ (k : Res (List Entry)). startOf k s) (accepted-of report m v .2))
 
-  pub lent-refused : {x p : ℕ} → refused x p ≡ verdict m → [] ≡ lentOf m s
-  lent-refused e = go m e
-    where
-      go : {x p : ℕ} (m : Res (List Entry)) → refused x p ≡ verdict m → [] ≡ lentOf m s
-      go (ok es q) z = let y : _≡_ {A = ℕ} 0 1 = cc in absurd (omega arith)
-      go (refuse y q r f) z = refl
+  pub lent-refused : {x p : ℕ} → refused x p 0 0 ≡ verdict report m → [] ≡ lentOf m s
+  lent-refused v = sym (ap (λ (k : Res (List Entry)). lentOf k s) (refused-of report m v))
 
-  pub lent-is : {n k : ℕ} → accepted n k ≡ verdict m → s ≡ lentOf m s
-  lent-is e = go m e
-    where
-      go : {n k : ℕ} (m : Res (List Entry)) → accepted n k ≡ verdict m → s ≡ lentOf m s
-      go (ok es q) z = refl
-      go (refuse y q r f) z = let y : _≡_ {A = ℕ} 0 1 = cc in absurd (omega arith)
+  pub lent-is : {n k : ℕ} → accepted (n, k) ≡ verdict report m → s ≡ lentOf m s
+  lent-is v = sym (ap (λ (k : Res (List Entry)). lentOf k s) (accepted-of report m v .2))

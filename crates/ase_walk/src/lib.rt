@@ -8,7 +8,8 @@ ghost use lib.Dec.{eqb};
 ghost use lib.ListN.{length};
 ghost use Rattle.algebra.specs.Reader.{pick, refuse};
 ghost use Rattle.ase.specs.Reading.{ase};
-ghost use Rattle.ase_read.specs.Answer.{colour, IsColour};
+ghost use Rattle.ase.specs.Row.{colour};
+ghost use Rattle.ase_read.specs.Answer.{IsColour};
 ghost use Rattle.walk.specs.Walk.{gives, answered};
 ghost use Rattle.ase_walk.specs.Walking.{blockFrom, Stands, blockWalk, walk, firstPlace, lentOf, startOf};
 ghost use Rattle.ase_walk.specs.Answer.{toldBlock, toldBlockStep, passes, toldGiven, toldStep, handed, toldTurn, handedOn, toldStart};
@@ -128,7 +129,7 @@ fn block_of(file: &[u8], at: usize, end: usize) -> Block
     let b = fields::u32_or_zero(part, model + 8);
     let c = fields::u32_or_zero(part, model + 12);
     let d = fields::u32_or_zero(part, model + 16);
-    let last = fields::u16_or_zero(part, end - 2);
+    let last = fields::u16_or_zero(part, part.len() - 2);
     let place = place_of(count, at);
     let units = units_of(count);
     match kind {

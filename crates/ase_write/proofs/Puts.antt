@@ -11,6 +11,7 @@ use native.Mathlib.Omega.{arith}
 use native.Mathlib.Decide.{ℕ-discrete}
 use Rattle.algebra.specs.Numbers.{counted, be, nums, joined, Bytes}
 use Rattle.algebra.specs.Store.{stored, part}
+use Rattle.algebra.specs.Table.{rowAt, rows}
 use Rattle.algebra.specs.Text.{nameBytes, countedUnits}
 use Rattle.algebra.specs.Faults.{faults}
 use Rattle.algebra.proofs.Places.{length-be, length-bes, length-nums, part-nums}
@@ -21,13 +22,12 @@ use Rattle.colour.specs.declared.model.Known.{Known}
 use Rattle.colour.specs.declared.model.Known.the-variants.{Is, Unknown}
 use Rattle.colour.specs.declared.model.Model.the-variants.{Rgb, Cmyk, Lab, Gray}
 use Rattle.ase.specs.Grammar.{Block, start, stop, colour, typeOf, payload, blockBytes, fileBytes}
-use Rattle.ase_records.specs.Writing.{Given, givenAt, givens, unitsIn, channelsIn, blockIn, nameSize, sizeIn, sizes, size, nameFault}
+use Rattle.ase.specs.Row.{Given, width, taken}
+use Rattle.ase_records.specs.Writing.{unitsIn, channelsIn, blockIn, nameSize, sizeIn, sizes, size, nameFault}
 use Rattle.ase_records.specs.Parts.{shadeBytes, ownFault}
 use Rattle.ase_records.specs.Parts as parts
 use Rattle.ase_records.proofs.Judging.{Sort, is-start, is-stop, is-colour, head-fine, block-head, channels-few, size-start, size-stop, size-colour, name-inside}
 use Rattle.algebra.proofs.Storing.{as-sets, peel, peel-be, length-kept}
-
--- ---- one store
 
 -- ---- a name
 
@@ -94,20 +94,20 @@ module _ (a b c d : ℕ) (o₀ o₁ : List ℕ) (at : ℕ) (e₁ : o₁ ≡ stor
 
 -- as many as the model has
 module _ (t n a b c d : ℕ) (o₀ o₁ : List ℕ) (at : ℕ) (count : n ≡ channelsOf t) (room : at + 4 * n ≤ length o₀) (e₁ : o₁ ≡ stored o₀ at (be 4 a)) where
-  taken : (k : ℕ) → n ≡ k → (o : List ℕ) → o ≡ sets o₀ at (joined (be 4) (take k (a ∷ b ∷ c ∷ d ∷ []))) → o ≡ sets o₀ at (joined (be 4) (take (channelsOf t) (a ∷ b ∷ c ∷ d ∷ [])))
-  taken k z o e = e ∙ ap (λ (x : ℕ). sets o₀ at (joined (be 4) (take x (a ∷ b ∷ c ∷ d ∷ [])))) (sym z ∙ count)
+  used : (k : ℕ) → n ≡ k → (o : List ℕ) → o ≡ sets o₀ at (joined (be 4) (take k (a ∷ b ∷ c ∷ d ∷ []))) → o ≡ sets o₀ at (joined (be 4) (take (channelsOf t) (a ∷ b ∷ c ∷ d ∷ [])))
+  used k z o e = e ∙ ap (λ (x : ℕ). sets o₀ at (joined (be 4) (take x (a ∷ b ∷ c ∷ d ∷ [])))) (sym z ∙ count)
 
   pub put-one : n ≡ 1 → o₁ ≡ sets o₀ at (joined (be 4) (take (channelsOf t) (a ∷ b ∷ c ∷ d ∷ [])))
-  put-one z = taken 1 z o₁ (one a b c d o₀ o₁ at e₁ (omega arith))
+  put-one z = used 1 z o₁ (one a b c d o₀ o₁ at e₁ (omega arith))
 
   module _ (o₂ o₃ : List ℕ) (e₂ : o₂ ≡ stored o₁ (at + 4) (be 4 b)) (e₃ : o₃ ≡ stored o₂ (at + 8) (be 4 c)) where
     pub put-three : n ≡ 3 → o₃ ≡ sets o₀ at (joined (be 4) (take (channelsOf t) (a ∷ b ∷ c ∷ d ∷ [])))
-    put-three z = taken 3 z o₃ (three a b c d o₀ o₁ at e₁ o₂ o₃ e₂ e₃ (omega arith))
+    put-three z = used 3 z o₃ (three a b c d o₀ o₁ at e₁ o₂ o₃ e₂ e₃ (omega arith))
 
     pub put-four : isModel t ≡ true → (n ≡ 1 → ⊥) → (n ≡ 3 → ⊥) → (o₄ : List ℕ) → o₄ ≡ stored o₃ (at + 12) (be 4 d) → o₄ ≡ sets o₀ at (joined (be 4) (take (channelsOf t) (a ∷ b ∷ c ∷ d ∷ [])))
     put-four known x y o₄ e₄ =
         let z : n ≡ 4 = count ∙ channels-four t known (λ k. x (count ∙ k)) (λ k. y (count ∙ k)) in
-        taken 4 z o₄ (four a b c d o₀ o₁ at e₁ o₂ o₃ e₂ e₃ (omega arith) o₄ e₄)
+        used 4 z o₄ (four a b c d o₀ o₁ at e₁ o₂ o₃ e₂ e₃ (omega arith) o₄ e₄)
 
 length-take-in : (n : ℕ) (l : List ℕ) → n ≤ length l → length (take n l) ≡ n
 length-take-in zero l h = refl
@@ -217,43 +217,43 @@ module _ (names : List ℕ) (g : Given) where
 -- ---- a loop that stores the records of a run
 
 module _ (run names all out : List ℕ) (n i at : ℕ) where
-  pub puts-start : all ≡ sets out at (joined blockBytes (map (blockIn names) (givens run n 0))) → all ≡ sets out at (joined blockBytes (map (blockIn names) (givens run (n - 0) 0)))
-  puts-start e = e ∙ ap (λ (gs : List Given). sets out at (joined blockBytes (map (blockIn names) gs))) (counted-start (givenAt run) n)
+  pub puts-start : all ≡ sets out at (joined blockBytes (map (blockIn names) (rows width taken run n 0))) → all ≡ sets out at (joined blockBytes (map (blockIn names) (rows width taken run (n - 0) 0)))
+  puts-start e = e ∙ ap (λ (gs : List Given). sets out at (joined blockBytes (map (blockIn names) gs))) (counted-start (λ i. taken (rowAt width run i)) n)
 
-  module _ (inv : all ≡ sets out at (joined blockBytes (map (blockIn names) (givens run (n - i) i)))) where
-    pub puts-turn : i < n → (o : List ℕ) (k : ℕ) → k ≡ sizeIn (givenAt run i) → ownFault names (givenAt run i) ≡ 0 → (g : Given) → g ≡ givenAt run i → o ≡ sets out at (blockBytes (blockIn names g))
-        → all ≡ sets o (at + k) (joined blockBytes (map (blockIn names) (givens run (n - (i + 1)) (i + 1))))
+  module _ (inv : all ≡ sets out at (joined blockBytes (map (blockIn names) (rows width taken run (n - i) i)))) where
+    pub puts-turn : i < n → (o : List ℕ) (k : ℕ) → k ≡ sizeIn (taken (rowAt width run i)) → ownFault names (taken (rowAt width run i)) ≡ 0 → (g : Given) → g ≡ taken (rowAt width run i) → o ≡ sets out at (blockBytes (blockIn names g))
+        → all ≡ sets o (at + k) (joined blockBytes (map (blockIn names) (rows width taken run (n - (i + 1)) (i + 1))))
     unfolding joined
     puts-turn h o k w f g z s =
-        let b : List ℕ = blockBytes (blockIn names (givenAt run i)) in
-        let l : length b ≡ k = length-block names (givenAt run i) refl (sort names (givenAt run i) f) ∙ sym w in
-        inv ∙ ap (λ (gs : List Given). sets out at (joined blockBytes (map (blockIn names) gs))) (counted-turn (givenAt run) n i h)
-        ∙ peel out o b (joined blockBytes (map (blockIn names) (givens run (n - (i + 1)) (i + 1)))) at k (at + k) l refl (s ∙ ap (λ (x : Given). sets out at (blockBytes (blockIn names x))) z)
+        let b : List ℕ = blockBytes (blockIn names (taken (rowAt width run i))) in
+        let l : length b ≡ k = length-block names (taken (rowAt width run i)) refl (sort names (taken (rowAt width run i)) f) ∙ sym w in
+        inv ∙ ap (λ (gs : List Given). sets out at (joined blockBytes (map (blockIn names) gs))) (counted-turn (λ i. taken (rowAt width run i)) n i h)
+        ∙ peel out o b (joined blockBytes (map (blockIn names) (rows width taken run (n - (i + 1)) (i + 1)))) at k (at + k) l refl (s ∙ ap (λ (x : Given). sets out at (blockBytes (blockIn names x))) z)
 
     pub puts-end : n ≤ i → out ≡ all
     unfolding joined
-    puts-end h = sym (inv ∙ ap (λ (gs : List Given). sets out at (joined blockBytes (map (blockIn names) gs))) (counted-end (givenAt run) n i h))
+    puts-end h = sym (inv ∙ ap (λ (gs : List Given). sets out at (joined blockBytes (map (blockIn names) gs))) (counted-end (λ i. taken (rowAt width run i)) n i h))
 
 -- ---- the whole file
 
 module _ (run names : List ℕ) where
-  length-blocks : (n k : ℕ) → faults (ownFault names) (givens run n k) ≡ 0 → length (joined blockBytes (map (blockIn names) (givens run n k))) ≡ sizes (givens run n k)
+  length-blocks : (n k : ℕ) → faults (ownFault names) (rows width taken run n k) ≡ 0 → length (joined blockBytes (map (blockIn names) (rows width taken run n k))) ≡ sizes (rows width taken run n k)
   unfolding joined counted sizes faults
   length-blocks zero k e = refl
   length-blocks (suc n) k e =
-      let g : Given = givenAt run k in
-      let x = first-inv (ownFault names g) (faults (ownFault names) (givens run n (k + 1))) e in
-      let a = length-append (blockBytes (blockIn names g)) (joined blockBytes (map (blockIn names) (givens run n (k + 1)))) in
+      let g : Given = taken (rowAt width run k) in
+      let x = first-inv (ownFault names g) (faults (ownFault names) (rows width taken run n (k + 1))) e in
+      let a = length-append (blockBytes (blockIn names g)) (joined blockBytes (map (blockIn names) (rows width taken run n (k + 1)))) in
       omega (arith, a, length-block names g refl (sort names g (x .0)), length-blocks n (k + 1) (x .1))
 
   module _ (n : ℕ) where
-    length-all : length (map (blockIn names) (givens run n 0)) ≡ n
-    length-all = length-map (blockIn names) (givens run n 0) ∙ length-counted (givenAt run) n 0
+    length-all : length (map (blockIn names) (rows width taken run n 0)) ≡ n
+    length-all = length-map (blockIn names) (rows width taken run n 0) ∙ length-counted (λ i. taken (rowAt width run i)) n 0
 
-    length-file : faults (ownFault names) (givens run n 0) ≡ 0 → length (fileBytes (map (blockIn names) (givens run n 0))) ≡ size (givens run n 0)
+    length-file : faults (ownFault names) (rows width taken run n 0) ≡ 0 → length (fileBytes (map (blockIn names) (rows width taken run n 0))) ≡ size (rows width taken run n 0)
     unfolding fileBytes
     length-file e =
-        let bs : List Block = map (blockIn names) (givens run n 0) in
+        let bs : List Block = map (blockIn names) (rows width taken run n 0) in
         let a = length-append (be 4 0x4153_4546) (be 2 1 ++ (be 2 0 ++ (be 4 (length bs) ++ joined blockBytes bs))) in
         let b = length-append (be 2 1) (be 2 0 ++ (be 4 (length bs) ++ joined blockBytes bs)) in
         let c = length-append (be 2 0) (be 4 (length bs) ++ joined blockBytes bs) in
@@ -261,10 +261,10 @@ module _ (run names : List ℕ) where
         omega (arith, a, b, c, d, length-be 4 0x4153_4546, length-be 2 1, length-be 2 0, length-be 4 (length bs), length-blocks n 0 e)
 
     pub put-file : (o₀ o₁ o₂ o₃ o₄ o₅ : List ℕ) → 12 ≤ length o₀ → o₁ ≡ stored o₀ 0 (be 4 0x4153_4546) → o₂ ≡ stored o₁ 4 (be 2 1) → o₃ ≡ stored o₂ 6 (be 2 0)
-        → o₄ ≡ stored o₃ 8 (be 4 n) → o₅ ≡ sets o₄ 12 (joined blockBytes (map (blockIn names) (givens run n 0))) → o₅ ≡ sets o₀ 0 (fileBytes (map (blockIn names) (givens run n 0)))
+        → o₄ ≡ stored o₃ 8 (be 4 n) → o₅ ≡ sets o₄ 12 (joined blockBytes (map (blockIn names) (rows width taken run n 0))) → o₅ ≡ sets o₀ 0 (fileBytes (map (blockIn names) (rows width taken run n 0)))
     unfolding fileBytes
     put-file o₀ o₁ o₂ o₃ o₄ o₅ h e₁ e₂ e₃ e₄ e₅ =
-        let bs : List Block = map (blockIn names) (givens run n 0) in
+        let bs : List Block = map (blockIn names) (rows width taken run n 0) in
         let l₁ = length-kept o₁ o₀ 0 (be 4 0x4153_4546) e₁ in
         let l₂ = length-kept o₂ o₁ 4 (be 2 1) e₂ in
         let l₃ = length-kept o₃ o₂ 6 (be 2 0) e₃ in
@@ -275,10 +275,10 @@ module _ (run names : List ℕ) where
         ∙ peel-be 4 (length bs) o₃ o₄ _ 8 12 refl (omega arith) (e₄ ∙ ap (λ (k : ℕ). stored o₃ 8 (be 4 k)) (sym length-all)))
 
     -- a file stored in front of what was there
-    pub file-front : faults (ownFault names) (givens run n 0) ≡ 0 → (out o : List ℕ) → size (givens run n 0) ≤ length out → o ≡ sets out 0 (fileBytes (map (blockIn names) (givens run n 0)))
-        → o ≡ fileBytes (map (blockIn names) (givens run n 0)) ++ drop (size (givens run n 0)) out
+    pub file-front : faults (ownFault names) (rows width taken run n 0) ≡ 0 → (out o : List ℕ) → size (rows width taken run n 0) ≤ length out → o ≡ sets out 0 (fileBytes (map (blockIn names) (rows width taken run n 0)))
+        → o ≡ fileBytes (map (blockIn names) (rows width taken run n 0)) ++ drop (size (rows width taken run n 0)) out
     file-front f out o h e =
-        let l : List ℕ = fileBytes (map (blockIn names) (givens run n 0)) in
-        let m : length l ≡ size (givens run n 0) = length-file f in
-        let z : 0 + length l ≡ size (givens run n 0) = omega arith in
+        let l : List ℕ = fileBytes (map (blockIn names) (rows width taken run n 0)) in
+        let m : length l ≡ size (rows width taken run n 0) = length-file f in
+        let z : 0 + length l ≡ size (rows width taken run n 0) = omega arith in
         e ∙ sets-eq l out 0 (omega arith) ∙ ap (λ (k : ℕ). l ++ drop k out) z

@@ -7,14 +7,16 @@ ghost use lib.ListN.{length};
 ghost use lib.Seq.{sets};
 ghost use Rattle.algebra.specs.Numbers.{be, joined};
 ghost use Rattle.algebra.specs.Text.{nameBytes};
+ghost use Rattle.algebra.specs.Table.{rows, whole};
 ghost use Rattle.algebra.specs.Writing.{bytes};
 ghost use Rattle.colour.specs.Models.{isModel, channelsOf};
 ghost use Rattle.ase.specs.Grammar.{blockBytes, fileBytes};
-ghost use Rattle.ase_records.specs.Writing.{givens, given, blockIn, unitsIn, channelsIn, nameSize, sizeIn, size, nameFault, written};
+ghost use Rattle.ase.specs.Row.{width, taken, givenIn};
+ghost use Rattle.ase_records.specs.Writing.{blockIn, unitsIn, channelsIn, nameSize, sizeIn, size, nameFault, written};
 ghost use Rattle.fields.specs.Answer.{toldWritten};
-ghost use Rattle.ase_records.specs.Parts.{givenOf, shadeFault, start, shadeBytes, RecordFits, RecordsFit};
+ghost use Rattle.ase_records.specs.Parts.{shadeFault, start, shadeBytes, RecordFits, RecordsFit};
+use ase::Numbers;
 use ase::WIDTH;
-use ase_records::Record;
 use fields::Written;
 
 // The types of a block, as a run has them.
@@ -25,19 +27,19 @@ const STOP: u32 = ase::STOP as u32;
 // ---- storing
 
 // Where a name begins; 0 for a name of no units, whose place may be any.
-fn name_start(given: Record) -> usize
-    ensures { λ r. ⌜ r ≡ start (givenOf given) ⌝ }
+fn name_start(given: Numbers) -> usize
+    ensures { λ r. ⌜ r ≡ start (givenIn given) ⌝ }
 {
     if given.units == 0 {
         return 0;
     }
-    fields::wide(given.first)
+    given.first
 }
 
 // The name of a record.
-fn put_name(out: &mut [u8], at: usize, text: &[u8], given: Record)
-    requires { ⌜ (at + nameSize (givenOf given) ≤ length (now out)) × (nameFault (now text) (givenOf given) ≡ 0) ⌝ }
-    ensures { λ _. ⌜ now (out .exit) ≡ sets (now (out .entry)) at (nameBytes 2 (unitsIn (now (text .entry)) (givenOf given))) ⌝ }
+fn put_name(out: &mut [u8], at: usize, text: &[u8], given: Numbers)
+    requires { ⌜ (at + nameSize (givenIn given) ≤ length (now out)) × (nameFault (now text) (givenIn given) ≡ 0) ⌝ }
+    ensures { λ _. ⌜ now (out .exit) ≡ sets (now (out .entry)) at (nameBytes 2 (unitsIn (now (text .entry)) (givenIn given))) ⌝ }
 {
     let units = given.units;
     let first = name_start(given);
@@ -46,9 +48,9 @@ fn put_name(out: &mut [u8], at: usize, text: &[u8], given: Record)
 }
 
 // The n channels of a model: one, three or four.
-fn put_channels(out: &mut [u8], at: usize, n: usize, given: Record)
+fn put_channels(out: &mut [u8], at: usize, n: usize, given: Numbers)
     requires { ⌜ (at + 4 * n ≤ length (now out)) × (n ≡ channelsOf (given .model)) × (isModel (given .model) ≡ true) ⌝ }
-    ensures { λ _. ⌜ now (out .exit) ≡ sets (now (out .entry)) at (joined (be 4) (channelsIn (givenOf given))) ⌝ }
+    ensures { λ _. ⌜ now (out .exit) ≡ sets (now (out .entry)) at (joined (be 4) (channelsIn (givenIn given))) ⌝ }
 {
     fields::put_u32(out, at, given.a);
     if n == 1 {
@@ -63,9 +65,9 @@ fn put_channels(out: &mut [u8], at: usize, n: usize, given: Record)
 }
 
 // The model, the channels and the type of a colour.
-fn put_shade(out: &mut [u8], at: usize, given: Record)
-    requires { ⌜ (at + 6 + 4 * channelsOf (given .model) ≤ length (now out)) × (shadeFault (givenOf given) ≡ 0) ⌝ }
-    ensures { λ _. ⌜ now (out .exit) ≡ sets (now (out .entry)) at (shadeBytes (givenOf given)) ⌝ }
+fn put_shade(out: &mut [u8], at: usize, given: Numbers)
+    requires { ⌜ (at + 6 + 4 * channelsOf (given .model) ≤ length (now out)) × (shadeFault (givenIn given) ≡ 0) ⌝ }
+    ensures { λ _. ⌜ now (out .exit) ≡ sets (now (out .entry)) at (shadeBytes (givenIn given)) ⌝ }
 {
     let n = ase_records::channels_of(given.model);
     fields::put_u32(out, at, given.model);
@@ -74,9 +76,9 @@ fn put_shade(out: &mut [u8], at: usize, given: Record)
 }
 
 // A record of `size` bytes.
-fn put_block(out: &mut [u8], at: usize, text: &[u8], size: usize, given: Record)
-    requires { ⌜ RecordFits (now text) (givenOf given) at (length (now out)) × (size ≡ sizeIn (givenOf given)) ⌝ }
-    ensures { λ _. ⌜ now (out .exit) ≡ sets (now (out .entry)) at (blockBytes (blockIn (now (text .entry)) (givenOf given))) ⌝ }
+fn put_block(out: &mut [u8], at: usize, text: &[u8], size: usize, given: Numbers)
+    requires { ⌜ RecordFits (now text) (givenIn given) at (length (now out)) × (size ≡ sizeIn (givenIn given)) ⌝ }
+    ensures { λ _. ⌜ now (out .exit) ≡ sets (now (out .entry)) at (blockBytes (blockIn (now (text .entry)) (givenIn given))) ⌝ }
 {
     fields::put_u16(out, at, given.block as u16);
     fields::put_u32(out, at + 2, (size - 6) as u32);
@@ -92,8 +94,8 @@ fn put_block(out: &mut [u8], at: usize, text: &[u8], size: usize, given: Record)
 
 // The n records.
 fn put_blocks(out: &mut [u8], at: usize, run: &[u32], text: &[u8], n: usize)
-    requires { ⌜ (9 * n ≤ length (now run)) × RecordsFit (now text) (givens (now run) n 0) at (length (now out)) ⌝ }
-    ensures { λ _. ⌜ now (out .exit) ≡ sets (now (out .entry)) at (joined blockBytes (map (blockIn (now (text .entry))) (givens (now (run .entry)) n 0))) ⌝ }
+    requires { ⌜ (width * n ≤ length (now run)) × RecordsFit (now text) (rows width taken (now run) n 0) at (length (now out)) ⌝ }
+    ensures { λ _. ⌜ now (out .exit) ≡ sets (now (out .entry)) at (joined blockBytes (map (blockIn (now (text .entry))) (rows width taken (now (run .entry)) n 0))) ⌝ }
 {
     let mut p = at;
     let mut i: usize = 0;
@@ -108,8 +110,8 @@ fn put_blocks(out: &mut [u8], at: usize, run: &[u32], text: &[u8], n: usize)
 
 // The whole file: `ASEF`, 1, 0, the number of records, the records.
 fn put_file(out: &mut [u8], run: &[u32], text: &[u8], n: usize)
-    requires { ⌜ (9 * n ≤ length (now run)) × RecordsFit (now text) (givens (now run) n 0) 12 (length (now out)) ⌝ }
-    ensures { λ _. ⌜ now (out .exit) ≡ sets (now (out .entry)) 0 (fileBytes (map (blockIn (now (text .entry))) (givens (now (run .entry)) n 0))) ⌝ }
+    requires { ⌜ (width * n ≤ length (now run)) × RecordsFit (now text) (rows width taken (now run) n 0) 12 (length (now out)) ⌝ }
+    ensures { λ _. ⌜ now (out .exit) ≡ sets (now (out .entry)) 0 (fileBytes (map (blockIn (now (text .entry))) (rows width taken (now (run .entry)) n 0))) ⌝ }
 {
     fields::put_u32(out, 0, ase::SIGNATURE);
     fields::put_u16(out, 4, 1);
@@ -120,7 +122,7 @@ fn put_file(out: &mut [u8], run: &[u32], text: &[u8], n: usize)
 
 // Writes the records, whose names lie in `text`, into `out`; a refusal changes nothing.
 pub fn write(records: &[u32], text: &[u8], out: &mut [u8]) -> Written
-    ensures { λ r. ⌜ (toldWritten r, now (out .exit)) ≡ written (now (text .entry)) (given (now (records .entry))) (now (out .entry)) ⌝ }
+    ensures { λ r. ⌜ (toldWritten r, now (out .exit)) ≡ written (now (text .entry)) (whole width taken (now (records .entry))) (now (out .entry)) ⌝ }
 {
     match ase_records::write_length(records, text) {
         Written::Refused(x) => Written::Refused(x),

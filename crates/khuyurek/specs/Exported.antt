@@ -6,8 +6,8 @@ use Rattle.algebra.specs.Table.{Verdict, accepted, refused}
 use Rattle.algebra.specs.Writing.{Outcome, bytes, refused as unwritten}
 use lib.Ieee.{Float, binary32, toBits}
 use Rattle.convert.specs.Convert.{Converted, gives, refused as noChannel}
-use Rattle.ase_judge.specs.Answer as palette
-use Rattle.ase_read.specs.Answer.{Shown, group, close, colour, refusal as refusalAse}
+use Rattle.algebra.specs.Table as table
+use Rattle.ase.specs.Row.{Given}
 use Rattle.khuyurek.specs.declared.AcoAnswer.{AcoAnswer}
 use Rattle.khuyurek.specs.declared.AseAnswer.{AseAnswer}
 use Rattle.khuyurek.specs.declared.AseRecord.{AseRecord}
@@ -48,19 +48,17 @@ sampleOf (noChannel n p) = record { number = n; sample = 0 }
 
 -- ---- ASE
 
-abbrev pub paletteOf : palette.Verdict → AseAnswer
-paletteOf (palette.accepted n k) = record { number = 0; place = 0; blocks = n; colours = k }
-paletteOf (palette.refused x p) = record { number = x; place = p; blocks = 0; colours = 0 }
+abbrev pub paletteOf : table.Verdict (ℕ × ℕ) → AseAnswer
+paletteOf (table.accepted a) = record { number = 0; place = 0; blocks = a .0; colours = a .1 }
+paletteOf (table.refused x p r f) = record { number = x; place = p; blocks = 0; colours = 0 }
 
-abbrev pub paletteReadOf : palette.Verdict × List ℕ → AseAnswer × List ℕ
+abbrev pub paletteReadOf : table.Verdict (ℕ × ℕ) × List ℕ → AseAnswer × List ℕ
 paletteReadOf v = (paletteOf (v .0), v .1)
 
 -- a record that is no colour, or a refusal
 abbrev pub plain : ℕ → ℕ → ℕ → ℕ → ℕ → AseRecord
 plain x b p n u = record { number = x; block = b; place = p; name = n; units = u; model = 0; channels = 0 ∷ 0 ∷ 0 ∷ 0 ∷ []; kind = 0 }
 
-abbrev pub blockOf : Shown → AseRecord
-blockOf (group p u) = plain 0 0xC001 0 p u
-blockOf close = plain 0 0xC002 0 0 0
-blockOf (colour p u t bs k) = record { number = 0; block = 0x0001; place = 0; name = p; units = u; model = t; channels = bs; kind = k }
-blockOf (refusalAse x p) = plain x 0 p 0 0
+abbrev pub blockOf : table.Verdict Given → AseRecord
+blockOf (table.accepted g) = record { number = 0; block = g .block; place = 0; name = g .first; units = g .units; model = g .model; channels = g .channels; kind = g .type }
+blockOf (table.refused x p r f) = plain x 0 p 0 0

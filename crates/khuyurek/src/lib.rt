@@ -49,10 +49,11 @@ ghost use Rattle.convert.specs.Convert.{toChannel, toSample, toldChannel, toldS
 ghost use Rattle.colour.specs.Models.{traitsOf};
 ghost use Rattle.colour.specs.Channels.{bitsOf, modelIn};
 ghost use Rattle.ase.specs.Reading.{ase};
-ghost use Rattle.ase_judge.specs.Answer.{verdict as verdictAse, told as toldAse};
+ghost use Rattle.algebra.specs.Table.{accepted as acceptedAse, verdict as verdictAse, whole};
+ghost use Rattle.ase.specs.Row.{width as widthAse, taken as takenAse, colour as coloured};
+ghost use Rattle.ase_judge.specs.Answer.{report as reportAse, told as toldAse};
 ghost use Rattle.ase_read.specs.Table.{filled as filledAse, recordAt as recordAtAse};
-ghost use Rattle.ase_read.specs.Answer.{shown, colour as coloured};
-ghost use Rattle.ase_records.specs.Writing.{given as givenAse, needed as neededAse, written as writtenAse};
+ghost use Rattle.ase_records.specs.Writing.{needed as neededAse, written as writtenAse};
 ghost use Rattle.khuyurek.specs.Exported.{paletteOf, paletteReadOf, plain, blockOf, answerOf, placed, recordOf, writtenOf, readOf, wroteOf, channelOf, sampleOf};
 use aco_judge::Answer;
 use aco_read::NamePlace;
@@ -319,7 +320,7 @@ fn exported_palette(a: ase_judge::Answer) -> AseAnswer
 // Judges an ASE file.
 #[no_mangle]
 pub extern "C" fn khuyurek_ase_judge(file: &[u8]) -> AseAnswer
-    ensures { λ r. ⌜ r ≡ paletteOf (verdictAse (ase (now (file .entry)))) ⌝ }
+    ensures { λ r. ⌜ r ≡ paletteOf (verdictAse reportAse (ase (now (file .entry)))) ⌝ }
 {
     exported_palette(ase_judge::judge(file))
 }
@@ -348,7 +349,7 @@ fn no_colour(number: u32, block: u16, place: usize, name: usize, units: u32) -> 
 }
 
 fn exported_colour(name: usize, units: u32, colour: Channels, kind: u16) -> AseRecord
-    ensures { λ r. ⌜ r ≡ blockOf (coloured name units (traitsOf (modelIn colour) .tag) (bitsOf colour) kind) ⌝ }
+    ensures { λ r. ⌜ r ≡ blockOf (acceptedAse (coloured name units (traitsOf (modelIn colour) .tag) (bitsOf colour) kind)) ⌝ }
 {
     AseRecord {
         number: 0,
@@ -365,7 +366,7 @@ fn exported_colour(name: usize, units: u32, colour: Channels, kind: u16) -> AseR
 // Record i of an ASE file.
 #[no_mangle]
 pub extern "C" fn khuyurek_ase_record_at(file: &[u8], i: usize) -> AseRecord
-    ensures { λ r. ⌜ r ≡ blockOf (shown (recordAtAse i (ase (now (file .entry))))) ⌝ }
+    ensures { λ r. ⌜ r ≡ blockOf (recordAtAse i (ase (now (file .entry)))) ⌝ }
 {
     match ase_read::record_at(file, i) {
         Record::Group { place, units } => no_colour(0, ase::START, 0, place, units),
@@ -383,7 +384,7 @@ pub extern "C" fn khuyurek_ase_record_at(file: &[u8], i: usize) -> AseRecord
 // How many bytes writing ASE records takes.
 #[no_mangle]
 pub extern "C" fn khuyurek_ase_length(records: &[u32], text: &[u8]) -> Length
-    ensures { λ r. ⌜ r ≡ writtenOf (neededAse (now (text .entry)) (givenAse (now (records .entry)))) ⌝ }
+    ensures { λ r. ⌜ r ≡ writtenOf (neededAse (now (text .entry)) (whole widthAse takenAse (now (records .entry)))) ⌝ }
 {
     exported_length(ase_records::write_length(records, text))
 }
@@ -391,7 +392,7 @@ pub extern "C" fn khuyurek_ase_length(records: &[u32], text: &[u8]) -> Length
 // Writes ASE records.
 #[no_mangle]
 pub extern "C" fn khuyurek_ase_write(records: &[u32], text: &[u8], out: &mut [u8]) -> Length
-    ensures { λ r. ⌜ (r, now (out .exit)) ≡ wroteOf (writtenAse (now (text .entry)) (givenAse (now (records .entry))) (now (out .entry))) ⌝ }
+    ensures { λ r. ⌜ (r, now (out .exit)) ≡ wroteOf (writtenAse (now (text .entry)) (whole widthAse takenAse (now (records .entry))) (now (out .entry))) ⌝ }
 {
     exported_length(ase_write::write(records, text, out))
 }

@@ -4,7 +4,7 @@ ghost use Rattle.aco.specs.Reading.{aco};
 ghost use Rattle.ase.specs.Reading.{ase};
 ghost use Rattle.colour.specs.Models.{traitsOf};
 ghost use Rattle.colour.specs.Channels.{bitsOf, modelIn};
-ghost use Rattle.ase_read.specs.Answer.{colour as coloured};
+ghost use Rattle.ase.specs.Row.{colour as coloured};
 ghost use Rattle.walk.specs.Walk.{gives};
 ghost use Rattle.aco_walk.specs.Walking.{walk, startOf};
 ghost use Rattle.aco_walk.specs.Answer.{toldGiven, handed, toldStart};

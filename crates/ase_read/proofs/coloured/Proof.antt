@@ -1,4 +1,6 @@
-use mathlib.Core.Path.{sym, _∙_}
+use mathlib.Core.Path.{sym, ap, _∙_}
+use Rattle.algebra.specs.Table.{accepted}
+use Rattle.ase.specs.Row.{Given}
 use native.Mathlib.Omega.{arith}
 use Rattle.ase_read.proofs.Answers.{is-made, colour-is}
 use borrow.Author.Needs.{needs}
@@ -14,18 +16,22 @@ enum-known-colour c = search needs
 enum-known-number : tie.Need-enum-known-number
 enum-known-number c = search needs
 
+cast-t6 : tie.Need-cast-t6
+cast-t6 c = omega (arith, c .before .before .before .before .before .pre .1)
+
 returns : tie.Need-returns
 returns c =
-    let f = c .before .before .before in
-    let a = f .before .args in
-    colour-is (a .tag) (a .a) (a .b) (a .c) (a .d) (f .before .pre) _ (sym (f .from-tag .ensures) ∙ c .before .colour .given .1) (omega arith) (omega arith) (omega arith) (omega arith) _ _ _
+    let f = c .before .before .before .before in
+    let r = f .before .args .row in
+    ap (λ (g : Given). accepted g) (colour-is (r .model) (r .a) (r .b) (r .c) (r .d) (f .before .pre .0) _ (sym (f .from-tag .ensures) ∙ c .before .before .colour .given .1) (omega arith) (omega arith) (omega arith) (omega arith) _ _ _)
 
 returns-2 : tie.Need-returns-2
 returns-2 c =
     let f = c .before .before .before in
-    let a = f .before .args in
-    is-made (a .tag) (a .a) (a .b) (a .c) (a .d) (f .before .pre) _ (sym (f .from-tag .ensures) ∙ c .before .number .given .1)
+    let r = f .before .args .row in
+    is-made (r .model) (r .a) (r .b) (r .c) (r .d) (f .before .pre .0) _ (sym (f .from-tag .ensures) ∙ c .before .number .given .1)
 
 pub coloured-spec : {M : Type 1} → statement M
 coloured-spec =
-    tie.close (tie.spec from-tag-requires enum-known-colour enum-known-number returns returns-2)
+    tie.close
+    (tie.spec from-tag-requires enum-known-colour cast-t6 enum-known-number returns returns-2)

@@ -5,6 +5,7 @@ use lib.Seq.{sets}
 use native.Mathlib.Omega.{arith}
 use Rattle.algebra.specs.Numbers.{joined}
 use Rattle.ase.specs.Reading.{stopped, ase}
+use Rattle.ase.specs.Row.{width, numbers}
 use Rattle.ase_read.specs.Table.{row}
 use Rattle.ase_read.specs.Raw.{rawRow, blockPlace, entriesOf}
 use Rattle.ase_read.proofs.Filling.{place-first, length-entries, count-small, Here, here}
@@ -14,7 +15,7 @@ use Rattle.ase_read.proofs.fill.Statement.{statement}
 use Rattle.ase_read.proofs.fill.Tie as tie
 
 abbrev Inv-loop : tie.InvT-loop
-Inv-loop file n table₀ i₀ at₀ table i at = (i ≤ n) × (sets table₀ 0 (joined row (entriesOf (ase file))) ≡ sets table (9 * i) (joined row (drop i (entriesOf (ase file))))) × (length table ≡ length table₀) × (at ≡ blockPlace file i)
+Inv-loop file n table₀ i₀ at₀ table i at = (i ≤ n) × (sets table₀ 0 (joined row (entriesOf (ase file))) ≡ sets table (width * i) (joined row (drop i (entriesOf (ase file))))) × (length table ≡ length table₀) × (at ≡ blockPlace file i)
 
 abbrev μ-loop : tie.MeasureT-loop
 μ-loop file n table₀ i₀ at₀ table i at = n - i
@@ -62,8 +63,8 @@ loop-again c =
     let s = st .args .file .now in
     let k = known tn in (
       omega (arith, tn .loop-test .taken),
-      fill-turn 9 row (entriesOf (ase s)) _ (l .table) (l .i) (l .inv .1) stopped (omega (arith, tn .loop-test .taken, length-entries s (st .args .n) (st .pre .0))) _ _
-          (k .is-row ∙ ap (rawRow s (l .at)) (sym (b .ensures))) refl (pr .put-row .ensures),
+      fill-turn width row (entriesOf (ase s)) _ (l .table) (l .i) (l .inv .1) stopped (omega (arith, tn .loop-test .taken, length-entries s (st .args .n) (st .pre .0))) _ _
+          (ap numbers (k .is-row) ∙ ap (rawRow s (l .at)) (sym (b .ensures))) refl (pr .put-row .ensures),
       pr .put-row .kept .1 .1 .1 .0 ∙ l .inv .2,
       b .ensures ∙ k .next,
     )
@@ -76,7 +77,7 @@ returns c =
     let l = c .before .loop in
     let st = c .before .before .before .before in
     let s = st .args .file .now in
-    sym (fill-end 9 row (entriesOf (ase s)) _ (l .table) (l .i) (l .inv .1) (omega (arith, c .loop-test .left, length-entries s (st .args .n) (st .pre .0))))
+    sym (fill-end width row (entriesOf (ase s)) _ (l .table) (l .i) (l .inv .1) (omega (arith, c .loop-test .left, length-entries s (st .args .n) (st .pre .0))))
 
 pub fill-spec : {M : Type 1} → statement M
 fill-spec =

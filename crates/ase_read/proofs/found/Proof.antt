@@ -1,9 +1,14 @@
-use mathlib.Core.Path.{_≡_, sym, ap, _∙_}
+use Prim.Native.Nat.{ℕ}
+use mathlib.Core.Path.{_≡_, refl, sym, ap, _∙_}
+use mathlib.Core.List.{List}
+use lib.ListN.{getD, take}
 use native.Mathlib.Omega.{arith}
-use Rattle.ase_read.specs.Table.{row}
-use Rattle.ase_read.specs.Raw.{rawRow}
+use Rattle.algebra.specs.Table.{accepted, whole}
+use Rattle.ase.specs.Row.{Given, width, taken, noRecord, givenIn, givenOf}
+use Rattle.ase.proofs.Row.{row-back}
+use Rattle.ase_read.specs.Raw.{nextBlock, loaded, rawRow}
 use Rattle.ase_read.proofs.Filling.{entryAt, Here, here}
-use Rattle.ase_read.proofs.Answers.{Hue, row-type, row-group, row-close, row-colour, record-is}
+use Rattle.ase_read.proofs.Answers.{Hue, is-group, is-close, is-colour, record-is}
 use borrow.Author.Needs.{needs}
 use Rattle.ase_read.proofs.found.Statement.{statement}
 use Rattle.ase_read.proofs.found.Tie as tie
@@ -12,14 +17,18 @@ use Rattle.ase_read.proofs.found.Tie as tie
 known : (c : tie.After-block-place) → Here (c .before .before .args .file .now) (c .before .before .args .i) (c .block-place .result)
 known c = let st = c .before .before in here (st .args .file .now) (st .args .n) (st .pre .0) (st .args .i) (st .pre .1) _ (c .block-place .ensures)
 
--- the numbers that were stored are its row
-loaded : (c : tie.After-row2) → c .before .put-row .last .1 .1 .1 .0 ≡ row (entryAt (c .before .before .before .before .before .before .args .file .now) (c .before .before .before .before .before .before .args .i))
-loaded c =
-    let b = c .before .before .before in
-    c .before .put-row .ensures ∙ ap (rawRow (b .before .before .before .args .file .now) (b .before .block-place .result)) (b .block-end .ensures) ∙ sym (known (b .before) .is-row)
+-- the record that was stored and taken back is the block's
+stored : (c : tie.After-record-at) → givenIn (c .record-at .result) ≡ givenOf (entryAt (c .before .before .before .before .before .before .before .before .args .file .now) (c .before .before .before .before .before .before .before .before .args .i))
+stored c =
+    let p = c .before .before .before in
+    let b = p .before .before in
+    let s = b .before .before .before .args .file .now in
+    let at = b .before .block-place .result in
+    c .record-at .ensures ∙ ap (λ (t : List ℕ). getD (whole width taken t) 0 noRecord) (p .put-row .ensures ∙ ap (rawRow s at) (b .block-end .ensures))
+    ∙ row-back (loaded (take (nextBlock s at) s) at) refl ∙ sym (known (b .before) .is-row)
 
-hue : (c : tie.At-match-rest) → Hue (entryAt (c .before .before .before .before .before .before .before .before .args .file .now) (c .before .before .before .before .before .before .before .before .args .i)) (c .before .before .before .put-row .last .1 .1 .1 .0)
-hue c = let r = c .before .before in row-colour _ (known (r .before .before .before .before) .sound) _ (loaded r) (c .match .rest .0 .1) (c .match .rest .1)
+hue : (c : tie.At-match-rest) → Hue (entryAt (c .before .before .before .before .before .before .before .before .before .args .file .now) (c .before .before .before .before .before .before .before .before .before .args .i)) (c .before .record-at .result)
+hue c = let r = c .before in is-colour _ (known (r .before .before .before .before .before .before) .sound) _ (stored r) (c .match .rest .0 .1) (c .match .rest .1)
 
 block-place-requires : tie.Need-block-place-requires
 block-place-requires c κs = search needs
@@ -36,65 +45,31 @@ put-row-requires c κs =
     let h = known (c .before .before) in
     (omega (arith, b .ensures), omega (arith, b .ensures, h .inside), h .short, omega arith)
 
-array-read-wide : tie.Need-array-read-wide
-array-read-wide c = search needs
+slice-aggregate-record-at : tie.Need-slice-aggregate-record-at
+slice-aggregate-record-at c = search needs
 
-wide-requires : tie.Need-wide-requires
-wide-requires c κs = search needs
-
-array-read-block : tie.Need-array-read-block
-array-read-block c = search needs
-
-cast-block : tie.Need-cast-block
-cast-block c = let a = c .before .before .before .before .before .before .before .args in omega (arith, row-type (entryAt (a .file .now) (a .i)) _ (loaded (c .before)))
-
-array-read-t20 : tie.Need-array-read-t20
-array-read-t20 c = search needs
-
-array-read-coloured : tie.Need-array-read-coloured
-array-read-coloured c = search needs
-
-array-read-coloured-2 : tie.Need-array-read-coloured-2
-array-read-coloured-2 c = search needs
-
-array-read-coloured-3 : tie.Need-array-read-coloured-3
-array-read-coloured-3 c = search needs
-
-array-read-coloured-4 : tie.Need-array-read-coloured-4
-array-read-coloured-4 c = search needs
-
-array-read-coloured-5 : tie.Need-array-read-coloured-5
-array-read-coloured-5 c = search needs
-
-array-read-coloured-6 : tie.Need-array-read-coloured-6
-array-read-coloured-6 c = search needs
-
-array-read-coloured-7 : tie.Need-array-read-coloured-7
-array-read-coloured-7 c = search needs
-
-cast-coloured : tie.Need-cast-coloured
-cast-coloured c = omega (arith, hue c .type)
+record-at-requires : tie.Need-record-at-requires
+record-at-requires c κs = search needs
 
 coloured-requires : tie.Need-coloured-requires
-coloured-requires c κs = hue c .is
+coloured-requires c κs = let h = hue c in (h .is, h .type)
 
 returns : tie.Need-returns
 returns c =
-    let r = c .before .before in
-    let st = r .before .before .before .before .before .before in
-    record-is _ _ (st .pre .0) (st .args .i) (st .pre .1) _ (row-group (entryAt (st .args .file .now) (st .args .i)) _ (loaded r) (c .match .keys1) _ (c .before .wide .ensures .0))
+    let r = c .before in
+    let st = r .before .before .before .before .before .before .before .before in
+    record-is _ _ (st .args .i) (st .pre .0) (st .pre .1) _ (is-group _ (entryAt (st .args .file .now) (st .args .i)) (stored r) (c .match .keys1))
 
 returns-2 : tie.Need-returns-2
 returns-2 c =
-    let r = c .before .before in
-    let st = r .before .before .before .before .before .before in
-    record-is _ _ (st .pre .0) (st .args .i) (st .pre .1) _ (row-close (entryAt (st .args .file .now) (st .args .i)) _ (loaded r) (c .match .keys2))
+    let r = c .before in
+    let st = r .before .before .before .before .before .before .before .before in
+    record-is _ _ (st .args .i) (st .pre .0) (st .pre .1) _ (is-close (r .record-at .result) (entryAt (st .args .file .now) (st .args .i)) (stored r) (c .match .keys2))
 
 returns-3 : tie.Need-returns-3
 returns-3 c =
-    let r = c .before .before .before in
-    let st = r .before .before .before .before .before .before in
-    record-is _ _ (st .pre .0) (st .args .i) (st .pre .1) _ (c .coloured .ensures ∙ hue (c .before) .shows _ (c .before .before .wide .ensures .0))
+    let st = c .before .before .before .before .before .before .before .before .before .before in
+    c .coloured .ensures ∙ record-is _ _ (st .args .i) (st .pre .0) (st .pre .1) _ (hue (c .before) .shows)
 
 pub found-spec : {M : Type 1} → statement M
 found-spec =
@@ -104,19 +79,8 @@ found-spec =
     block-end-requires
     slice-aggregate-put-row
     put-row-requires
-    array-read-wide
-    wide-requires
-    array-read-block
-    cast-block
-    array-read-t20
-    array-read-coloured
-    array-read-coloured-2
-    array-read-coloured-3
-    array-read-coloured-4
-    array-read-coloured-5
-    array-read-coloured-6
-    array-read-coloured-7
-    cast-coloured
+    slice-aggregate-record-at
+    record-at-requires
     coloured-requires
     returns
     returns-2

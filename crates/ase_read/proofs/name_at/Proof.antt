@@ -1,17 +1,17 @@
 use mathlib.Core.Path.{_≡_, sym, ap, _∙_}
 use native.Mathlib.Omega.{arith}
 use Rattle.ase.specs.Reading.{ase}
-use Rattle.ase_read.specs.Table.{recordAt}
-use Rattle.ase_read.specs.Answer.{shown, toldRecord}
+use Rattle.ase_read.specs.Table.{recordAt, nameBytesIn}
+use Rattle.ase_read.specs.Answer.{toldRecord}
 use Rattle.ase_read.specs.declared.Record.{Record}
-use Rattle.ase_read.proofs.Answers.{nameOf, name-in, name-part}
+use Rattle.ase_read.proofs.Answers.{name-in, name-part}
 use borrow.Author.Needs.{needs}
 use Rattle.ase_read.proofs.name_at.Statement.{statement}
 use Rattle.ase_read.proofs.name_at.Tie as tie
 
--- where the name of record i lies, by the answer x that was given
-lies : (c : tie.After-record-at) (x : Record) → c .record-at .result ≡ x → nameOf (toldRecord x) ≡ nameOf (shown (recordAt (c .before .before .args .i) (ase (c .before .before .args .file .now))))
-lies c x e = ap (λ (y : Record). nameOf (toldRecord y)) (sym e) ∙ ap nameOf (c .record-at .ensures)
+-- record i, by the answer x that was given
+told : (c : tie.After-record-at) (x : Record) → c .record-at .result ≡ x → toldRecord x ≡ recordAt (c .before .before .args .i) (ase (c .before .before .args .file .now))
+told c x e = sym (ap toldRecord e) ∙ c .record-at .ensures
 
 record-at-requires : tie.Need-record-at-requires
 record-at-requires c κs = search needs
@@ -29,7 +29,7 @@ add-end : tie.Need-add-end
 add-end c =
     let r = c .before .before .before in
     let a = r .before .before .args in
-    omega (arith, name-in (a .file .now) (a .i) _ _ (lies r _ (c .before .place .given .1)))
+    omega (arith, name-in (a .file .now) (a .i) _ (told r _ (c .before .place .given .1)))
 
 sub-result : tie.Need-sub-result
 sub-result c = search needs
@@ -41,7 +41,7 @@ part-result-end : tie.Need-part-result-end
 part-result-end c =
     let r = c .before .before .before in
     let a = r .before .before .args in
-    omega (arith, name-in (a .file .now) (a .i) _ _ (lies r _ (c .before .place .given .1)))
+    omega (arith, name-in (a .file .now) (a .i) _ (told r _ (c .before .place .given .1)))
 
 enum-told : tie.Need-enum-told
 enum-told c = search needs
@@ -62,7 +62,7 @@ add-end-2 : tie.Need-add-end-2
 add-end-2 c =
     let r = c .before .before .before in
     let a = r .before .before .args in
-    omega (arith, name-in (a .file .now) (a .i) _ _ (lies r _ (c .before .place2 .given .1)))
+    omega (arith, name-in (a .file .now) (a .i) _ (told r _ (c .before .place2 .given .1)))
 
 sub-result-2 : tie.Need-sub-result-2
 sub-result-2 c = search needs
@@ -74,7 +74,7 @@ part-result-end-2 : tie.Need-part-result-end-2
 part-result-end-2 c =
     let r = c .before .before .before in
     let a = r .before .before .args in
-    omega (arith, name-in (a .file .now) (a .i) _ _ (lies r _ (c .before .place2 .given .1)))
+    omega (arith, name-in (a .file .now) (a .i) _ (told r _ (c .before .place2 .given .1)))
 
 enum-told-2 : tie.Need-enum-told-2
 enum-told-2 c = search needs
@@ -86,25 +86,25 @@ returns : tie.Need-returns
 returns c =
     let r = c .before .before .before .before in
     let a = r .before .before .args in
-    name-part (a .file .now) (recordAt (a .i) (ase (a .file .now))) _ _ (lies r _ (c .before .before .place .given .1))
+    name-part (a .file .now) (recordAt (a .i) (ase (a .file .now))) _ (told r _ (c .before .before .place .given .1))
 
 returns-2 : tie.Need-returns-2
 returns-2 c =
     let r = c .before .before .before in
     let a = r .before .before .args in
-    name-part (a .file .now) (recordAt (a .i) (ase (a .file .now))) _ _ (lies r _ (c .before .enum-told .given .1))
+    name-part (a .file .now) (recordAt (a .i) (ase (a .file .now))) _ (told r _ (c .before .enum-told .given .1))
 
 returns-3 : tie.Need-returns-3
 returns-3 c =
     let r = c .before .before .before .before in
     let a = r .before .before .args in
-    name-part (a .file .now) (recordAt (a .i) (ase (a .file .now))) _ _ (lies r _ (c .before .before .place2 .given .1))
+    name-part (a .file .now) (recordAt (a .i) (ase (a .file .now))) _ (told r _ (c .before .before .place2 .given .1))
 
 returns-4 : tie.Need-returns-4
 returns-4 c =
     let r = c .before .before .before in
     let a = r .before .before .args in
-    name-part (a .file .now) (recordAt (a .i) (ase (a .file .now))) _ _ (lies r _ (c .before .enum-told2 .given .1))
+    ap (nameBytesIn (a .file .now)) (told r _ (c .before .enum-told2 .given .1))
 
 pub name-at-spec : {M : Type 1} → statement M
 name-at-spec =

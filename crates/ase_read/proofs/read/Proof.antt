@@ -1,10 +1,13 @@
 use Prim.Native.Nat.{_-_}
-use mathlib.Core.Path.{sym, ap, _∙_}
+use mathlib.Core.Path.{refl, sym, ap, _∙_}
 use native.Mathlib.Omega.{arith}
-use Rattle.ase_judge.specs.Answer.{told}
+use Rattle.ase_judge.specs.Answer.{report, told}
 use Rattle.ase.specs.Reading.{ase}
 use Rattle.ase_read.proofs.Filling.{count-small}
-use Rattle.ase_read.proofs.Answers.{accepted-of, filled-short, filled-is, filled-refused}
+use Rattle.algebra.proofs.Table.{filled-short, filled-is, filled-refused}
+use Rattle.ase_read.proofs.Answers.{judged-of, rows-wide}
+use Rattle.ase.specs.Row.{width}
+use Rattle.ase_read.specs.Table.{row}
 use borrow.Author.Needs.{needs}
 use Rattle.ase_read.proofs.read.Statement.{statement}
 use Rattle.ase_read.proofs.read.Tie as tie
@@ -23,27 +26,27 @@ mul-if1 c =
     let v = c .before in
     let j = v .before .before in
     let s = j .before .before .before .args .file .now in
-    omega (arith, count-small s _ (accepted-of (ase s) (sym (ap told (v .blocks2 .given .1)) ∙ j .judge .ensures) .0))
+    omega (arith, count-small s _ (judged-of (ase s) (sym (ap told (v .blocks2 .given .1)) ∙ j .judge .ensures)))
 
 returns : tie.Need-returns
 returns c =
     let v = c .before .before in
     let j = v .before .before in
     let a = j .before .before .before .args in
-    filled-short (ase (a .file .now)) _ _ (sym (ap told (v .blocks2 .given .1)) ∙ j .judge .ensures) (a .table .now) (omega (arith, c .if1 .taken))
+    filled-short (λ es. es) report (λ b. b .0) (λ es. refl) (ase (a .file .now)) width row (a .table .now) (sym (ap told (v .blocks2 .given .1)) ∙ j .judge .ensures) (omega (arith, c .if1 .taken))
 
 fill-requires : tie.Need-fill-requires
 fill-requires c κs =
     let v = c .before .before .before in
     let j = v .before .before in
     let s = j .before .before .before .args .file .now in
-    (accepted-of (ase s) (sym (ap told (v .blocks2 .given .1)) ∙ j .judge .ensures) .0, omega (arith, c .before .if1 .left))
+    (judged-of (ase s) (sym (ap told (v .blocks2 .given .1)) ∙ j .judge .ensures), omega (arith, c .before .if1 .left))
 
 returns-2 : tie.Need-returns-2
 returns-2 c =
     let x = c .before in
     let j = x .before .before in
-    filled-refused (ase (j .before .before .before .args .file .now)) _ (sym (ap told (x .number .given .1)) ∙ j .judge .ensures)
+    filled-refused (λ es. es) report (λ b. b .0) (λ es. refl) (ase (j .before .before .before .args .file .now)) width row _ (sym (ap told (x .number .given .1)) ∙ j .judge .ensures)
 
 same-length : tie.Need-same-length
 same-length c = search needs
@@ -54,7 +57,7 @@ returns-3 c =
     let v = f .before .before .before .before in
     let j = v .before .before in
     let a = j .before .before .before .args in
-    filled-is (ase (a .file .now)) _ _ (sym (ap told (v .blocks2 .given .1)) ∙ j .judge .ensures) (a .table .now) (f .before .before .if1 .left) _ (f .fill .ensures)
+    filled-is (λ es. es) report (λ b. b .0) (λ es. refl) (ase (a .file .now)) width row (a .table .now) (sym (ap told (v .blocks2 .given .1)) ∙ j .judge .ensures) (f .before .before .if1 .left) (rows-wide _) _ (f .fill .ensures)
 
 pub read-spec : {M : Type 1} → statement M
 read-spec =

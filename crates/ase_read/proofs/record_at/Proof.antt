@@ -1,8 +1,12 @@
-use mathlib.Core.Path.{sym, ap, _∙_}
+use mathlib.Core.Path.{refl, sym, ap, _∙_}
+use lib.ListN.{length}
 use native.Mathlib.Omega.{arith}
-use Rattle.ase_judge.specs.Answer.{told}
-use Rattle.ase.specs.Reading.{ase}
-use Rattle.ase_read.proofs.Answers.{accepted-of, record-refused, record-none}
+use Rattle.ase_judge.specs.Answer.{report, told}
+use Rattle.ase.specs.Reading.{stopped, ase}
+use Rattle.algebra.specs.Table.{seen}
+use Rattle.algebra.proofs.Table.{record-refused, record-none}
+use Rattle.ase.specs.Row.{givenOf}
+use Rattle.ase_read.proofs.Answers.{judged-of}
 use borrow.Author.Needs.{needs}
 use Rattle.ase_read.proofs.record_at.Statement.{statement}
 use Rattle.ase_read.proofs.record_at.Tie as tie
@@ -22,19 +26,19 @@ returns c =
     let j = v .before .before in
     let a = j .before .before .args in
     let m = ase (a .file .now) in
-    record-none m _ (accepted-of m (sym (ap told (v .blocks2 .given .1)) ∙ j .judge .ensures) .0) (a .i) (omega (arith, c .if1 .taken))
+    ap (seen givenOf) (record-none (λ es. es) length (λ k. k) (λ es. refl) m stopped (a .i) (judged-of m (sym (ap told (v .blocks2 .given .1)) ∙ j .judge .ensures)) (omega (arith, c .if1 .taken)))
 
 found-requires : tie.Need-found-requires
 found-requires c κs =
     let v = c .before .before in
     let j = v .before .before in
-    (accepted-of (ase (j .before .before .args .file .now)) (sym (ap told (v .blocks2 .given .1)) ∙ j .judge .ensures) .0, omega (arith, c .if1 .left))
+    (judged-of (ase (j .before .before .args .file .now)) (sym (ap told (v .blocks2 .given .1)) ∙ j .judge .ensures), omega (arith, c .if1 .left))
 
 returns-2 : tie.Need-returns-2
 returns-2 c =
     let x = c .before in
     let j = x .before .before in
-    record-refused (j .before .before .args .i) (ase (j .before .before .args .file .now)) (sym (ap told (x .number .given .1)) ∙ j .judge .ensures)
+    ap (seen givenOf) (record-refused (λ es. es) report (λ b. b .0) (λ es. refl) (ase (j .before .before .args .file .now)) stopped (j .before .before .args .i) (sym (ap told (x .number .given .1)) ∙ j .judge .ensures))
 
 returns-3 : tie.Need-returns-3
 returns-3 c = search needs

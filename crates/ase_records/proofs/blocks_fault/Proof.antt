@@ -1,21 +1,22 @@
 use Rattle.ase_records.proofs.Judging.{blocks-start, blocks-found, blocks-more, blocks-open, blocks-closed, block-head, depth-few}
 use mathlib.Core.Path.{_≡_, sym, _∙_}
 use native.Mathlib.Omega.{arith}
-use Rattle.ase_records.specs.Parts.{givenOf, blocksFault}
-use Rattle.ase_records.specs.Writing.{givens}
+use Rattle.ase.specs.Row.{width, taken, givenIn}
+use Rattle.ase_records.specs.Parts.{blocksFault}
+use Rattle.algebra.specs.Table.{rows}
 use borrow.Author.Needs.{needs}
 use Prim.Native.Nat.{_-_, _≤_}
 use Rattle.ase_records.proofs.blocks_fault.Statement.{statement}
 use Rattle.ase_records.proofs.blocks_fault.Tie as tie
 
 abbrev Inv-loop : tie.InvT-loop
-Inv-loop run text n depth₀ i₀ depth i = (i ≤ n) × (depth ≤ 16) × (blocksFault text 0 (givens run n 0) ≡ blocksFault text depth (givens run (n - i) i))
+Inv-loop run text n depth₀ i₀ depth i = (i ≤ n) × (depth ≤ 16) × (blocksFault text 0 (rows width taken run n 0) ≡ blocksFault text depth (rows width taken run (n - i) i))
 
 abbrev μ-loop : tie.MeasureT-loop
 μ-loop run text n depth₀ i₀ depth i = n - i
 
 loop-holds : tie.Need-loop-holds Inv-loop μ-loop
-loop-holds c = let a = c .before .before .args in (omega arith, omega arith, blocks-start (a .text .now) (a .run .now) (a .n))
+loop-holds c = let a = c .before .before .args in (omega arith, omega arith, blocks-start (a .text .now) _ (a .n))
 
 whole-at-requires : tie.Need-whole-at-requires Inv-loop μ-loop
 whole-at-requires c κs = search needs
@@ -27,7 +28,7 @@ returns : tie.Need-returns Inv-loop μ-loop
 returns c =
     let l = c .before .before .before .before .loop in
     let a = c .before .before .before .before .before .before .before .args in
-    blocks-found (a .text .now) (a .run .now) _ (l .depth) (a .n) (l .i) (l .inv .2) (c .before .before .before .loop-test .taken) _ (givenOf (c .before .before .whole-at .result)) (c .before .before .whole-at .ensures) (c .before .block-fault .ensures) (c .if1 .taken)
+    blocks-found (a .text .now) _ _ (l .depth) (a .n) (l .i) (l .inv .2) (c .before .before .before .loop-test .taken) _ (givenIn (c .before .before .whole-at .result)) (c .before .before .whole-at .ensures) (c .before .block-fault .ensures) (c .if1 .taken)
 
 depth-after-requires : tie.Need-depth-after-requires Inv-loop μ-loop
 depth-after-requires c κs = search needs
@@ -42,25 +43,25 @@ loop-again : tie.Need-loop-again Inv-loop μ-loop
 loop-again c =
     let l = c .before .before .before .before .before .loop in
     let a = c .before .before .before .before .before .before .before .before .args in
-    let g = givenOf (c .before .before .before .whole-at .result) in
+    let g = givenIn (c .before .before .before .whole-at .result) in
     let e = c .before .before .block-fault .ensures in
     let h = block-head (a .text .now) (l .depth) g (sym e ∙ c .before .if1 .left) in (
       omega arith,
       omega (arith, depth-few (l .depth) (g .block) h (l .inv .1), c .depth-after .ensures),
-      blocks-more (a .text .now) (a .run .now) _ (l .depth) (a .n) (l .i) (l .inv .2) (c .before .before .before .before .loop-test .taken) _ g (c .before .before .before .whole-at .ensures) e (c .before .if1 .left) _ (c .depth-after .ensures),
+      blocks-more (a .text .now) _ _ (l .depth) (a .n) (l .i) (l .inv .2) (c .before .before .before .before .loop-test .taken) _ g (c .before .before .before .whole-at .ensures) e (c .before .if1 .left) _ (c .depth-after .ensures),
     )
 
 returns-2 : tie.Need-returns-2 Inv-loop μ-loop
 returns-2 c =
     let l = c .before .before .loop in
     let a = c .before .before .before .before .before .args in
-    blocks-open (a .text .now) (a .run .now) _ (l .depth) (a .n) (l .i) (l .inv .2) (c .before .loop-test .left) (λ z. omega (arith, c .if2 .taken))
+    blocks-open (a .text .now) _ _ (l .depth) (a .n) (l .i) (l .inv .2) (c .before .loop-test .left) (λ z. omega (arith, c .if2 .taken))
 
 returns-3 : tie.Need-returns-3 Inv-loop μ-loop
 returns-3 c =
     let l = c .before .before .loop in
     let a = c .before .before .before .before .before .args in
-    blocks-closed (a .text .now) (a .run .now) _ (l .depth) (a .n) (l .i) (l .inv .2) (c .before .loop-test .left) (c .if2 .left)
+    blocks-closed (a .text .now) _ _ (l .depth) (a .n) (l .i) (l .inv .2) (c .before .loop-test .left) (c .if2 .left)
 
 pub blocks-fault-spec : {M : Type 1} → statement M
 blocks-fault-spec =

@@ -1,7 +1,7 @@
 use Rattle.ase_records.proofs.Judging.{channels-by, shade-unknown, shade-bad, shade-typed}
 use mathlib.Core.Path.{sym, _∙_}
 use borrow.Author.Tests.{le-leb, lt-leb}
-use Rattle.ase_records.specs.Parts.{givenOf}
+use Rattle.ase.specs.Row.{givenIn}
 use borrow.Author.Needs.{needs}
 use Rattle.ase_records.proofs.shade_fault.Statement.{statement}
 use Rattle.ase_records.proofs.shade_fault.Tie as tie
@@ -16,19 +16,19 @@ enum-told : tie.Need-enum-told
 enum-told c = search needs
 
 returns : tie.Need-returns
-returns c = shade-unknown (givenOf (c .before .before .before .args .given)) (sym (c .enum-told .given .1) ∙ c .before .before .from-tag .ensures)
+returns c = shade-unknown (givenIn (c .before .before .before .args .given)) (sym (c .enum-told .given .1) ∙ c .before .before .from-tag .ensures)
 
 allows-all-requires : tie.Need-allows-all-requires
 allows-all-requires c κs = search needs
 
 returns-2 : tie.Need-returns-2
-returns-2 c = let g = givenOf (c .before .before .before .before .before .before .args .given) in shade-bad g _ (sym (c .before .before .before .model .given .1) ∙ c .before .before .before .before .before .from-tag .ensures) (c .before .allows-all .result) (channels-by _ _ _ _ _ _ (c .before .allows-all .ensures)) (c .if1 .taken)
+returns-2 c = let g = givenIn (c .before .before .before .before .before .before .args .given) in shade-bad g _ (sym (c .before .before .before .model .given .1) ∙ c .before .before .before .before .before .from-tag .ensures) (c .before .allows-all .result) (channels-by _ _ _ _ _ _ (c .before .allows-all .ensures)) (c .if1 .taken)
 
 returns-3 : tie.Need-returns-3
-returns-3 c = let g = givenOf (c .before .before .before .before .before .before .before .before .args .given) in shade-typed g _ (sym (c .before .before .before .before .before .model .given .1) ∙ c .before .before .before .before .before .before .before .from-tag .ensures) (c .before .before .before .allows-all .result) (channels-by _ _ _ _ _ _ (c .before .before .before .allows-all .ensures)) (c .before .before .if1 .left) 5 (sym (rw (lt-leb (g .type) 2 (c .if2 .taken))))
+returns-3 c = let g = givenIn (c .before .before .before .before .before .before .before .before .args .given) in shade-typed g _ (sym (c .before .before .before .before .before .model .given .1) ∙ c .before .before .before .before .before .before .before .from-tag .ensures) (c .before .before .before .allows-all .result) (channels-by _ _ _ _ _ _ (c .before .before .before .allows-all .ensures)) (c .before .before .if1 .left) 5 (sym (rw (lt-leb (g .type) 2 (c .if2 .taken))))
 
 returns-4 : tie.Need-returns-4
-returns-4 c = let g = givenOf (c .before .before .before .before .before .before .before .before .args .given) in shade-typed g _ (sym (c .before .before .before .before .before .model .given .1) ∙ c .before .before .before .before .before .before .before .from-tag .ensures) (c .before .before .before .allows-all .result) (channels-by _ _ _ _ _ _ (c .before .before .before .allows-all .ensures)) (c .before .before .if1 .left) 0 (sym (rw (le-leb (g .type) 2 (c .if2 .left))))
+returns-4 c = let g = givenIn (c .before .before .before .before .before .before .before .before .args .given) in shade-typed g _ (sym (c .before .before .before .before .before .model .given .1) ∙ c .before .before .before .before .before .before .before .from-tag .ensures) (c .before .before .before .allows-all .result) (channels-by _ _ _ _ _ _ (c .before .before .before .allows-all .ensures)) (c .before .before .if1 .left) 0 (sym (rw (le-leb (g .type) 2 (c .if2 .left))))
 
 pub shade-fault-spec : {M : Type 1} → statement M
 shade-fault-spec =

@@ -1,7 +1,7 @@
 use Rattle.ase_records.proofs.Judging.{size-start, size-colour, size-other}
 use mathlib.Core.Path.{sym}
 use native.Mathlib.Omega.{arith}
-use Rattle.ase_records.specs.Parts.{givenOf}
+use Rattle.ase.specs.Row.{givenIn}
 use borrow.Author.Needs.{needs}
 use Rattle.ase_records.proofs.size_in.Statement.{statement}
 use Rattle.ase_records.proofs.size_in.Tie as tie
@@ -16,7 +16,7 @@ add-result : tie.Need-add-result
 add-result c = search needs
 
 returns : tie.Need-returns
-returns c = let g = givenOf (c .before .before .before .args .given) in (omega (arith, size-start g (c .before .if1 .taken)), omega arith)
+returns c = let g = givenIn (c .before .before .before .args .given) in (omega (arith, size-start g (c .before .if1 .taken)), omega arith)
 
 wide-requires-2 : tie.Need-wide-requires-2
 wide-requires-2 c κs = search needs
@@ -37,10 +37,10 @@ add-result-3 : tie.Need-add-result-3
 add-result-3 c = search needs
 
 returns-2 : tie.Need-returns-2
-returns-2 c = let g = givenOf (c .before .before .before .before .before .before .args .given) in (omega (arith, size-colour g (c .before .before .if2 .taken)), omega arith)
+returns-2 c = let g = givenIn (c .before .before .before .before .before .before .args .given) in (omega (arith, size-colour g (c .before .before .if2 .taken)), omega arith)
 
 returns-3 : tie.Need-returns-3
-returns-3 c = let g = givenOf (c .before .before .before .before .args .given) in (sym (size-other g (c .before .before .if1 .left) (c .if2 .left)), omega arith)
+returns-3 c = let g = givenIn (c .before .before .before .before .args .given) in (sym (size-other g (c .before .before .if1 .left) (c .if2 .left)), omega arith)
 
 pub size-in-spec : {M : Type 1} → statement M
 size-in-spec =

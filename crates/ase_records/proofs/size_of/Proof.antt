@@ -3,20 +3,22 @@ use Rattle.ase_records.proofs.Judging.{sizes-turn, sizes-end}
 use Rattle.algebra.proofs.Writing.{size-fits, size-over}
 use mathlib.Core.Path.{_≡_, sym, ap, _∙_}
 use native.Mathlib.Omega.{arith}
-use Rattle.ase_records.specs.Writing.{givenAt, givens, sizeIn, sizes}
+use Rattle.algebra.specs.Table.{rowAt, rows}
+use Rattle.ase.specs.Row.{width, taken}
+use Rattle.ase_records.specs.Writing.{sizeIn, sizes}
 use borrow.Author.Needs.{needs}
 use Prim.Native.Nat.{_+_, _-_, _≤_}
 use Rattle.ase_records.proofs.size_of.Statement.{statement}
 use Rattle.ase_records.proofs.size_of.Tie as tie
 
 abbrev Inv-loop : tie.InvT-loop
-Inv-loop run n total₀ i₀ total i = (i ≤ n) × (total ≤ 16777216) × (total + sizes (givens run (n - i) i) ≡ 12 + sizes (givens run n 0))
+Inv-loop run n total₀ i₀ total i = (i ≤ n) × (total ≤ 16777216) × (total + sizes (rows width taken run (n - i) i) ≡ 12 + sizes (rows width taken run n 0))
 
 abbrev μ-loop : tie.MeasureT-loop
 μ-loop run n total₀ i₀ total i = n - i
 
 loop-holds : tie.Need-loop-holds Inv-loop μ-loop
-loop-holds c = let a = c .before .args in (omega arith, omega arith, ap (λ gs. 12 + sizes gs) (sym (counted-start (givenAt (a .run .now)) (a .n))))
+loop-holds c = let a = c .before .args in (omega arith, omega arith, ap (λ gs. 12 + sizes gs) (sym (counted-start _ (a .n))))
 
 whole-at-requires : tie.Need-whole-at-requires Inv-loop μ-loop
 whole-at-requires c κs = search needs
@@ -32,7 +34,7 @@ returns c =
     let l = c .before .before .before .before .loop in
     let a = c .before .before .before .before .before .before .args in
     let e = c .before .size-in .ensures .0 ∙ ap (λ g. sizeIn g) (c .before .before .whole-at .ensures) in
-    size-over (12 + sizes (givens (a .run .now) (a .n) 0)) (omega (arith, e, sizes-turn (a .run .now) (a .n) (l .i) (c .before .before .before .loop-test .taken), l .inv .2, c .if1 .taken))
+    size-over (12 + sizes (rows width taken (a .run .now) (a .n) 0)) (omega (arith, e, sizes-turn (λ i. taken (rowAt width (a .run .now) i)) (a .n) (l .i) (c .before .before .before .loop-test .taken), l .inv .2, c .if1 .taken))
 
 add-i : tie.Need-add-i Inv-loop μ-loop
 add-i c = search needs
@@ -45,13 +47,13 @@ loop-again c =
     let l = c .before .before .before .before .loop in
     let a = c .before .before .before .before .before .before .args in
     let e = c .before .size-in .ensures .0 ∙ ap (λ g. sizeIn g) (c .before .before .whole-at .ensures) in
-    (omega arith, omega arith, omega (arith, e, sizes-turn (a .run .now) (a .n) (l .i) (c .before .before .before .loop-test .taken), l .inv .2))
+    (omega arith, omega arith, omega (arith, e, sizes-turn (λ i. taken (rowAt width (a .run .now) i)) (a .n) (l .i) (c .before .before .before .loop-test .taken), l .inv .2))
 
 returns-2 : tie.Need-returns-2 Inv-loop μ-loop
 returns-2 c =
     let l = c .before .loop in
     let a = c .before .before .before .args in
-    size-fits (12 + sizes (givens (a .run .now) (a .n) 0)) (l .total) (omega (arith, sizes-end (a .run .now) (a .n) (l .i) (c .loop-test .left), l .inv .2)) (l .inv .1)
+    size-fits (12 + sizes (rows width taken (a .run .now) (a .n) 0)) (l .total) (omega (arith, sizes-end (λ i. taken (rowAt width (a .run .now) i)) (a .n) (l .i) (c .loop-test .left), l .inv .2)) (l .inv .1)
 
 pub size-of-spec : {M : Type 1} → statement M
 size-of-spec =

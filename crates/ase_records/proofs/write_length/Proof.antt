@@ -2,7 +2,9 @@ use Rattle.ase_records.proofs.Outcomes.{too-long, bad-block, all-fine}
 use Rattle.algebra.proofs.Writing.{size-is, size-passes}
 use Rattle.fields.specs.Answer.{toldWritten}
 use mathlib.Core.Path.{sym, ap, _∙_}
-use Rattle.ase_records.specs.Writing.{givens, sizes}
+use Rattle.algebra.specs.Table.{whole}
+use Rattle.ase.specs.Row.{width, taken}
+use Rattle.ase_records.specs.Writing.{sizes}
 use Prim.Native.Nat.{_+_, _-_, _/_}
 use lib.ListN.{length}
 use borrow.Author.Needs.{needs}
@@ -21,8 +23,7 @@ enum-told c = search needs
 returns : tie.Need-returns
 returns c =
     let a = c .before .before .before .before .before .args in
-    let n = length (a .records .now) / 9 in
-    let gs = givens (a .records .now) n 0 in
+    let gs = whole width taken (a .records .now) in
     too-long (a .text .now) gs (size-passes (12 + sizes gs) _ (sym (ap toldWritten (c .enum-told .given .1)) ∙ c .before .before .size-of .ensures))
 
 blocks-fault-requires : tie.Need-blocks-fault-requires
@@ -31,16 +32,14 @@ blocks-fault-requires c κs = search needs
 returns-2 : tie.Need-returns-2
 returns-2 c =
     let a = c .before .before .before .before .before .before .before .before .args in
-    let n = length (a .records .now) / 9 in
-    let gs = givens (a .records .now) n 0 in
+    let gs = whole width taken (a .records .now) in
     let s = size-is (12 + sizes gs) _ (sym (ap toldWritten (c .before .before .before .size .given .1)) ∙ c .before .before .before .before .before .size-of .ensures) in
     bad-block (a .text .now) gs (s .0) _ (c .before .blocks-fault .ensures) (c .if1 .taken)
 
 returns-3 : tie.Need-returns-3
 returns-3 c =
     let a = c .before .before .before .before .before .before .before .before .args in
-    let n = length (a .records .now) / 9 in
-    let gs = givens (a .records .now) n 0 in
+    let gs = whole width taken (a .records .now) in
     let s = size-is (12 + sizes gs) _ (sym (ap toldWritten (c .before .before .before .size .given .1)) ∙ c .before .before .before .before .before .size-of .ensures) in
     all-fine (a .text .now) gs (s .0) _ (c .before .blocks-fault .ensures) _ (c .if1 .left) (s .1)
 

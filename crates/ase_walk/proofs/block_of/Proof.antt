@@ -1,34 +1,46 @@
-use Prim.Native.Nat.{ℕ}
-use mathlib.Core.List.{List, [], _∷_}
-use mathlib.Core.Path.{_≡_, refl, sym, ap, _∙_}
+use mathlib.Core.Path.{_≡_, sym, ap, _∙_}
 use lib.ListN.{take}
 use lib.Seq.{length-take-le}
-use Rattle.ase_read.specs.Answer.{Shown}
-use Rattle.ase_read.specs.Table.{row}
-use Rattle.ase_read.proofs.Filling.{row-loaded}
-use Rattle.ase_read.proofs.Answers.{Hue, row-group, row-close, row-colour}
+use Rattle.ase.specs.Row.{Given, givenOf, givenIn}
+use Rattle.ase.specs.declared.Numbers.{Numbers}
+use Rattle.ase_read.proofs.Filling.{numbers-loaded}
+use Rattle.ase_read.proofs.Answers.{Hue, is-group, is-close, is-colour}
 use Rattle.walk.specs.Walk.{gives}
-use Rattle.ase_walk.proofs.Stepping.{stands-row, stands-sound, stands-shown}
+use Rattle.ase_walk.proofs.Stepping.{stands-given, stands-sound, stands-shown}
+use native.Mathlib.Omega.{arith}
 use borrow.Author.Needs.{needs}
 use Rattle.ase_walk.proofs.block_of.Statement.{statement}
 use Rattle.ase_walk.proofs.block_of.Tie as tie
 
--- the numbers that were loaded are the block's row
-loaded : (c : tie.After-units-of)
-    → _≡_ {A = List ℕ} (c .before .before .before .before .before .before .before .before .before .u16-or-zero .result ∷ c .before .place-of .result ∷ c .units-of .result ∷ c .before .before .before .before .before .before .before .u32-or-zero .result ∷ c .before .before .before .before .before .before .u32-or-zero2 .result ∷ c .before .before .before .before .before .u32-or-zero3 .result ∷ c .before .before .before .before .u32-or-zero4 .result ∷ c .before .before .before .u32-or-zero5 .result ∷ c .before .before .u16-or-zero3 .result ∷ []) (row (c .before .before .before .before .before .before .before .before .before .before .before .before .pre .2 .0))
+-- the numbers that were loaded
+abbrev numbersAt : tie.After-units-of → Numbers
+numbersAt c = record {
+  block = c .before .before .before .before .before .before .before .before .before .u16-or-zero .result;
+  first = c .before .place-of .result;
+  units = c .units-of .result;
+  model = c .before .before .before .before .before .before .before .u32-or-zero .result;
+  a = c .before .before .before .before .before .before .u32-or-zero2 .result;
+  b = c .before .before .before .before .before .u32-or-zero3 .result;
+  c = c .before .before .before .before .u32-or-zero4 .result;
+  d = c .before .before .before .u32-or-zero5 .result;
+  kind = c .before .before .u16-or-zero3 .result;
+}
+
+-- they are the block's
+loaded : (c : tie.After-units-of) → givenIn (numbersAt c) ≡ givenOf (c .before .before .before .before .before .before .before .before .before .before .before .before .pre .2 .0)
 loaded c =
     let d1 = c .before .before .before .before .before .before .before in
     let st = c .before .before .before .before .before .before .before .before .before .before .before .before in
     let s = st .args .file .now in
-    stands-row s (st .args .at) (st .args .end) (st .pre .2) _
-    (row-loaded (take (st .args .end) s) (st .args .at) (st .args .end) _ _ _ _ _ _ _ _ _ _ (d1 .before .before .u16-or-zero .ensures) (d1 .before .u16-or-zero2 .ensures) (c .before .place-of .ensures) (c .units-of .ensures)
+    stands-given s (st .args .at) (st .args .end) (st .pre .2) _
+    (numbers-loaded (take (st .args .end) s) (st .args .at) _ _ _ _ _ _ _ _ _ _ (d1 .before .before .u16-or-zero .ensures) (d1 .before .u16-or-zero2 .ensures) (c .before .place-of .ensures) (c .units-of .ensures)
     (d1 .u32-or-zero .ensures) (c .before .before .before .before .before .before .u32-or-zero2 .ensures) (c .before .before .before .before .before .u32-or-zero3 .ensures) (c .before .before .before .before .u32-or-zero4 .ensures) (c .before .before .before .u32-or-zero5 .ensures) (c .before .before .u16-or-zero3 .ensures))
 
 -- the colour that they make
-hue : (c : tie.At-match-rest) → Hue (c .before .before .before .before .before .before .before .before .before .before .before .before .before .pre .2 .0) (c .before .before .before .before .before .before .before .before .before .before .u16-or-zero .result ∷ c .before .before .place-of .result ∷ c .before .units-of .result ∷ c .before .before .before .before .before .before .before .before .u32-or-zero .result ∷ c .before .before .before .before .before .before .before .u32-or-zero2 .result ∷ c .before .before .before .before .before .before .u32-or-zero3 .result ∷ c .before .before .before .before .before .u32-or-zero4 .result ∷ c .before .before .before .before .u32-or-zero5 .result ∷ c .before .before .before .u16-or-zero3 .result ∷ [])
+hue : (c : tie.At-match-rest) → Hue (c .before .before .before .before .before .before .before .before .before .before .before .before .before .pre .2 .0) (numbersAt (c .before))
 hue c =
     let st = c .before .before .before .before .before .before .before .before .before .before .before .before .before in
-    row-colour (st .pre .2 .0) (stands-sound (st .args .file .now) (st .args .at) (st .args .end) (st .pre .2)) _ (loaded (c .before)) (c .match .rest .0 .1) (c .match .rest .1)
+    is-colour (st .pre .2 .0) (stands-sound (st .args .file .now) (st .args .at) (st .args .end) (st .pre .2)) (numbersAt (c .before)) (loaded (c .before)) (c .match .rest .0 .1) (c .match .rest .1)
 
 slice-aggregate-part : tie.Need-slice-aggregate-part
 slice-aggregate-part c =
@@ -83,7 +95,8 @@ u32-or-zero-requires-5 : tie.Need-u32-or-zero-requires-5
 u32-or-zero-requires-5 c κs = search needs
 
 sub-u16-or-zero : tie.Need-sub-u16-or-zero
-sub-u16-or-zero c = search needs
+sub-u16-or-zero c =
+    let st = c .before .before .before .before .before .before .before .before .before in omega (arith, st .pre .0, length-take-le (st .args .end) (st .args .file .now) (st .pre .1))
 
 u16-or-zero-requires-3 : tie.Need-u16-or-zero-requires-3
 u16-or-zero-requires-3 c κs = search needs
@@ -102,19 +115,19 @@ returns : tie.Need-returns
 returns c =
     let st = c .before .before .before .before .before .before .before .before .before .before .before .before .before in
     let s = st .args .file .now in
-    stands-shown s (st .args .at) (st .args .end) (st .pre .2) _ (ap (λ (v : Shown). gives v) (row-group (st .pre .2 .0) _ (loaded (c .before)) (c .match .keys1) _ refl))
+    stands-shown s (st .args .at) (st .args .end) (st .pre .2) _ (ap (λ (v : Given). gives v) (is-group (numbersAt (c .before)) (st .pre .2 .0) (loaded (c .before)) (c .match .keys1)))
 
 returns-2 : tie.Need-returns-2
 returns-2 c =
     let st = c .before .before .before .before .before .before .before .before .before .before .before .before .before in
     let s = st .args .file .now in
-    stands-shown s (st .args .at) (st .args .end) (st .pre .2) _ (ap (λ (v : Shown). gives v) (row-close (st .pre .2 .0) _ (loaded (c .before)) (c .match .keys2)))
+    stands-shown s (st .args .at) (st .args .end) (st .pre .2) _ (ap (λ (v : Given). gives v) (is-close (numbersAt (c .before)) (st .pre .2 .0) (loaded (c .before)) (c .match .keys2)))
 
 returns-3 : tie.Need-returns-3
 returns-3 c =
     let st = c .before .before .before .before .before .before .before .before .before .before .before .before .before .before in
     let s = st .args .file .now in
-    stands-shown s (st .args .at) (st .args .end) (st .pre .2) _ (c .coloured .ensures ∙ ap (λ (v : Shown). gives v) (hue (c .before) .shows _ refl))
+    stands-shown s (st .args .at) (st .args .end) (st .pre .2) _ (c .coloured .ensures ∙ ap (λ (v : Given). gives v) (hue (c .before) .shows))
 
 pub block-of-spec : {M : Type 1} → statement M
 block-of-spec =

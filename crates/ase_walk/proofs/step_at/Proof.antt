@@ -4,7 +4,7 @@ use Prim.Native.Nat.{_-_}
 use mathlib.Core.Path.{_≡_, refl, sym, ap, _∙_}
 use native.Mathlib.Omega.{arith}
 use lib.ListN.{length}
-use Rattle.ase_read.specs.Answer.{Shown}
+use Rattle.ase.specs.Row.{Given}
 use Rattle.walk.specs.Walk.{Call}
 use Rattle.ase_walk.specs.Walking.{walk}
 use Rattle.ase_walk.specs.Answer.{handed}
@@ -35,7 +35,7 @@ returns : tie.Need-returns Inv-loop μ-loop
 returns c =
     let b = c .before .before .before .block-at in
     let l = c .before .before .before .before .before in
-    ap (λ (x : Call Shown). (x, b .result .next)) (c .given-of .ensures)
+    ap (λ (x : Call Given). (x, b .result .next)) (c .given-of .ensures)
     ∙ ends-here (l .before .before .args .file .now) (l .loop .p) _ _ (sym (c .before .before .is-group .ensures) ∙ not-true _ (c .before .if1 .taken)) (b .ensures) ∙ sym (ap handed (l .loop .inv))
 
 loop-less : tie.Need-loop-less Inv-loop μ-loop

@@ -2,7 +2,7 @@ use Rattle.ase_records.proofs.Judging.{size-least, size-colour, block-name, blo
 use Rattle.ase_write.proofs.Puts.{sort, type-small, size-name, sort-colour, put-stop, put-start, put-colour}
 use mathlib.Core.Path.{refl}
 use native.Mathlib.Omega.{arith}
-use Rattle.ase_records.specs.Parts.{givenOf}
+use Rattle.ase.specs.Row.{givenIn}
 use Prim.Native.Nat.{_-_}
 use borrow.Author.Needs.{needs}
 use Rattle.ase_write.proofs.put_block.Statement.{statement}
@@ -12,7 +12,7 @@ cast-put-u16 : tie.Need-cast-put-u16
 cast-put-u16 c =
     let s = c .before .before .before .before in
     let a = s .args in
-    let g = givenOf (a .given) in
+    let g = givenIn (a .given) in
     let f = sort (a .text .now) g (s .pre .0 .sound) in
     omega (arith, type-small (a .text .now) g f)
 
@@ -23,7 +23,7 @@ add-put-u32 : tie.Need-add-put-u32
 add-put-u32 c = search needs
 
 sub-put-u32 : tie.Need-sub-put-u32
-sub-put-u32 c = let s = c .before .before .before .before .before .before .before .before in omega (arith, size-least (givenOf (s .args .given)), s .pre .1)
+sub-put-u32 c = let s = c .before .before .before .before .before .before .before .before in omega (arith, size-least (givenIn (s .args .given)), s .pre .1)
 
 cast-put-u32 : tie.Need-cast-put-u32
 cast-put-u32 c = search needs
@@ -38,7 +38,7 @@ returns : tie.Need-returns
 returns c =
     let s = c .before .before .before .before .before .before .before .before .before .before .before .before .before in
     let a = s .args in
-    let g = givenOf (a .given) in
+    let g = givenIn (a .given) in
     let f = sort (a .text .now) g (s .pre .0 .sound) in
     put-stop (a .text .now) g refl f (a .out .now) _ _ (a .at) (a .size) (s .pre .1) (s .pre .0 .inside) (c .before .before .before .before .before .before .before .before .put-u16 .ensures) (c .before .before .before .before .put-u32 .ensures) (c .if1 .taken)
 
@@ -49,7 +49,7 @@ put-name-requires : tie.Need-put-name-requires
 put-name-requires c κs =
     let s = c .before .before .before .before .before .before .before .before .before .before .before .before .before .before in
     let a = s .args in
-    let g = givenOf (a .given) in
+    let g = givenIn (a .given) in
     let f = sort (a .text .now) g (s .pre .0 .sound) in
     (omega (arith, size-name (a .text .now) g f (c .before .if1 .left), s .pre .0 .inside, c .before .before .before .before .before .before .before .before .before .put-u16 .kept .0, c .before .before .before .before .before .put-u32 .kept .0), block-name (a .text .now) 1 g (s .pre .0 .sound) (c .before .if1 .left))
 
@@ -60,7 +60,7 @@ returns-2 : tie.Need-returns-2
 returns-2 c =
     let s = c .before .before .before .before .before .before .before .before .before .before .before .before .before .before .before .before .before .before .before in
     let a = s .args in
-    let g = givenOf (a .given) in
+    let g = givenIn (a .given) in
     let f = sort (a .text .now) g (s .pre .0 .sound) in
     put-start (a .text .now) g refl f (a .out .now) _ _ (a .at) (a .size) (s .pre .1) (s .pre .0 .inside) (c .before .before .before .before .before .before .before .before .before .before .before .before .before .before .put-u16 .ensures) (c .before .before .before .before .before .before .before .before .before .before .put-u32 .ensures) _ (c .before .before .before .before .put-name .ensures) (c .if2 .taken)
 
@@ -80,7 +80,7 @@ put-shade-requires : tie.Need-put-shade-requires
 put-shade-requires c κs =
     let s = c .before .before .before .before .before .before .before .before .before .before .before .before .before .before .before .before .before .before .before .before .before in
     let a = s .args in
-    let g = givenOf (a .given) in
+    let g = givenIn (a .given) in
     let f = sort (a .text .now) g (s .pre .0 .sound) in
     let x = c .before .before .before .before .before .before .before .before .if1 .left in
     let y = c .before .before .if2 .left in
@@ -94,7 +94,7 @@ returns-3 : tie.Need-returns-3
 returns-3 c =
     let s = c .before .before .before .before .before .before .before .before .before .before .before .before .before .before .before .before .before .before .before .before .before .before .before .before in
     let a = s .args in
-    let g = givenOf (a .given) in
+    let g = givenIn (a .given) in
     let f = sort (a .text .now) g (s .pre .0 .sound) in
     put-colour (a .text .now) g refl f (a .out .now) _ _ (a .at) (a .size) (s .pre .1) (s .pre .0 .inside) (c .before .before .before .before .before .before .before .before .before .before .before .before .before .before .before .before .before .before .before .put-u16 .ensures) (c .before .before .before .before .before .before .before .before .before .before .before .before .before .before .before .put-u32 .ensures) _ (c .before .before .before .before .before .before .before .before .before .put-name .ensures) (c .before .before .before .before .before .before .before .before .before .before .before .if1 .left) (c .before .before .before .before .before .if2 .left) _ _ (c .before .before .before .wide .ensures .0) (c .before .before .put-shade .ensures)
 

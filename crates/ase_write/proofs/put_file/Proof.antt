@@ -2,7 +2,8 @@ use Rattle.algebra.proofs.Counted.{length-counted}
 use Rattle.ase_records.proofs.Judging.{sizes-all}
 use Rattle.ase_write.proofs.Puts.{put-file}
 use native.Mathlib.Omega.{arith}
-use Rattle.ase_records.specs.Writing.{givenAt, givens}
+use Rattle.algebra.specs.Table.{rowAt, rows}
+use Rattle.ase.specs.Row.{width, taken}
 use Prim.Native.Nat.{_-_}
 use borrow.Author.Needs.{needs}
 use Rattle.ase_write.proofs.put_file.Statement.{statement}
@@ -27,7 +28,7 @@ cast-put-u32 : tie.Need-cast-put-u32
 cast-put-u32 c =
     let s = c .before .before .before .before .before .before .before .before .before .before .before .before .before .before .before .before in
     let a = s .args in
-    omega (arith, sizes-all (givens (a .run .now) (a .n) 0), length-counted (givenAt (a .run .now)) (a .n) 0, s .pre .1 .short)
+    omega (arith, sizes-all (rows width taken (a .run .now) (a .n) 0), length-counted (λ i. taken (rowAt width (a .run .now) i)) (a .n) 0, s .pre .1 .short)
 
 put-u32-requires-2 : tie.Need-put-u32-requires-2
 put-u32-requires-2 c κs = search needs

@@ -2,7 +2,8 @@ use Rattle.ase_records.proofs.Judging.{name-short, name-inside}
 use Rattle.ase_write.proofs.Puts.{put-name}
 use Rattle.algebra.specs.Store.{stored, part}
 use Rattle.algebra.specs.Text.{countedUnits}
-use Rattle.ase_records.specs.Parts.{start, givenOf}
+use Rattle.ase.specs.Row.{givenIn}
+use Rattle.ase_records.specs.Parts.{start}
 use Prim.Native.Nat.{ℕ, _+_, _-_, _*_}
 use mathlib.Core.Path.{ap, _∙_}
 use native.Mathlib.Omega.{arith}
@@ -22,13 +23,13 @@ mul-end c = search needs
 add-end : tie.Need-add-end
 add-end c =
     let s = c .before .before .before .before in
-    omega (arith, name-inside (s .args .text .now) (givenOf (s .args .given)) (s .pre .1), c .wide .ensures .0, c .before .name-start .ensures, s .good)
+    omega (arith, name-inside (s .args .text .now) (givenIn (s .args .given)) (s .pre .1), c .wide .ensures .0, c .before .name-start .ensures, s .good)
 
 add-put-name16 : tie.Need-add-put-name16
-add-put-name16 c = let s = c .before .before .before .before .before in omega (arith, name-short (s .args .text .now) (givenOf (s .args .given)) (s .pre .1))
+add-put-name16 c = let s = c .before .before .before .before .before in omega (arith, name-short (s .args .text .now) (givenIn (s .args .given)) (s .pre .1))
 
 cast-put-name16 : tie.Need-cast-put-name16
-cast-put-name16 c = let s = c .before .before .before .before .before in omega (arith, name-short (s .args .text .now) (givenOf (s .args .given)) (s .pre .1))
+cast-put-name16 c = let s = c .before .before .before .before .before in omega (arith, name-short (s .args .text .now) (givenIn (s .args .given)) (s .pre .1))
 
 sub-put-name16 : tie.Need-sub-put-name16
 sub-put-name16 c = search needs
@@ -39,7 +40,7 @@ part-put-name16-start c = search needs
 part-put-name16-end : tie.Need-part-put-name16-end
 part-put-name16-end c =
     let s = c .before .before .before .before .before in
-    omega (arith, name-inside (s .args .text .now) (givenOf (s .args .given)) (s .pre .1), c .before .wide .ensures .0, c .before .before .name-start .ensures)
+    omega (arith, name-inside (s .args .text .now) (givenIn (s .args .given)) (s .pre .1), c .before .wide .ensures .0, c .before .before .name-start .ensures)
 
 put-name16-requires : tie.Need-put-name16-requires
 put-name16-requires c κs = search needs
@@ -51,7 +52,7 @@ returns : tie.Need-returns
 returns c =
     let s = c .before .before .before .before .before .before .before .before .before in
     let a = s .args in
-    let g = givenOf (a .given) in
+    let g = givenIn (a .given) in
     let w = c .before .before .before .before .before .wide in
     let e = c .before .before .put-name16 .ensures ∙ ap (λ (r : ℕ). stored (a .out .now) (a .at) (countedUnits 2 (g .units + 1) (part (a .text .now) r (r + 2 * w .result - r)))) (c .before .before .before .before .before .before .name-start .ensures) in
     put-name (a .text .now) (λ i. omega (arith, c .before .before .before .before .before .before .before .shared-slice-known .given i)) g (start g + 2 * w .result - start g) (omega (arith, w .ensures .0)) (s .pre .1) (a .out .now) _ (a .at) (s .pre .0) e

@@ -2,7 +2,7 @@ use Rattle.ase_records.proofs.Judging.{shade-fine}
 use Rattle.ase_write.proofs.Puts.{put-shade}
 use mathlib.Core.Path.{refl}
 use native.Mathlib.Omega.{arith}
-use Rattle.ase_records.specs.Parts.{givenOf}
+use Rattle.ase.specs.Row.{givenIn}
 use Prim.Native.Nat.{_-_}
 use borrow.Author.Needs.{needs}
 use Rattle.ase_write.proofs.put_shade.Statement.{statement}
@@ -21,7 +21,7 @@ put-channels-requires : tie.Need-put-channels-requires
 put-channels-requires c κs =
     let s = c .before .before .before .before .before .before .before in
     let e = c .before .before .before .before .before .channels-of .ensures .0 in
-    (omega (arith, e, s .pre .0, c .before .before .before .put-u32 .kept .0), e, shade-fine (givenOf (s .args .given)) (s .pre .1) .0)
+    (omega (arith, e, s .pre .0, c .before .before .before .put-u32 .kept .0), e, shade-fine (givenIn (s .args .given)) (s .pre .1) .0)
 
 add-put-u16 : tie.Need-add-put-u16
 add-put-u16 c = search needs
@@ -33,7 +33,7 @@ add-put-u16-2 : tie.Need-add-put-u16-2
 add-put-u16-2 c = search needs
 
 cast-put-u16 : tie.Need-cast-put-u16
-cast-put-u16 c = let s = c .before .before .before .before .before .before .before .before .before .before .before .before in omega (arith, shade-fine (givenOf (s .args .given)) (s .pre .1) .1)
+cast-put-u16 c = let s = c .before .before .before .before .before .before .before .before .before .before .before .before in omega (arith, shade-fine (givenIn (s .args .given)) (s .pre .1) .1)
 
 put-u16-requires : tie.Need-put-u16-requires
 put-u16-requires c κs = search needs
@@ -44,7 +44,7 @@ same-length c = search needs
 returns : tie.Need-returns
 returns c =
     let s = c .before .before .before .before .before .before .before .before .before .before .before .before .before .before .before in
-    put-shade (givenOf (s .args .given)) refl (s .args .out .now) _ _ _ (s .args .at) _ (c .before .before .before .before .before .before .before .before .before .before .before .before .before .channels-of .ensures .0) (s .pre .0) (c .before .before .before .before .before .before .before .before .before .before .before .put-u32 .ensures) (c .before .before .before .before .before .before .before .put-channels .ensures) (c .before .before .before .before .before .before .before .put-channels .kept .0) (c .before .before .put-u16 .ensures)
+    put-shade (givenIn (s .args .given)) refl (s .args .out .now) _ _ _ (s .args .at) _ (c .before .before .before .before .before .before .before .before .before .before .before .before .before .channels-of .ensures .0) (s .pre .0) (c .before .before .before .before .before .before .before .before .before .before .before .put-u32 .ensures) (c .before .before .before .before .before .before .before .put-channels .ensures) (c .before .before .before .before .before .before .before .put-channels .kept .0) (c .before .before .put-u16 .ensures)
 
 pub put-shade-spec : {M : Type 1} → statement M
 put-shade-spec =

@@ -2,7 +2,9 @@ use Rattle.ase_write.proofs.Puts.{file-front}
 use Rattle.ase_records.proofs.Outcomes.{needed-bytes, no-fault}
 use Rattle.algebra.proofs.Writing.{writes-no, writes-none, writes-all}
 use Rattle.fields.specs.Answer.{toldWritten}
-use Rattle.ase_records.specs.Writing.{fault, size, blockIn, givens}
+use Rattle.ase_records.specs.Writing.{fault, size, blockIn}
+use Rattle.algebra.specs.Table.{rows}
+use Rattle.ase.specs.Row.{width, taken}
 use Rattle.ase.specs.Grammar.{fileBytes}
 use mathlib.Core.List.{map}
 use mathlib.Core.Path.{sym, ap, _∙_}
@@ -26,8 +28,8 @@ returns : tie.Need-returns
 returns c =
     let a = c .before .before .before .before .before .before .before .before .args in
     let names = a .text .now in
-    let n = length (a .records .now) / 9 in
-    let gs = givens (a .records .now) n 0 in
+    let n = length (a .records .now) / width in
+    let gs = rows width taken (a .records .now) n 0 in
     let q = sym (ap toldWritten (c .before .before .size .given .1)) ∙ c .before .before .before .before .write-length .ensures in
     writes-none (fault names gs) (size gs) (fileBytes (map (blockIn names) gs)) (a .out .now) _ q (c .if1 .taken)
 
@@ -35,8 +37,8 @@ put-file-requires : tie.Need-put-file-requires
 put-file-requires c κs =
     let a = c .before .before .before .before .before .before .before .before .before .args in
     let names = a .text .now in
-    let n = length (a .records .now) / 9 in
-    let gs = givens (a .records .now) n 0 in
+    let n = length (a .records .now) / width in
+    let gs = rows width taken (a .records .now) n 0 in
     let q = sym (ap toldWritten (c .before .before .before .size .given .1)) ∙ c .before .before .before .before .before .write-length .ensures in
     let w = needed-bytes names gs _ q in
     let f = no-fault names gs (w .0) in
@@ -46,8 +48,8 @@ returns-2 : tie.Need-returns-2
 returns-2 c =
     let a = c .before .before .before .before .before .before .before .args in
     let names = a .text .now in
-    let n = length (a .records .now) / 9 in
-    let gs = givens (a .records .now) n 0 in
+    let n = length (a .records .now) / width in
+    let gs = rows width taken (a .records .now) n 0 in
     let q = sym (ap toldWritten (c .before .x .given .1)) ∙ c .before .before .before .write-length .ensures in
     writes-no (fault names gs) (size gs) (fileBytes (map (blockIn names) gs)) (a .out .now) _ q
 
@@ -58,8 +60,8 @@ returns-3 : tie.Need-returns-3
 returns-3 c =
     let a = c .before .before .before .before .before .before .before .before .before .before .before .before .args in
     let names = a .text .now in
-    let n = length (a .records .now) / 9 in
-    let gs = givens (a .records .now) n 0 in
+    let n = length (a .records .now) / width in
+    let gs = rows width taken (a .records .now) n 0 in
     let q = sym (ap toldWritten (c .before .before .before .before .before .before .size .given .1)) ∙ c .before .before .before .before .before .before .before .before .write-length .ensures in
     let w = needed-bytes names gs _ q in
     let room = c .before .before .before .before .if1 .left in

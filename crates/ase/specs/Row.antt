@@ -1,0 +1,70 @@
+-- A record as numbers, and as a row of a table or run: the one place that knows a row's order and width.
+use Prim.Native.Nat.{ℕ}
+use mathlib.Core.List.{List, [], _∷_, _++_}
+use lib.ListN.{length, getD}
+use Rattle.ase.specs.Reading.{Entry, started, stopped, coloured}
+use Rattle.ase.specs.declared.Numbers.{Numbers}
+
+-- its block's type, its name by place and number of units in lent bytes, and a colour's model, channels and type
+pub record Given : Type 0 where
+  pub block : ℕ
+  pub first : ℕ
+  pub units : ℕ
+  pub model : ℕ
+  pub channels : List ℕ
+  pub type : ℕ
+
+-- ---- a row
+
+-- how many numbers a record has
+abbrev pub width : ℕ
+width = 9
+
+-- four channels: those of the model, and 0 in the places that it does not use
+abbrev pub fourOf : List ℕ → List ℕ
+fourOf bs = getD bs 0 0 ∷ getD bs 1 0 ∷ getD bs 2 0 ∷ getD bs 3 0 ∷ []
+
+-- type of the block, place of the name's first unit, number of units, model, four channels, the colour's type
+abbrev pub numbers : Given → List ℕ
+numbers g = g .block ∷ g .first ∷ g .units ∷ g .model ∷ (fourOf (g .channels) ++ (g .type ∷ []))
+
+-- the record that a row's numbers give
+abbrev pub taken : List ℕ → Given
+taken l = record {
+  block = getD l 0 0;
+  first = getD l 1 0;
+  units = getD l 2 0;
+  model = getD l 3 0;
+  channels = getD l 4 0 ∷ getD l 5 0 ∷ getD l 6 0 ∷ getD l 7 0 ∷ [];
+  type = getD l 8 0;
+}
+
+-- the same as the code has it
+abbrev pub givenIn : Numbers → Given
+givenIn r = record {
+  block = r .block;
+  first = r .first;
+  units = r .units;
+  model = r .model;
+  channels = r .a ∷ r .b ∷ r .c ∷ r .d ∷ [];
+  type = r .kind;
+}
+
+-- ---- the records of a file that was read: what a record does not have is 0
+
+abbrev pub noRecord : Given
+noRecord = record { block = 0; first = 0; units = 0; model = 0; channels = 0 ∷ 0 ∷ 0 ∷ 0 ∷ []; type = 0 }
+
+abbrev pub group : ℕ → ℕ → Given
+group p u = record { block = 0xC001; first = p; units = u; model = 0; channels = 0 ∷ 0 ∷ 0 ∷ 0 ∷ []; type = 0 }
+
+abbrev pub close : Given
+close = record { block = 0xC002; first = 0; units = 0; model = 0; channels = 0 ∷ 0 ∷ 0 ∷ 0 ∷ []; type = 0 }
+
+abbrev pub colour : ℕ → ℕ → ℕ → List ℕ → ℕ → Given
+colour p u t bs k = record { block = 0x0001; first = p; units = u; model = t; channels = bs; type = k }
+
+abbrev pub givenOf : Entry → Given
+givenOf (started nm) = group (nm .first) (length (nm .units))
+givenOf stopped = close
+givenOf (coloured nm t bs k) = colour (nm .first) (length (nm .units)) t (fourOf bs) k
