@@ -1,4 +1,5 @@
 -- Laws of the definitions of specs/. The theorems that a user cares about stand in RoundTrip.
+pub mod Row
 pub mod Laws
 pub mod Whole
 pub mod Turns
