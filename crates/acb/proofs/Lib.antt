@@ -1,5 +1,6 @@
 -- Laws of the definitions of specs/. The theorems that a user cares about stand in RoundTrip.
 pub mod Answers
+pub mod Row
 pub mod Laws
 pub mod Whole
 pub mod Turns

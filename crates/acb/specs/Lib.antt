@@ -1,5 +1,6 @@
 pub mod Grammar
 pub mod Reading
+pub mod Row
 pub mod Faults
 pub mod Widths
 pub mod Refusals

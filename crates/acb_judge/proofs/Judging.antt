@@ -10,6 +10,7 @@ use native.Mathlib.Omega.{arith}
 use native.Mathlib.Nat.{add-zero}
 use Rattle.algebra.specs.Numbers.{num}
 use Rattle.algebra.specs.Reader.{Res, ok, refuse, then, pick, field, body, done, mapRes, each, ended, judged, unless, limit}
+use Rattle.algebra.specs.Table.{accepted, refused, verdict}
 use Rattle.algebra.specs.Text.{Name, place}
 use Rattle.algebra.proofs.Laws.{field-in, field-short, body-in, body-short, judged-short, judged-bad, judged-ok, then-done}
 use Rattle.algebra.proofs.Places.{length-nums}
@@ -17,7 +18,7 @@ use Rattle.algebra.proofs.Inverse.{body-inv, field-inv, each-length, ok-value, 
 use Rattle.acb.specs.Grammar.{Tag, none, spot, process}
 use Rattle.acb.specs.Reading.{string, Entry, colour, isTag, tagOf, componentsOf, Numbers, Header, opening, strings, numbers, header, closing, book, acb}
 use Rattle.acb_judge.specs.Parts.{two, headerFrom, rest, tagged, unknown, knownTag}
-use Rattle.acb_judge.specs.Answer.{lies, Shown, shown, accepted, refused, verdict, verdictFrom, headed}
+use Rattle.acb_judge.specs.Answer.{lies, Shown, shown, reported, report, headed}
 
 -- ---- a string
 
@@ -244,24 +245,24 @@ module _ (n x : ℕ) (s : List ℕ) (at : ℕ) {k : ℕ} (c : k ≡ componentsOf
   rest-on e = then-done (each n 0 (λ i. colour (componentsOf x)) s at) (λ p. closing s p) ∙ rw (← (e ∙ ap (λ (m : ℕ). done (each n 0 (λ i. colour m) s at)) c)) refl
 
 module _ (s : List ℕ) where
-  pub too-long : limit < length s → refused 1 0 ≡ verdict (acb s)
+  pub too-long : limit < length s → refused 1 0 0 0 ≡ verdict report (acb s)
   unfolding acb
   too-long h = rw (lt-leb (length s) limit h)
 
   -- behind a header that was read
-  book-from : (h : Header) (p : ℕ) → header s 0 ≡ ok h p → verdict (book s 0) ≡ verdictFrom (shown h) (h .numbers .count) p (rest (h .numbers .count) (h .numbers .space) s p)
+  book-from : (h : Header) (p : ℕ) → header s 0 ≡ ok h p → verdict report (book s 0) ≡ verdict (reported (shown h) (h .numbers .count) p) (rest (h .numbers .count) (h .numbers .space) s p)
   unfolding book rest
   book-from h p e = rw e (first (each n 0 (λ i. colour (componentsOf (h .numbers .space))) s p) refl)
     where
       n : ℕ
       n = h .numbers .count
 
-      second : (es : List Entry) (m : Res Tag) → length es ≡ n → verdict (then m (λ t q. ok (record { header = h; first = p; entries = es; tag = t }) q)) ≡ verdictFrom (shown h) n p m
-      second es (ok t q) l = ap (λ (k : ℕ). accepted (shown h) t k p) l
+      second : (es : List Entry) (m : Res Tag) → length es ≡ n → verdict report (then m (λ t q. ok (record { header = h; first = p; entries = es; tag = t }) q)) ≡ verdict (reported (shown h) n p) m
+      second es (ok t q) l = ap (λ (k : ℕ). accepted (reported (shown h) k p t)) l
       second es (refuse x q r f) l = refl
 
       first : (m : Res (List Entry)) → each n 0 (λ i. colour (componentsOf (h .numbers .space))) s p ≡ m
-          → verdict (then m (λ es q. then (closing s q) (λ t z. ok (record { header = h; first = p; entries = es; tag = t }) z))) ≡ verdictFrom (shown h) n p (then m (λ es q. closing s q))
+          → verdict report (then m (λ es q. then (closing s q) (λ t z. ok (record { header = h; first = p; entries = es; tag = t }) z))) ≡ verdict (reported (shown h) n p) (then m (λ es q. closing s q))
       first (ok es q) d = second es (closing s q) (each-length (λ i. colour (componentsOf (h .numbers .space))) s n 0 p d)
       first (refuse x q r f) d = refl
 
@@ -270,25 +271,25 @@ module _ (s : List ℕ) where
     unfolding acb
     whole = sym (rw (le-leb (length s) limit h) refl)
 
-    pub bad-header : (x q : ℕ) → refuse x q 0 0 ≡ mapRes headed (header s 0) → refused x q ≡ verdict (acb s)
+    pub bad-header : (x q : ℕ) → refuse x q 0 0 ≡ mapRes headed (header s 0) → refused x q 0 0 ≡ verdict report (acb s)
     unfolding book
-    bad-header x q e = sym (ap verdict (sym whole) ∙ go (header s 0) refl e)
+    bad-header x q e = sym (ap (verdict report) (sym whole) ∙ go (header s 0) refl e)
       where
-        go : (m : Res Header) → header s 0 ≡ m → refuse x q 0 0 ≡ mapRes headed m → verdict (book s 0) ≡ refused x q
+        go : (m : Res Header) → header s 0 ≡ m → refuse x q 0 0 ≡ mapRes headed m → verdict report (book s 0) ≡ refused x q 0 0
         go (ok hd p) d k = clash k
-        go (refuse y p r f) d k = rw d (let u : y ≡ x = cc in let v : p ≡ q = cc in ap₂ refused u v)
+        go (refuse y p r f) d k = rw d (let u : y ≡ x = cc in let v : p ≡ q = cc in let w : r ≡ 0 = cc in let z : f ≡ 0 = cc in λ i. refused (u i) (v i) (w i) (z i))
 
-    pub good-header : (sh : Shown) (n p : ℕ) → ok (sh, n) p ≡ mapRes headed (header s 0) → verdictFrom sh n p (rest n (sh .space) s p) ≡ verdict (acb s)
-    good-header sh n p e = sym (ap verdict (sym whole) ∙ go (header s 0) refl e)
+    pub good-header : (sh : Shown) (n p : ℕ) → ok (sh, n) p ≡ mapRes headed (header s 0) → verdict (reported sh n p) (rest n (sh .space) s p) ≡ verdict report (acb s)
+    good-header sh n p e = sym (ap (verdict report) (sym whole) ∙ go (header s 0) refl e)
       where
-        go : (m : Res Header) → header s 0 ≡ m → ok (sh, n) p ≡ mapRes headed m → verdict (book s 0) ≡ verdictFrom sh n p (rest n (sh .space) s p)
+        go : (m : Res Header) → header s 0 ≡ m → ok (sh, n) p ≡ mapRes headed m → verdict report (book s 0) ≡ verdict (reported sh n p) (rest n (sh .space) s p)
         go (ok hd q) d k =
             let z : (sh, n) ≡ headed hd = ok-value k in
             let a : sh ≡ shown hd = ap (λ (y : Shown × ℕ). y .0) z in
             let b : n ≡ hd .numbers .count = ap (λ (y : Shown × ℕ). y .1) z in
             let c : p ≡ q = ok-place k in
             book-from hd q d
-            ∙ sym (ap (λ (y : Shown). verdictFrom y n p (rest n (y .space) s p)) a ∙ ap₂ (λ (y r : ℕ). verdictFrom (shown hd) y r (rest y (hd .numbers .space) s r)) b c)
+            ∙ sym (ap (λ (y : Shown). verdict (reported y n p) (rest n (y .space) s p)) a ∙ ap₂ (λ (y r : ℕ). verdict (reported (shown hd) y r) (rest y (hd .numbers .space) s r)) b c)
         go (refuse y q r f) d k = clash (sym k)
 
 pub components-most : (x : ℕ) → componentsOf x ≤ 4

@@ -3,6 +3,7 @@ use Prim.Native.Nat.{ℕ}
 use mathlib.Core.List.{List, [], _∷_, map}
 use lib.ListN.{length}
 use Rattle.algebra.specs.Reader.{Res, ok, refuse}
+use Rattle.algebra.specs.Table.{Verdict, accepted, refused}
 use Rattle.algebra.specs.Text.{Name}
 use Rattle.acb.specs.Grammar.{Tag, none, spot, process}
 use Rattle.acb.specs.Reading.{Numbers, Header, Contents}
@@ -59,28 +60,27 @@ toldHeader h = record {
 
 -- ---- the verdict on a file
 
--- accepted: the header, the tag, the number of records and the place of the first; refused: number and place
-pub data Verdict : Type 0 where
-  accepted : Shown → Tag → ℕ → ℕ → Verdict
-  refused : ℕ → ℕ → Verdict
+-- what is reported of an accepted file: the header, the tag, the number of records and the place of the first
+pub record Report : Type 0 where
+  pub header : Shown
+  pub tag : Tag
+  pub count : ℕ
+  pub first : ℕ
 
-abbrev pub verdict : Res Contents → Verdict
-verdict (ok c q) = accepted (shown (c .header)) (c .tag) (length (c .entries)) (c .first)
-verdict (refuse x p r f) = refused x p
+abbrev pub reported : Shown → ℕ → ℕ → Tag → Report
+reported h n p t = record { header = h; tag = t; count = n; first = p }
 
--- the same of what stands behind a header that was read
-abbrev pub verdictFrom : Shown → ℕ → ℕ → Res Tag → Verdict
-verdictFrom h n p (ok t q) = accepted h t n p
-verdictFrom h n p (refuse x q r f) = refused x q
+abbrev pub report : Contents → Report
+report c = reported (shown (c .header)) (length (c .entries)) (c .first) (c .tag)
 
 abbrev pub toldTag : Ending → Tag
 toldTag vt.None = none
 toldTag vt.Spot = spot
 toldTag vt.Process = process
 
-abbrev pub told : Answer → Verdict
-told (va.Accepted h t n p) = accepted (toldHeader h) (toldTag t) n p
-told (va.Refused x p) = refused x p
+abbrev pub told : Answer → Verdict Report
+told (va.Accepted h t n p) = accepted (reported (toldHeader h) n p (toldTag t))
+told (va.Refused x p) = refused x p 0 0
 
 -- ---- its parts
 

@@ -4,12 +4,13 @@ ghost use Prim.Native.Nat.{_≤_};
 ghost use lib.ListN.{length};
 ghost use mathlib.Core.List.{map};
 ghost use Rattle.algebra.specs.Reader.{done, each, judged, mapRes};
+ghost use Rattle.algebra.specs.Table.{verdict};
 ghost use Rattle.algebra.specs.Text.{place};
 ghost use Rattle.fields.specs.Answer.{toldStep};
 ghost use Rattle.names.specs.Answer.{toldName};
 ghost use Rattle.acb.specs.Reading.{string, colour, isSpace, componentsOf, pageSize, space, opening, strings, numbers, header, closing, acb};
 ghost use Rattle.acb_judge.specs.Parts.{two, offsets, headerFrom, rest, knownTag};
-ghost use Rattle.acb_judge.specs.Answer.{lies, verdict, verdictFrom, told, toldHeader, toldOpening, toldTwo, toldStrings, toldCounts, toldHead, headed, toldKnown, toldClosing};
+ghost use Rattle.acb_judge.specs.Answer.{lies, report, reported, told, toldHeader, toldOpening, toldTwo, toldStrings, toldCounts, toldHead, headed, toldKnown, toldClosing};
 use acb::LIMIT;
 use acb::PROCESS;
 use acb::SIGNATURE;
@@ -363,7 +364,7 @@ fn closing_at(file: &[u8], at: usize) -> Closing
 
 // The records and the closing tag behind a header.
 fn rest_at(file: &[u8], header: Header, count: u16, first: usize) -> Answer
-    ensures { λ r. ⌜ told r ≡ verdictFrom (toldHeader header) count first (rest count (header .space) (now (file .entry)) first) ⌝ }
+    ensures { λ r. ⌜ told r ≡ verdict (reported (toldHeader header) count first) (rest count (header .space) (now (file .entry)) first) ⌝ }
 {
     match colours_at(file, first, count, components_of(header.space)) {
         Step::Refused(number, place) => Answer::Refused { number, place },
@@ -381,7 +382,7 @@ fn rest_at(file: &[u8], header: Header, count: u16, first: usize) -> Answer
 
 // Judges a whole file.
 pub fn judge(file: &[u8]) -> Answer
-    ensures { λ r. ⌜ told r ≡ verdict (acb (now (file .entry))) ⌝ }
+    ensures { λ r. ⌜ told r ≡ verdict report (acb (now (file .entry))) ⌝ }
 {
     if LIMIT < file.len() {
         return Answer::Refused {

@@ -1,73 +1,68 @@
--- Records of a table, pages, and their lines. Assumes nothing.
-use Prim.Native.Nat.{ℕ, zero, suc, _+_, _-_, _*_, _/_, _≤_, _<_, min}
-use mathlib.Core.Path.{_≡_, refl, sym, ap, ap₂, _∙_}
-use mathlib.Core.List.{List, [], _∷_, _++_, append-assoc}
+-- Records, pages, and their lines. Assumes nothing.
+use Prim.Native.Nat.{ℕ, zero, suc, _+_, _-_, _*_, _≤_, _<_}
+use mathlib.Core.Path.{_≡_, refl, sym, ap, ap₂, _∙_, subst}
+use mathlib.Core.List.{List, [], _∷_, _++_, map}
 use mathlib.Core.Bool.{Bool, true}
-use lib.ListN.{length, getD, take, drop, length-append, length-drop, drop-of-length-le, List·getD-append}
-use lib.Seq.{take-append-le, take-all, drop-cons}
+use lib.ListN.{length, drop}
 use lib.Dec.{leb, eqb}
 use borrow.Author.Tests.{le-leb, eq-eqb, ne-eqb}
 use native.Mathlib.Omega.{arith}
-use native.Mathlib.Numerals.{add-one}
-use Rattle.algebra.specs.Numbers.{joined, Bytes}
+use Rattle.algebra.specs.Numbers.{joined, Bytes, All}
 use Rattle.algebra.specs.Reader.{Res, ok, refuse, pick}
-use Rattle.algebra.proofs.Places.{length-joined}
+use Rattle.algebra.specs.Table.{Verdict, accepted, refused as refusedFile, verdict, filled}
 use Rattle.algebra.proofs.Exact.{length-map}
-use Rattle.acb.specs.Grammar.{Tag}
-use Rattle.acb.specs.Reading.{Entry, Contents, componentsOf, acb, colourOf}
+use Rattle.algebra.proofs.Firsts.{all-source}
+use Rattle.acb.specs.Grammar.{Tag, Book, Swatch, Allowed, File, file}
+use Rattle.acb.specs.Reading.{Entry, Contents, componentsOf, acb, colourOf, bookOf}
+use Rattle.acb.specs.Row.{Given, width, givenOf, row}
+use Rattle.acb.proofs.Row.{six-back, four-back}
+use Rattle.acb.proofs.Laws.{components-some, space-components}
 use Rattle.acb.proofs.RoundTrip.{accepted-allowed, thirteen-each}
-use Rattle.acb_judge.specs.Answer.{Shown, shown, Verdict, accepted, refused as refusedFile, verdict}
-use Rattle.acb_read.specs.Table.{row, blank, fourOf, filled}
-use Rattle.acb_show.specs.Pages.{dummies, unitsIn, dummiesIn}
+use Rattle.acb_judge.specs.Answer.{Shown, Report, reported, report}
+use Rattle.acb_read.specs.Table.{entriesOf}
+use Rattle.acb_read.specs.Walked.{walked}
+use Rattle.acb_read.proofs.Walking.{walked-all}
+use Rattle.acb_view.specs.View.{dummy, dummiesIn}
+use Rattle.acb_view.proofs.Listed.{table-dummies}
 use Rattle.walk.specs.Names.{namePart}
 use Rattle.listing.specs.Buffer.{Buffer, putAll}
 use Rattle.listing.specs.Text.{ascii, decimal, word, name, lines, refusal}
 use Rattle.listing.proofs.Putting.{put-append, lines-turn, lines-none}
-use Rattle.acb_list.specs.Listing.{heading, texts, record-text, line, pagesFrom, pages, listing}
+use Rattle.acb_list.specs.Listing.{heading, texts, line, pagesFrom, pages, listing}
+use Rattle.acb_list.specs.Parts.{given-line}
 
--- ---- the records of a table
+-- ---- lines of records
 
-drop-rows : (es : List Entry) (rest : List ℕ) (i : ℕ) → i ≤ length es → drop (12 * i) (joined row es ++ rest) ≡ joined row (drop i es) ++ rest
-unfolding joined
-drop-rows es rest zero h = refl
-drop-rows [] rest (suc i) h = absurd (omega arith)
-drop-rows (e ∷ es) rest (suc i) h =
-    let z : 12 * suc i ≡ suc (suc (suc (suc (suc (suc (suc (suc (suc (suc (suc (suc (12 * i)))))))))))) = omega arith in
-    ap (λ (k : ℕ). drop k (joined row (e ∷ es) ++ rest)) z ∙ drop-rows es rest i (omega arith)
+module _ (f : ℕ → Given → List ℕ) (all o : Buffer) (i : ℕ) {gs : List Given} (inv : all ≡ putAll o (lines f i gs)) where
+  pub line-put : {g : Given} {more : List Given} → gs ≡ g ∷ more → {q : Buffer} → q ≡ putAll o (f i g) → all ≡ putAll q (lines f (i + 1) more)
+  line-put {g} {more} e h = lines-turn f all o i g more (inv ∙ ap (λ (l : List Given). putAll o (lines f i l)) e) h
 
-pub length-rows : (es : List Entry) → length (joined row es) ≡ 12 * length es
-length-rows es = let z : length es * 12 ≡ 12 * length es = omega arith in length-joined row 12 (λ e. refl) es ∙ z
+  pub lines-put : gs ≡ [] → all ≡ o
+  lines-put e = lines-none f all o i (inv ∙ ap (λ (l : List Given). putAll o (lines f i l)) e)
 
--- a row's line, whatever follows the row
-row-text : (s : List ℕ) (n : ℕ) (e : Entry) (more : List ℕ) → n ≤ 4 → record-text s n (row e ++ more) ≡ record-text s n (row e)
-row-text s n e more h =
-    let place : ℕ = e .name .first in
-    let units : ℕ = length (e .name .units) in
-    ap (λ (l : List ℕ). ascii " " ++ name (namePart s (place + 2 * units) 3) ++ joined word l ++ ascii " " ++ name (namePart s place units) ++ ascii "\n") (take-append-le n (fourOf (e .components)) more h)
+-- the records that steps give have the lines of those that were read
+module _ (s : List ℕ) (n : ℕ) (few : n ≤ 4) where
+  same-line : (i : ℕ) (e : Entry) → Swatch n (colourOf e) → given-line s n i (givenOf e) ≡ line s i e
+  same-line i e h =
+      ap₂ (λ (cs ks : List ℕ). decimal i ++ (ascii " " ++ name cs ++ joined word ks ++ ascii " " ++ name (namePart s (e .name .first) (length (e .name .units))) ++ ascii "\n"))
+      (six-back (e .code) (h .code .count)) (four-back n (e .components) few (h .components .count))
 
-module _ (s table : List ℕ) (es : List Entry) (rest : List ℕ) (table-is : table ≡ joined row es ++ rest) (n i p : ℕ) (n-is : n ≡ length es) (p-is : p ≡ 12 * i) where
-  -- the table has room for the record i
-  pub row-there : i < n → length table - p < 12 → ⊥
-  row-there h e = omega (arith, ap length table-is, length-append (joined row es) rest, length-rows es)
+  same-lines : (i j : ℕ) (es : List Entry) → All (λ k e. Swatch n (colourOf e)) j es → lines (given-line s n) i (map givenOf es) ≡ lines (line s) i es
+  unfolding lines
+  same-lines i j [] h = refl
+  same-lines i j (e ∷ es) h = ap₂ (λ (x y : List ℕ). x ++ y) (same-line i e (h .0)) (same-lines (i + 1) (j + 1) es (h .1))
 
-  module _ (h : i < n) where
-    from-row : drop p table ≡ row (getD es i blank) ++ (joined row (drop (suc i) es) ++ rest)
-    unfolding joined
-    from-row =
-        ap₂ drop p-is table-is ∙ drop-rows es rest i (omega arith) ∙ ap (λ (l : List Entry). joined row l ++ rest) (drop-cons es i blank (omega arith))
-        ∙ append-assoc (row (getD es i blank)) (joined row (drop (suc i) es)) rest
+allowed-in : {b : Book} {s : List ℕ} → File b s → Allowed b
+allowed-in (file allowed short) = allowed
 
-    pub row-turn : (m : ℕ) → m ≤ 4 → (all o : Buffer) {q : Buffer} → all ≡ putAll o (lines (line s m) i (drop i es)) → q ≡ putAll o (decimal i ++ record-text s m (take (length table - p) (drop p table)))
-        → all ≡ putAll q (lines (line s m) (i + 1) (drop (i + 1) es))
-    row-turn m few all o {q} e f =
-        let part = take-all (length table - p) (drop p table) (omega (arith, length-drop p table)) ∙ from-row in
-        let same = ap (record-text s m) part ∙ row-text s m (getD es i blank) (joined row (drop (suc i) es) ++ rest) few in
-        lines-turn (line s m) all o i (getD es i blank) (drop (suc i) es) (e ∙ ap (λ (l : List Entry). putAll o (lines (line s m) i l)) (drop-cons es i blank (omega arith)))
-        (f ∙ ap (λ (l : List ℕ). putAll o (decimal i ++ l)) same)
-        ∙ ap (λ (k : ℕ). putAll q (lines (line s m) (i + 1) (drop k es))) (sym (add-one i))
-
-  pub rows-end : (m : ℕ) (all o : Buffer) → n ≤ i → all ≡ putAll o (lines (line s m) i (drop i es)) → all ≡ o
-  rows-end m all o h e = lines-none (line s m) all o i (e ∙ ap (λ (l : List Entry). putAll o (lines (line s m) i l)) (drop-of-length-le es {i = i} (omega arith)))
+read-lines : (s : List ℕ) → Bytes s → {c : Contents} {q : ℕ} → acb s ≡ ok c q
+    → lines (given-line s (componentsOf (c .header .numbers .space))) 0 (walked (c .header .numbers .space) s (c .first) (length (c .entries))) ≡ lines (line s) 0 (c .entries)
+read-lines s bytes {c} {q} e =
+    let x : ℕ = c .header .numbers .space in
+    let a : Allowed (bookOf c) = allowed-in (accepted-allowed bytes e .0) in
+    let w = subst (λ (m : ℕ). All (λ k y. Swatch m y) 0 (map colourOf (c .entries))) (sym (space-components (a .space))) (a .colours) in
+    ap (lines (given-line s (componentsOf x)) 0) (walked-all s e)
+    ∙ same-lines s (componentsOf x) (components-some x .1) 0 0 (c .entries) (all-source colourOf (λ k y. Swatch (componentsOf x) y) 0 (c .entries) w)
 
 -- ---- pages
 
@@ -91,67 +86,50 @@ module _ (f : ℕ → List ℕ) (size : ℕ) (all o : Buffer) where
       e ∙ ap (λ (k : ℕ). putAll o (pagesFrom f size k p left)) z ∙ ap (putAll o) (one-page (count - (p + 1)) p left h)
       ∙ put-append o (f p) (pagesFrom f size (count - (p + 1)) (p + 1) (left - size)) ∙ ap (λ (b : Buffer). putAll b (pagesFrom f size (count - (p + 1)) (p + 1) (left - size))) (sym g)
 
--- ---- which records are dummies, whatever follows the rows
-
-same-units : (u v : ℕ → ℕ) (i n : ℕ) → ((k : ℕ) → k < i + n → u k ≡ v k) → dummies u i n ≡ dummies v i n
-unfolding dummies
-same-units u v i zero h = refl
-same-units u v i (suc n) h = ap₂ (λ (x : ℕ) (l : List Bool). eqb x 0 ∷ l) (h i (omega arith)) (same-units u v (i + 1) n (λ k l. h k (omega arith)))
-
-same-dummies : (es : List Entry) (rest : List ℕ) → dummiesIn (joined row es ++ rest) (length es) ≡ dummiesIn (joined row es) (length es)
-same-dummies es rest =
-    let l : length (joined row es) ≡ 12 * length es = length-rows es in
-    let a : min (length es) (length (joined row es ++ rest) / 12) ≡ length es = omega (arith, length-append (joined row es) rest) in
-    let b : min (length es) (length (joined row es) / 12) ≡ length es = omega arith in
-    ap (dummies (unitsIn (joined row es ++ rest)) 0) a
-    ∙ same-units (unitsIn (joined row es ++ rest)) (unitsIn (joined row es)) 0 (length es) (λ k h. List·getD-append (joined row es) rest 0 (12 * k + 1) (omega arith))
-    ∙ ap (dummies (unitsIn (joined row es)) 0) (sym b)
-
 -- ---- the whole listing, where the table has room for the records of the longest input
 
-module _ (s t u : List ℕ) (room : 60492 ≤ length t) (bytes : Bytes s) (short : length s ≤ 65536) where
-  fits : (c : Contents) (q : ℕ) → acb s ≡ ok c q → leb (12 * length (c .entries)) (length t) ≡ true
-  fits c q e = le-leb (12 * length (c .entries)) (length t) (omega (arith, length-map colourOf (c .entries), thirteen-each (accepted-allowed bytes e .0)))
+module _ (s t u : List ℕ) (room : width * 5041 ≤ length t) (bytes : Bytes s) (short : length s ≤ 65536) where
+  abbrev read : Res Contents → Verdict Report × List ℕ
+  read m = filled width row entriesOf report m t
+
+  fits : (c : Contents) (q : ℕ) → acb s ≡ ok c q → leb (width * length (c .entries)) (length t) ≡ true
+  fits c q e = le-leb (width * length (c .entries)) (length t) (omega (arith, length-map colourOf (c .entries), thirteen-each (accepted-allowed bytes e .0)))
 
   -- what reading into the table says of a book that was read
-  filled-all : (v : Verdict) (c : Contents) (q : ℕ) → acb s ≡ ok c q → (v, u) ≡ filled (ok c q) t → _≡_ {A = Verdict × List ℕ} (v, u) (verdict (ok c q), joined row (c .entries) ++ drop (12 * length (c .entries)) t)
-  filled-all v c q e h = h ∙ ap (λ (b : Bool). pick b (verdict (ok c q), joined row (c .entries) ++ drop (12 * length (c .entries)) t) (refusedFile 11 0, t)) (fits c q e)
+  filled-all : (v : Verdict Report) (c : Contents) (q : ℕ) → acb s ≡ ok c q → (v, u) ≡ read (ok c q) → _≡_ {A = Verdict Report × List ℕ} (v, u) (accepted (report c), joined row (c .entries) ++ drop (width * length (c .entries)) t)
+  filled-all v c q e h = h ∙ ap (λ (b : Bool). pick b (accepted (report c), joined row (c .entries) ++ drop (width * length (c .entries)) t) (refusedFile 11 0 0 0, t)) (fits c q e)
 
-  pub listed-refused : {x p : ℕ} → (refusedFile x p, u) ≡ filled (acb s) t → refusal x p ≡ listing s (acb s)
-  listed-refused {x} {p} e = go (acb s) refl e
+  pub listed-refused : {x p r f : ℕ} → (refusedFile x p r f, u) ≡ read (acb s) → refusal x p ≡ listing s (acb s)
+  listed-refused {x} {p} {r} {f} e = go (acb s) refl e
     where
-      go : (m : Res Contents) → acb s ≡ m → (refusedFile x p, u) ≡ filled m t → refusal x p ≡ listing s m
+      go : (m : Res Contents) → acb s ≡ m → (refusedFile x p r f, u) ≡ read m → refusal x p ≡ listing s m
       go (ok c q) g h =
-          let y = ap (λ (w : Verdict × List ℕ). w .0) (filled-all (refusedFile x p) c q g h) in
+          let y = ap (λ (w : Verdict Report × List ℕ). w .0) (filled-all (refusedFile x p r f) c q g h) in
           let z : _≡_ {A = ℕ} 0 1 = cc in
           absurd (omega arith)
-      go (refuse y k r f) g h =
-          let z : refusedFile x p ≡ refusedFile y k = ap (λ (w : Verdict × List ℕ). w .0) h in
+      go (refuse y k r′ f′) g h =
+          let z : refusedFile x p r f ≡ refusedFile y k r′ f′ = ap (λ (w : Verdict Report × List ℕ). w .0) h in
           let a : x ≡ y = cc in
           let b : p ≡ k = cc in
           ap₂ refusal a b
 
   -- the same text from what the code was told
-  abbrev told-book : Shown → Tag → ℕ → List Entry → List ℕ
-  told-book h g n es = heading h g n ++ texts s (h .texts) ++ lines (line s (componentsOf (h .space))) 0 es ++ pages n (h .size) (h .offset) (dummiesIn u n) ++ ascii "end\n"
+  abbrev told-book : Report → List ℕ → List ℕ
+  told-book b ls = heading (b .header) (b .tag) (b .count) ++ texts s (b .header .texts) ++ ls ++ pages (b .count) (b .header .size) (b .header .offset) (dummiesIn u (b .count)) ++ ascii "end\n"
 
-  pub listed-accepted : {h : Shown} {g : Tag} {n p : ℕ} → (accepted h g n p, u) ≡ filled (acb s) t
-      → (es : List Entry) × (rest : List ℕ) × (u ≡ joined row es ++ rest) × (n ≡ length es) × (told-book h g n es ≡ listing s (acb s))
-  listed-accepted {h} {g} {n} {p} e = go (acb s) refl e
+  abbrev told-lines : Report → List ℕ
+  told-lines b = lines (given-line s (componentsOf (b .header .space))) 0 (walked (b .header .space) s (b .first) (b .count))
+
+  pub listed-accepted : {b : Report} → (accepted b, u) ≡ read (acb s) → told-book b (told-lines b) ≡ listing s (acb s)
+  listed-accepted {b} e = go (acb s) refl e
     where
-      Says : List ℕ → Type 0
-      Says text = (es : List Entry) × (rest : List ℕ) × (u ≡ joined row es ++ rest) × (n ≡ length es) × (told-book h g n es ≡ text)
-
-      go : (m : Res Contents) → acb s ≡ m → (accepted h g n p, u) ≡ filled m t → Says (listing s m)
+      go : (m : Res Contents) → acb s ≡ m → (accepted b, u) ≡ read m → told-book b (told-lines b) ≡ listing s m
       go (ok c q) k f =
-          let w = filled-all (accepted h g n p) c q k f in
-          let y : accepted h g n p ≡ verdict (ok c q) = ap (λ (w : Verdict × List ℕ). w .0) w in
-          let a : h ≡ shown (c .header) = cc in
-          let b : g ≡ c .tag = cc in
-          let d : n ≡ length (c .entries) = cc in
-          let rest : List ℕ = drop (12 * length (c .entries)) t in
-          let table : u ≡ joined row (c .entries) ++ rest = ap (λ (w : Verdict × List ℕ). w .1) w in
-          let ds = ap₂ dummiesIn table d ∙ same-dummies (c .entries) rest in
-          let text : Shown → Tag → ℕ → List Bool → List ℕ = λ h g n ds. heading h g n ++ texts s (h .texts) ++ lines (line s (componentsOf (h .space))) 0 (c .entries) ++ pages n (h .size) (h .offset) ds ++ ascii "end\n" in
-          (c .entries, rest, table, d, ap₂ (λ (h : Shown) (g : Tag). text h g n (dummiesIn u n)) a b ∙ ap₂ (text (shown (c .header)) (c .tag)) d ds)
-      go (refuse x y r z) k f = let w = ap (λ (w : Verdict × List ℕ). w .0) f in let v : _≡_ {A = ℕ} 0 1 = cc in absurd (omega arith)
+          let w = filled-all (accepted b) c q k f in
+          let y : accepted b ≡ accepted (report c) = ap (λ (w : Verdict Report × List ℕ). w .0) w in
+          let a : b ≡ report c = cc in
+          let table : u ≡ joined row (c .entries) ++ drop (width * length (c .entries)) t = ap (λ (w : Verdict Report × List ℕ). w .1) w in
+          let ds : dummiesIn u (length (c .entries)) ≡ map dummy (c .entries) = ap (λ (v : List ℕ). dummiesIn v (length (c .entries))) table ∙ table-dummies (c .entries) (drop (width * length (c .entries)) t) in
+          ap (λ (r : Report). told-book r (told-lines r)) a ∙ ap (told-book (report c)) (read-lines s bytes k)
+          ∙ ap (λ (l : List Bool). heading (report c .header) (c .tag) (length (c .entries)) ++ texts s (report c .header .texts) ++ lines (line s) 0 (c .entries) ++ pages (length (c .entries)) (c .header .numbers .size) (c .header .numbers .offset) l ++ ascii "end\n") ds
+      go (refuse x y r z) k f = let w = ap (λ (w : Verdict Report × List ℕ). w .0) f in let v : _≡_ {A = ℕ} 0 1 = cc in absurd (omega arith)

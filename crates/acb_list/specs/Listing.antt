@@ -1,18 +1,18 @@
 -- What is listed of an ACB file: docs/LISTINGS.md.
-use Prim.Native.Nat.{ℕ, zero, suc, _+_, _-_, _*_}
-use mathlib.Core.List.{List, [], _++_}
+use Prim.Native.Nat.{ℕ, zero, suc, _+_, _-_}
+use mathlib.Core.List.{List, [], _++_, map}
 use mathlib.Core.Bool.{Bool}
-use lib.ListN.{length, getD, take, drop}
+use lib.ListN.{length, getD}
 use lib.Dec.{eqb}
 use Rattle.algebra.specs.Reader.{Res, ok, refuse, pick}
 use Rattle.algebra.specs.Numbers.{joined}
-use Rattle.acb.specs.Reading.{Entry, Contents, componentsOf}
+use Rattle.acb.specs.Reading.{Entry, Contents}
 use Rattle.acb.specs.Grammar.{Tag, none, spot, process}
 use Rattle.acb_judge.specs.Answer.{Shown, shown}
 use Rattle.acb_show.specs.Texts.{shownText}
 use Rattle.acb_show.specs.Answer.{Told, record-is, refused, pageOf}
-use Rattle.acb_show.specs.Pages.{sampleOf, dummiesIn}
-use Rattle.acb_read.specs.Table.{row}
+use Rattle.acb_show.specs.Pages.{sampleOf}
+use Rattle.acb_view.specs.View.{dummy}
 use Rattle.walk.specs.Names.{namePart}
 use Rattle.listing.specs.Text.{ascii, decimal, word, name, lines, refusal}
 
@@ -34,19 +34,15 @@ text s label (place, units) = label ++ name (shownText (namePart s place units))
 abbrev pub texts : List ℕ → List (ℕ × ℕ) → List ℕ
 texts s ts = text s (ascii "title ") (getD ts 0 (0, 0)) ++ text s (ascii "prefix ") (getD ts 1 (0, 0)) ++ text s (ascii "suffix ") (getD ts 2 (0, 0)) ++ text s (ascii "description ") (getD ts 3 (0, 0))
 
--- what stands behind a record's number, by its row of the table: its six code bytes follow its name in the file
-abbrev pub record-text : List ℕ → ℕ → List ℕ → List ℕ
-record-text s n row =
-    ascii " " ++ name (namePart s (getD row 0 0 + 2 * getD row 1 0) 3) ++ joined word (take n (drop 8 row)) ++ ascii " " ++ name (namePart s (getD row 0 0) (getD row 1 0)) ++ ascii "\n"
-
 abbrev pub page : ℕ → Told → List ℕ
 page p (record-is i) = ascii "page" ++ word p ++ word i ++ ascii "\n"
 page p (refused x q) = ascii "page" ++ word p ++ ascii " -\n"
 
 -- ---- the whole
 
-abbrev pub line : List ℕ → ℕ → ℕ → Entry → List ℕ
-line s n i e = decimal i ++ record-text s n (row e)
+-- a record's number, its code, its components, its name
+abbrev pub line : List ℕ → ℕ → Entry → List ℕ
+line s i e = decimal i ++ (ascii " " ++ name (e .code) ++ joined word (e .components) ++ ascii " " ++ name (namePart s (e .name .first) (length (e .name .units))) ++ ascii "\n")
 
 -- the lines of the pages from p on, where `left` records are left for them: a page for each `size` records, and one for those that are fewer; k pages at most
 unfoldable pub pagesFrom : (ℕ → List ℕ) → ℕ → ℕ → ℕ → ℕ → List ℕ
@@ -59,7 +55,7 @@ pages count size offset ds = pick (eqb size 0) [] (pagesFrom (λ p. page p (page
 
 abbrev pub book : List ℕ → Shown → Tag → List Entry → List ℕ
 book s h t es =
-    heading h t (length es) ++ texts s (h .texts) ++ lines (line s (componentsOf (h .space))) 0 es ++ pages (length es) (h .size) (h .offset) (dummiesIn (joined row es) (length es)) ++ ascii "end\n"
+    heading h t (length es) ++ texts s (h .texts) ++ lines (line s) 0 es ++ pages (length es) (h .size) (h .offset) (map dummy es) ++ ascii "end\n"
 
 -- the listing of a file s, by what reading it gives
 abbrev pub listing : List ℕ → Res Contents → List ℕ

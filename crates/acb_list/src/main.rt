@@ -1,24 +1,26 @@
 // Lists the ACB file on standard input: its header, its shown texts, a line a record, a line a page,
 // `end`; or the refusal.
 ghost use mathlib.Core.Path.{_≡_};
-ghost use mathlib.Core.List.{List, _++_};
-ghost use Prim.Native.Nat.{ℕ, _≤_, _<_};
-ghost use lib.ListN.{length, take, drop};
+ghost use Prim.Native.Nat.{_≤_, _<_};
+ghost use lib.ListN.{length, take};
 ghost use Rattle.algebra.specs.Numbers.{joined};
-ghost use Rattle.acb.specs.Reading.{Entry, acb};
+ghost use Rattle.acb.specs.Reading.{componentsOf, acb};
 ghost use Rattle.acb_judge.specs.Answer.{toldText, toldHeader, toldTag};
 ghost use Rattle.acb_show.specs.Answer.{toldPage};
 ghost use Rattle.listing.specs.Buffer.{putAll};
-ghost use Rattle.acb_show.specs.Pages.{dummiesIn};
-ghost use Rattle.acb_read.specs.Table.{row as Table·row};
+ghost use Rattle.acb_read.specs.Answer.{toldSwatch};
+ghost use Rattle.acb_read.specs.Walked.{givenIn, walked};
+ghost use Rattle.acb_view.specs.View.{dummiesIn};
 ghost use Rattle.listing.specs.Text.{word, lines, taken};
-ghost use Rattle.acb_list.specs.Listing.{ending, numbers, heading, texts, record-text, line, pages, listing};
+ghost use Rattle.acb_list.specs.Listing.{ending, numbers, heading, texts, pages, listing};
+ghost use Rattle.acb_list.specs.Parts.{record-text, given-line};
 ghost use Rattle.acb_list.specs.Listing.{text as Listing·text, page as Listing·page};
 use acb::WIDTH;
 use acb_judge::Answer;
 use acb_judge::Header;
 use acb_judge::Tag;
 use acb_judge::Text;
+use acb_read::Swatch;
 use acb_show::Page;
 use listing::finish;
 use listing::put;
@@ -32,6 +34,9 @@ use walk::name_part;
 
 // The longest input that is listed.
 const TAKEN: usize = 65536;
+// The records that the table has room for, more than the longest input holds, since a record has 13
+// bytes or more.
+const RECORDS: usize = 5041;
 
 fn put_tag(out: &mut [u8], n: usize, tag: Tag) -> usize
     ensures { λ r. ⌜ (now (out .exit), r) ≡ putAll (now (out .entry), n) (ending (toldTag tag)) ⌝ }
@@ -89,70 +94,65 @@ fn put_texts(out: &mut [u8], n: usize, file: &[u8], header: Header) -> usize
     put_shown(out, at, b"description ", file, description)
 }
 
-fn number(x: u32) -> u64
+fn number(x: u8) -> u64
     ensures { λ r. ⌜ r ≡ x ⌝ }
 {
     x as u64
 }
 
-// The components of a record, which are number 8 of its row and those behind it.
-fn put_components(out: &mut [u8], n: usize, row: &[u32], components: usize) -> usize
-    requires { ⌜ (12 ≤ length (now row)) × (components ≤ 4) ⌝ }
-    ensures { λ r. ⌜ (now (out .exit), r) ≡ putAll (now (out .entry), n) (joined word (take components (drop 8 (now (row .entry))))) ⌝ }
+// So many of some components, as far as there are.
+fn put_components(out: &mut [u8], n: usize, values: &[u8], components: usize) -> usize
+    ensures { λ r. ⌜ (now (out .exit), r) ≡ putAll (now (out .entry), n) (joined word (take components (now (values .entry)))) ⌝ }
 {
     let mut at = n;
     let mut k: usize = 0;
     while k < components {
-        at = put_word(out, at, number(row[8 + k]));
+        if values.len() <= k {
+            return at;
+        }
+        at = put_word(out, at, number(values[k]));
         k += 1;
     }
     at
 }
 
-fn wide(x: u32) -> usize
-    ensures { λ r. ⌜ (r ≡ x) × (r < 4294967296) ⌝ }
+// What stands in a record's line after its number. The six bytes of the code are listed as those of a name
+// would be.
+fn put_record(out: &mut [u8], n: usize, file: &[u8], swatch: Swatch, components: usize) -> usize
+    ensures { λ r. ⌜ (now (out .exit), r) ≡ putAll (now (out .entry), n) (record-text (now (file .entry)) components (givenIn (toldSwatch swatch))) ⌝ }
 {
-    x as usize
-}
-
-// What stands in a record's line after its number. The code follows the name: its six bytes are
-// listed as three units would be.
-fn put_record(out: &mut [u8], n: usize, file: &[u8], row: &[u32], components: usize) -> usize
-    requires { ⌜ (12 ≤ length (now row)) × (components ≤ 4) ⌝ }
-    ensures { λ r. ⌜ (now (out .exit), r) ≡ putAll (now (out .entry), n) (record-text (now (file .entry)) components (now (row .entry))) ⌝ }
-{
-    let place = wide(row[0]);
-    let units = row[1];
-    let code = place + 2 * wide(units);
+    let code = swatch.code;
+    let values = swatch.components;
+    let name = swatch.name;
+    let lies = acb_read::lies_of(name);
     let mut at = put(out, n, b' ');
-    at = put_name(out, at, name_part(file, code, 3));
-    at = put_components(out, at, row, components);
+    at = put_name(out, at, &code);
+    at = put_components(out, at, &values, components);
     at = put(out, at, b' ');
-    at = put_name(out, at, name_part(file, place, units));
+    at = put_name(out, at, name_part(file, lies.place, lies.units));
     put(out, at, b'\n')
 }
 
+// The `count` records from `first` on, of a book of a space.
 fn put_records(
     out: &mut [u8],
     n: usize,
     file: &[u8],
-    table: &[u32],
+    first: usize,
+    space: u16,
     count: usize,
-    components: usize,
 ) -> usize
-    requires { ⌜ components ≤ 4 ⌝ }
-    ensures { λ r. ⌜ ((es : List Entry) (rest : List ℕ) → now (table .entry) ≡ joined Table·row es ++ rest → count ≡ length es → (now (out .exit), r) ≡ putAll (now (out .entry), n) (lines (line (now (file .entry)) components) 0 es)) ⌝ }
+    ensures { λ r. ⌜ (now (out .exit), r) ≡ putAll (now (out .entry), n) (lines (given-line (now (file .entry)) (componentsOf space)) 0 (walked space (now (file .entry)) first count)) ⌝ }
 {
+    let components = acb_judge::components_of(space);
     let mut at = n;
     let mut i: usize = 0;
-    let mut p: usize = 0;
+    let mut p = first;
     while i < count {
-        if table.len() - p < WIDTH {
-            return at;
-        }
+        let step = acb_read::step_at(file, p, space);
         at = put_number(out, at, i as u64);
-        at = put_record(out, at, file, &table[p..], components);
-        p += WIDTH;
+        at = put_record(out, at, file, step.swatch, components);
+        p = step.next;
         i += 1;
     }
     at
@@ -187,7 +187,7 @@ fn put_pages(out: &mut [u8], n: usize, table: &[u32], count: usize, size: u16, o
     let mut left = count;
     let mut page: usize = 0;
     while 0 < left {
-        let shown = acb_show::page_in(table, count, size, offset, page);
+        let shown = acb_view::page_in(table, count, size, offset, page);
         at = put_page(out, at, page, shown);
         if left <= size as usize {
             return at;
@@ -198,28 +198,27 @@ fn put_pages(out: &mut [u8], n: usize, table: &[u32], count: usize, size: u16, o
     at
 }
 
-// The table has room for 5,041 records, more than the longest input holds, since a record has 13 bytes or more.
 fn put_listing(out: &mut [u8], file: &[u8]) -> usize
     ensures { λ r. ⌜ (now (out .exit), r) ≡ putAll (now (out .entry), 0) (taken 65536 (now (file .entry)) (listing (now (file .entry)) (acb (now (file .entry))))) ⌝ }
 {
     if TAKEN < file.len() {
         return put_refusal(out, 1, 0);
     }
-    let mut table = [0u32; 60492];
+    let mut table = [0u32; WIDTH * RECORDS];
     match acb_read::read(file, &mut table) {
         Answer::Refused { number, place } => put_refusal(out, number, place),
         Answer::Accepted {
             header,
             tag,
             count,
-            first: _,
+            first,
         } => {
-            let components = acb_judge::components_of(header.space);
+            let space = header.space;
             let size = header.size;
             let offset = header.offset;
             let mut at = put_heading(out, header, tag, count);
             at = put_texts(out, at, file, header);
-            at = put_records(out, at, file, &table, count, components);
+            at = put_records(out, at, file, first, space, count);
             at = put_pages(out, at, &table, count, size, offset);
             put_text(out, at, b"end\n")
         }

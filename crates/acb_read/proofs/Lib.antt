@@ -1,4 +1,4 @@
 -- Laws of the definitions of specs/.
 pub mod Records
-pub mod Filling
+pub mod Walking
 pub mod Answers

@@ -1,4 +1,4 @@
--- The numbers of an accepted record are those that stand at its place. Assumes nothing.
+-- What stands at a record's place, and what a step makes of it. Assumes nothing.
 use Prim.Native.Nat.{ℕ, zero, suc, _+_, _*_, _-_, _≤_, _<_}
 use mathlib.Core.Path.{_≡_, refl, sym, ap, ap₂, _∙_, subst}
 use mathlib.Core.List.{List, [], _∷_}
@@ -8,19 +8,23 @@ use lib.ListN.{length, getD, set, List·getD-eq-default}
 use lib.Seq.{sets}
 use borrow.Author.Tests.{eqb-true, eqb-false}
 use native.Mathlib.Omega.{arith}
-use Rattle.algebra.specs.Numbers.{num, nums, Bytes}
-use Rattle.algebra.specs.Reader.{ok, pick, field, orZero, body, each}
+use Rattle.algebra.specs.Numbers.{num, nums}
+use Rattle.algebra.specs.Reader.{Res, ok, refuse, pick, field, body, each}
+use Rattle.algebra.specs.Table.{accepted, refused}
 use Rattle.algebra.specs.Text.{Name}
 use Rattle.algebra.proofs.Laws.{field-in, num-1}
 use Rattle.algebra.proofs.Places.{length-nums, getD-nums}
-use Rattle.algebra.proofs.Inverse.{ok-value, ok-place, then-inv, field-inv, body-inv, each-none, each-inv}
-use Rattle.acb.specs.Reading.{string, Entry, colour}
-use Rattle.acb_read.specs.Table.{row}
-use Rattle.acb_read.specs.Raw.{codeAt, nextRecord, fourthAt, codeRow, rawRow}
+use Rattle.algebra.proofs.Inverse.{clash, ok-value, ok-place, done-inv, then-inv, field-inv, body-inv, each-none, each-inv}
+use Rattle.acb.specs.Reading.{string, Entry, colour, componentsOf}
+use Rattle.acb.proofs.Laws.{components-some}
+use Rattle.acb_judge.proofs.Judging.{string-is, colour-in}
+use Rattle.acb_read.specs.Answer.{Shown, shown}
+use Rattle.acb_read.specs.Walked.{stepped, step}
+use Rattle.acb_read.specs.Parts.{wholeAt}
 
 -- ---- bytes in a row
 
-pub octets-inv : (s : List ℕ) (n i at : ℕ) {vs : List ℕ} {q : ℕ} → each n i (λ k. field 1) s at ≡ ok vs q → (nums 1 n s at ≡ vs) × (at + n ≡ q) × (n ≤ length s - at)
+octets-inv : (s : List ℕ) (n i at : ℕ) {vs : List ℕ} {q : ℕ} → each n i (λ k. field 1) s at ≡ ok vs q → (nums 1 n s at ≡ vs) × (at + n ≡ q) × (n ≤ length s - at)
 unfolding nums
 octets-inv s zero i at e = let z = each-none (λ k. field 1) s i at e in (z .0, omega (arith, z .1), omega arith)
 octets-inv s (suc n) i at e =
@@ -39,24 +43,18 @@ octet-at s n at k vs e h p z =
 octet-past : (s : List ℕ) (n at k : ℕ) (vs : List ℕ) → nums 1 n s at ≡ vs → n ≤ k → getD vs k 0 ≡ 0
 octet-past s n at k vs e h = List·getD-eq-default vs 0 (omega (arith, ap length e, length-nums 1 n s at))
 
-pub ten : {a b c d e f g h j k a′ b′ c′ d′ e′ f′ g′ h′ j′ k′ : ℕ} → a ≡ a′ → b ≡ b′ → c ≡ c′ → d ≡ d′ → e ≡ e′ → f ≡ f′ → g ≡ g′ → h ≡ h′ → j ≡ j′ → k ≡ k′
-    → _≡_ {A = List ℕ} (a ∷ b ∷ c ∷ d ∷ e ∷ f ∷ g ∷ h ∷ j ∷ k ∷ []) (a′ ∷ b′ ∷ c′ ∷ d′ ∷ e′ ∷ f′ ∷ g′ ∷ h′ ∷ j′ ∷ k′ ∷ [])
-ten a b c d e f g h j k = λ i. a i ∷ b i ∷ c i ∷ d i ∷ e i ∷ f i ∷ g i ∷ h i ∷ j i ∷ k i ∷ []
-
-twelve : {a b a′ b′ : ℕ} {l l′ : List ℕ} → a ≡ a′ → b ≡ b′ → l ≡ l′ → _≡_ {A = List ℕ} (a ∷ b ∷ l) (a′ ∷ b′ ∷ l′)
-twelve a b l = λ i. a i ∷ b i ∷ l i
-
 -- ---- a record
 
 -- the record e of n components at a place, and the next place q
 pub record Recorded (s : List ℕ) (n at : ℕ) (e : Entry) (q : ℕ) : Type 0 where
-  pub next : nextRecord n s at ≡ q
-  pub inside : q ≤ length s
   pub first : e .name .first ≡ at + 4
   pub units : length (e .name .units) ≡ num 4 s at
-  pub is-row : row e ≡ rawRow n s at
+  pub start : 4 ≤ length s - at
+  pub next : at + 4 + 2 * num 4 s at + 6 + n ≡ q
+  pub inside : q ≤ length s
+  pub is : (shown (accepted e), q) ≡ wholeAt n s (at + 4) (num 4 s at)
 
-string-inv : (s : List ℕ) (at : ℕ) {nm : Name} {q : ℕ} → string s at ≡ ok nm q → (nm .first ≡ at + 4) × (length (nm .units) ≡ num 4 s at) × (codeAt s at ≡ q) × (4 ≤ length s - at) × (num 4 s at * 2 ≤ length s - (at + 4))
+string-inv : (s : List ℕ) (at : ℕ) {nm : Name} {q : ℕ} → string s at ≡ ok nm q → (nm .first ≡ at + 4) × (length (nm .units) ≡ num 4 s at) × (at + 4 + 2 * num 4 s at ≡ q) × (4 ≤ length s - at) × (num 4 s at * 2 ≤ length s - (at + 4))
 unfolding string
 string-inv s at {nm} {q} e =
     let t = then-inv (field 4 s at) _ e in
@@ -67,50 +65,83 @@ string-inv s at {nm} {q} e =
     let l : length (u .0) ≡ t .0 = ap length (sym (y .1)) ∙ length-nums 2 (t .0) s (t .1) in
     (sym (ap (λ (k : Name). k .first) z) ∙ sym (x .2), sym (ap (λ (k : Name). length (k .units)) z) ∙ l ∙ sym (x .1), omega (arith, x .1, x .2, y .2, ok-place (u .3)), x .0, omega (arith, x .1, x .2, y .0))
 
-pub recorded : (s : List ℕ) (n at : ℕ) {e : Entry} {q : ℕ} → (3 ≤ n) × (n ≤ 4) → at ≤ length s → colour n s at ≡ ok e q → Recorded s n at e q
+pub recorded : (s : List ℕ) (n at : ℕ) {e : Entry} {q : ℕ} → (3 ≤ n) × (n ≤ 4) → colour n s at ≡ ok e q → Recorded s n at e q
 unfolding colour
-recorded s n at {e} {q} few le h =
+recorded s n at {e} {q} few h =
     let a = then-inv (string s at) _ h in
     let x = string-inv s at (a .2) in
     let b = then-inv (body 1 6 s (a .1)) _ (a .3) in
     let y = body-inv 1 s (a .1) 6 (b .2) in
     let c = then-inv (each n 0 (λ i. field 1) s (b .1)) _ (b .3) in
     let z = octets-inv s n 0 (b .1) (c .2) in
-    let p : b .1 ≡ codeAt s at + 6 = omega (arith, x .2, y .2) in
+    let p : b .1 ≡ code + 6 = omega (arith, x .2, y .2) in
     go (a .0) (b .0) (c .0) (x .0) (x .1) (ap (λ (k : ℕ). nums 1 6 s k) (x .2) ∙ y .1) (ap (λ (k : ℕ). nums 1 n s k) (sym p) ∙ z .0)
-    (omega (arith, p, z .1, ok-place (c .3))) (omega (arith, x .2, y .0, y .2, z .1, z .2, x .3, x .4, ok-place (c .3))) (ok-value (c .3))
+    (x .3) (omega (arith, p, z .1, ok-place (c .3))) (omega (arith, x .2, y .0, y .2, z .1, z .2, x .3, x .4, ok-place (c .3))) (ok-value (c .3))
   where
-    fourth : (ks : List ℕ) → nums 1 n s (codeAt s at + 6) ≡ ks → (b : Bool) → eqb n 4 ≡ b → getD ks 3 0 ≡ pick b (getD s (codeAt s at + 9) 0) 0
-    fourth ks v true k = octet-at s n (codeAt s at + 6) 3 ks v (omega (arith, eqb-true n 4 k)) (codeAt s at + 9) (omega arith)
-    fourth ks v false k = octet-past s n (codeAt s at + 6) 3 ks v (let ne = eqb-false n 4 k in omega (arith, few .0, few .1))
+    code : ℕ
+    code = at + 4 + 2 * num 4 s at
+
+    fourth : (ks : List ℕ) → nums 1 n s (code + 6) ≡ ks → (b : Bool) → eqb n 4 ≡ b → getD ks 3 0 ≡ pick b (getD s (code + 9) 0) 0
+    fourth ks v true k = octet-at s n (code + 6) 3 ks v (omega (arith, eqb-true n 4 k)) (code + 9) (omega arith)
+    fourth ks v false k = octet-past s n (code + 6) 3 ks v (let ne = eqb-false n 4 k in omega (arith, few .0, few .1))
 
     go : (nm : Name) (cs ks : List ℕ) → nm .first ≡ at + 4 → length (nm .units) ≡ num 4 s at
-        → nums 1 6 s (codeAt s at) ≡ cs → nums 1 n s (codeAt s at + 6) ≡ ks → nextRecord n s at ≡ q → q ≤ length s → record { name = nm; code = cs; components = ks } ≡ e → Recorded s n at e q
-    go nm cs ks f l u v next inside is =
-        let c : ℕ = codeAt s at in
-        let code : (k : ℕ) → k < 6 → (p : ℕ) → c + k ≡ p → getD cs k 0 ≡ getD s p 0 = λ k h p z. octet-at s 6 c k cs u h p z in
-        let part : (k : ℕ) → k < 3 → (p : ℕ) → c + 6 + k ≡ p → getD ks k 0 ≡ getD s p 0 = λ k h p z. octet-at s n (c + 6) k ks v (omega (arith, few .0)) p z in
+        → nums 1 6 s code ≡ cs → nums 1 n s (code + 6) ≡ ks → 4 ≤ length s - at → code + 6 + n ≡ q → q ≤ length s → record { name = nm; code = cs; components = ks } ≡ e → Recorded s n at e q
+    go nm cs ks f l u v start next inside is =
+        let byte : (k : ℕ) → k < 6 → (p : ℕ) → code + k ≡ p → getD cs k 0 ≡ getD s p 0 = λ k h p z. octet-at s 6 code k cs u h p z in
+        let part : (k : ℕ) → k < 3 → (p : ℕ) → code + 6 + k ≡ p → getD ks k 0 ≡ getD s p 0 = λ k h p z. octet-at s n (code + 6) k ks v (omega (arith, few .0)) p z in
+        let c0 = byte 0 (omega arith) code (omega arith) in
+        let c1 = byte 1 (omega arith) (code + 1) refl in
+        let c2 = byte 2 (omega arith) (code + 2) refl in
+        let c3 = byte 3 (omega arith) (code + 3) refl in
+        let c4 = byte 4 (omega arith) (code + 4) refl in
+        let c5 = byte 5 (omega arith) (code + 5) refl in
+        let k0 = part 0 (omega arith) (code + 6) (omega arith) in
+        let k1 = part 1 (omega arith) (code + 7) (omega arith) in
+        let k2 = part 2 (omega arith) (code + 8) (omega arith) in
+        let k3 = fourth ks v (eqb n 4) refl in
         subst (λ (y : Entry). Recorded s n at y q) is (record {
-          next = next;
-          inside = inside;
           first = f;
           units = l;
-          is-row = twelve f l
-              (ten (code 0 (omega arith) c (omega arith)) (code 1 (omega arith) (c + 1) refl) (code 2 (omega arith) (c + 2) refl) (code 3 (omega arith) (c + 3) refl) (code 4 (omega arith) (c + 4) refl) (code 5 (omega arith) (c + 5) refl)
-              (part 0 (omega arith) (c + 6) (omega arith)) (part 1 (omega arith) (c + 7) (omega arith)) (part 2 (omega arith) (c + 8) (omega arith)) (fourth ks v (eqb n 4) refl));
+          start = start;
+          next = next;
+          inside = inside;
+          is = λ i. (record { name = accepted (f i, l i); code = c0 i ∷ c1 i ∷ c2 i ∷ c3 i ∷ c4 i ∷ c5 i ∷ []; components = k0 i ∷ k1 i ∷ k2 i ∷ k3 i ∷ [] }, sym next i);
         })
 
--- ---- a row as it is loaded
+-- ---- a step
 
-pub loaded : (w : ℕ) (s : List ℕ) (at : ℕ) → w ≤ length s - at → orZero (field w s at) ≡ num w s at
-loaded w s at h = rw (field-in w s at h)
+module _ (x : ℕ) (s : List ℕ) (at : ℕ) where
+  abbrev n : ℕ
+  n = componentsOf x
 
-pub row-loaded : (n : ℕ) (s : List ℕ) (p units a b c d e f g h j k : ℕ) → units ≡ num 4 s p
-    → a ≡ getD s (p + 4 + 2 * units) 0 → b ≡ getD s (p + 4 + 2 * units + 1) 0 → c ≡ getD s (p + 4 + 2 * units + 2) 0 → d ≡ getD s (p + 4 + 2 * units + 3) 0 → e ≡ getD s (p + 4 + 2 * units + 4) 0
-    → f ≡ getD s (p + 4 + 2 * units + 5) 0 → g ≡ getD s (p + 4 + 2 * units + 6) 0 → h ≡ getD s (p + 4 + 2 * units + 7) 0 → j ≡ getD s (p + 4 + 2 * units + 8) 0 → k ≡ fourthAt n s (p + 4 + 2 * units)
-    → _≡_ {A = List ℕ} ((p + 4) ∷ units ∷ a ∷ b ∷ c ∷ d ∷ e ∷ f ∷ g ∷ h ∷ j ∷ k ∷ []) (rawRow n s p)
-row-loaded n s p units a b c d e f g h j k u ea eb ec ed ee ef eg eh ej ek =
-    twelve refl u (ten ea eb ec ed ee ef eg eh ej ek) ∙ ap (λ (z : ℕ). (p + 4) ∷ num 4 s p ∷ codeRow n s (p + 4 + 2 * z)) u
+  -- no record stands there
+  none : ((e : Entry) (q : ℕ) → Recorded s n at e q → ⊥) → (shown (refused 5 0 0 0), at) ≡ step x s at
+  unfolding step
+  none h = go (colour n s at) refl
+    where
+      go : (m : Res Entry) → colour n s at ≡ m → (shown (refused 5 0 0 0), at) ≡ stepped at m
+      go (ok e q) d = absurd (h e q (recorded s n at (components-some x) d))
+      go (refuse y p r f) d = refl
+
+  pub step-short : refuse 2 at 0 0 ≡ field 4 s at → (shown (refused 5 0 0 0), at) ≡ step x s at
+  step-short e = none (λ y q r. clash (e ∙ field-in 4 s at (r .start)))
+
+  module _ (u first : ℕ) (e : ok u first ≡ field 4 s at) where
+    pub step-cut : length s < first + 2 * u + 6 + n → (shown (refused 5 0 0 0), at) ≡ step x s at
+    step-cut h = let f = field-inv 4 s at (sym e) in none (λ y q r. omega (arith, f .1, f .2, r .next, r .inside))
+
+    pub step-whole : first + 2 * u + 6 + n ≤ length s → wholeAt n s first u ≡ step x s at
+    unfolding step
+    step-whole h =
+        let f = field-inv 4 s at (sym e) in
+        let p : ℕ = first + u * 2 in
+        let named = string-is s at u first e p (omega arith) refl in
+        let d = done-inv (colour n s at) (sym (colour-in n s at first u p (sym named) (omega arith))) in
+        let r = recorded s n at (components-some x) (d .1) in
+        ap₂ (λ (a b : ℕ). wholeAt n s a b) (sym (f .2)) (sym (f .1)) ∙ sym (r .is) ∙ sym (ap (stepped at) (d .1))
+
+-- ---- a row as it is stored
 
 -- twelve numbers stored one after the other
 pub twelve-sets : (t : List ℕ) (p a b c d e f g h j k l m : ℕ)
@@ -129,10 +160,3 @@ twelve-sets t p a b c d e f g h j k l m =
     let e10 : p + 10 ≡ suc (suc (suc (suc (suc (suc (suc (suc (suc (suc p))))))))) = omega arith in
     let e11 : p + 11 ≡ suc (suc (suc (suc (suc (suc (suc (suc (suc (suc (suc p)))))))))) = omega arith in
     λ i. set (set (set (set (set (set (set (set (set (set (set (set t p a) (e1 i) b) (e2 i) c) (e3 i) d) (e4 i) e) (e5 i) f) (e6 i) g) (e7 i) h) (e8 i) j) (e9 i) k) (e10 i) l) (e11 i) m
-
-pub fourth-small : (n : ℕ) (s : List ℕ) → Bytes s → (c : ℕ) → fourthAt n s c < 256
-fourth-small n s bytes c = go (eqb n 4)
-  where
-    go : (b : Bool) → pick b (getD s (c + 9) 0) 0 < 256
-    go true = bytes (c + 9)
-    go false = omega arith

@@ -1,31 +1,36 @@
 -- What each answer of the code says.
 use Prim.Native.Nat.{ℕ}
 use mathlib.Core.List.{List, []}
-use lib.ListN.{length}
-use Rattle.acb_read.specs.Table.{sixOf, fourOf, Found, found, missing}
+use Rattle.algebra.specs.Table.{Verdict, accepted, refused}
+use Rattle.acb.specs.Reading.{Entry}
+use Rattle.acb.specs.Row.{Given, taken, givenOf}
 use Rattle.acb_read.specs.declared.NamePlace.{NamePlace}
 use Rattle.acb_read.specs.declared.NamePlace.the-variants as vn
 use Rattle.acb_read.specs.declared.Swatch.{Swatch}
+use Rattle.acb_read.specs.declared.Step.{Step}
 
 -- where a name lies: place and units, or the refusal
-pub data Where : Type 0 where
-  lies : ℕ → ℕ → Where
-  refusal : ℕ → ℕ → Where
-
-abbrev pub toldPlace : NamePlace → Where
-toldPlace (vn.At p u) = lies p u
-toldPlace (vn.Refused x p) = refusal x p
+abbrev pub toldPlace : NamePlace → Verdict (ℕ × ℕ)
+toldPlace (vn.At p u) = accepted (p, u)
+toldPlace (vn.Refused x p) = refused x p 0 0
 
 -- a record as it is told: where its name lies, its code, its components
 pub record Shown : Type 0 where
-  pub name : Where
+  pub name : Verdict (ℕ × ℕ)
   pub code : List ℕ
   pub components : List ℕ
 
 -- on a refusal code and components are zeros
-abbrev pub shown : Found → Shown
-shown (found e) = record { name = lies (e .name .first) (length (e .name .units)); code = sixOf (e .code); components = fourOf (e .components) }
-shown (missing x p) = record { name = refusal x p; code = sixOf []; components = fourOf [] }
+abbrev pub shownBy : Given → Verdict (ℕ × ℕ) → Shown
+shownBy g v = record { name = v; code = g .code; components = g .components }
+
+abbrev pub shown : Verdict Entry → Shown
+shown (accepted e) = shownBy (givenOf e) (accepted (givenOf e .name))
+shown (refused x p r f) = shownBy (taken []) (refused x p r f)
 
 abbrev pub toldSwatch : Swatch → Shown
 toldSwatch w = record { name = toldPlace (w .name); code = w .code; components = w .components }
+
+-- the same, and the next place
+abbrev pub toldStep : Step → Shown × ℕ
+toldStep w = (toldSwatch (w .swatch), w .next)

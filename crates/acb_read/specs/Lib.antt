@@ -1,3 +1,4 @@
 pub mod Table
-pub mod Raw
 pub mod Answer
+pub mod Walked
+pub mod Parts

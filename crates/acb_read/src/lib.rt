@@ -1,19 +1,23 @@
-// ACB colour books: a file's records into a lent table, and a record by its number.
+// ACB colour books: a file's records one after the other, into a lent table, and by their numbers.
 ghost use mathlib.Core.Path.{_≡_};
 ghost use mathlib.Core.List.{_∷_, []};
-ghost use Prim.Native.Nat.{_+_, _*_, _≤_, _<_};
+ghost use Prim.Native.Nat.{_+_, _*_, _^_, _≤_, _<_};
 ghost use lib.ListN.{length};
 ghost use lib.Seq.{sets};
 ghost use Rattle.algebra.specs.Numbers.{joined};
 ghost use Rattle.algebra.specs.Reader.{limit};
-ghost use Rattle.algebra.specs.Store.{part};
+ghost use Rattle.algebra.specs.Table.{refused, filled, recordAt};
 ghost use Rattle.acb.specs.Reading.{acb};
-ghost use Rattle.acb_judge.specs.Answer.{told};
-ghost use Rattle.acb_read.specs.Table.{row, filled, recordAt, missing, nameBytesIn};
-ghost use Rattle.acb_read.specs.Raw.{nextRecord, recordPlace, fourthAt, rawRow, entriesOf, Accepted};
-ghost use Rattle.acb_read.specs.Answer.{shown, toldSwatch};
+ghost use Rattle.acb.specs.Row.{width, numbers, row};
+ghost use Rattle.acb_judge.specs.Answer.{toldText, report, told};
+ghost use Rattle.acb_read.specs.Table.{entriesOf, blank, nameBytesIn};
+ghost use Rattle.acb_read.specs.Answer.{toldPlace, shown, toldSwatch, toldStep};
+ghost use Rattle.acb_read.specs.Walked.{step, passed, liesOf, givenIn, walked};
+ghost use Rattle.acb_read.specs.Parts.{fourthAt, wholeAt};
 use acb::WIDTH;
 use acb_judge::Answer;
+use acb_judge::Text;
+use fields::Number32;
 
 // Where a record's name lies, or a refusal.
 pub enum NamePlace {
@@ -29,34 +33,129 @@ pub struct Swatch {
     pub name: NamePlace,
 }
 
+// A record, and the place behind it.
+pub struct Step {
+    pub swatch: Swatch,
+    pub next: usize,
+}
+
+// ---- records one after the other
+
+// No record: zeros beside the refusal.
+fn none(number: u32, place: usize) -> Swatch
+    ensures { λ r. ⌜ toldSwatch r ≡ shown (refused number place 0 0) ⌝ }
+{
+    Swatch {
+        code: [0; 6],
+        components: [0; 4],
+        name: NamePlace::Refused { number, place },
+    }
+}
+
+// No record stands at `at`.
+fn lost(at: usize) -> Step
+    ensures { λ r. ⌜ toldStep r ≡ (shown (refused 5 0 0 0), at) ⌝ }
+{
+    Step {
+        swatch: none(5, 0),
+        next: at,
+    }
+}
+
+// The fourth component of the record whose code stands at `code`; 0 where it has three.
+fn fourth_at(file: &[u8], code: usize, n: usize) -> u8
+    requires { ⌜ code + 6 + n ≤ length (now file) ⌝ }
+    ensures { λ r. ⌜ r ≡ fourthAt n (now (file .entry)) code ⌝ }
+{
+    if n == 4 {
+        return file[code + 9];
+    }
+    0
+}
+
+// The record of n components whose name has so many units from `first` on, which is whole.
+fn whole_at(file: &[u8], first: usize, units: u32, n: usize) -> Step
+    requires { ⌜ (3 ≤ n) × (first + 2 * units + 6 + n ≤ length (now file)) ⌝ }
+    ensures { λ r. ⌜ toldStep r ≡ wholeAt n (now (file .entry)) first units ⌝ }
+{
+    let code = first + 2 * (units as usize);
+    let last = fourth_at(file, code, n);
+    Step {
+        swatch: Swatch {
+            code: [
+                file[code],
+                file[code + 1],
+                file[code + 2],
+                file[code + 3],
+                file[code + 4],
+                file[code + 5],
+            ],
+            components: [file[code + 6], file[code + 7], file[code + 8], last],
+            name: NamePlace::At {
+                place: first,
+                units,
+            },
+        },
+        next: code + 6 + n,
+    }
+}
+
+// The record at `at` of a book of a space, and the place behind it; 5 and the place itself where no
+// whole record stands there.
+pub fn step_at(file: &[u8], at: usize, space: u16) -> Step
+    ensures { λ r. ⌜ toldStep r ≡ step space (now (file .entry)) at ⌝ }
+{
+    let Number32::Is(units, first) = fields::u32_at(file, at) else {
+        return lost(at);
+    };
+    let n = acb_judge::components_of(space);
+    let left = file.len() - first;
+    if left < 6 + n {
+        return lost(at);
+    }
+    if (left - (6 + n)) / 2 < units as usize {
+        return lost(at);
+    }
+    whole_at(file, first, units, n)
+}
+
+// The place behind i records from `at`.
+pub fn place_at(file: &[u8], at: usize, space: u16, i: usize) -> usize
+    ensures { λ r. ⌜ r ≡ passed space (now (file .entry)) at i ⌝ }
+{
+    let mut p = at;
+    let mut k: usize = 0;
+    while k < i {
+        let step = step_at(file, p, space);
+        p = step.next;
+        k += 1;
+    }
+    p
+}
+
+// ---- the table
+
+// Where a name lies; at place 0 without units on a refusal.
+pub fn lies_of(name: NamePlace) -> Text
+    ensures { λ r. ⌜ toldText r ≡ liesOf (toldPlace name) ⌝ }
+{
+    match name {
+        NamePlace::At { place, units } => Text { place, units },
+        NamePlace::Refused {
+            number: _,
+            place: _,
+        } => Text { place: 0, units: 0 },
+    }
+}
+
 fn wide(x: u8) -> u32
     ensures { λ r. ⌜ (r ≡ x) × (r < 256) ⌝ }
 {
     x as u32
 }
 
-// The place behind the record of n components at `at`.
-fn record_end(file: &[u8], at: usize, n: usize) -> usize
-    requires { ⌜ (nextRecord n (now file) at ≤ length (now file)) × (length (now file) ≤ limit) ⌝ }
-    ensures { λ r. ⌜ r ≡ nextRecord n (now (file .entry)) at ⌝ }
-{
-    let units = fields::u32_or_zero(file, at);
-    at + 4 + 2 * (units as usize) + 6 + n
-}
-
-// The fourth component of the record whose code stands at `code`; 0 where it has three.
-fn fourth_at(file: &[u8], code: usize, n: usize) -> u32
-    requires { ⌜ (code + 6 + n ≤ length (now file)) × (length (now file) ≤ limit) ⌝ }
-    ensures { λ r. ⌜ r ≡ fourthAt n (now (file .entry)) code ⌝ }
-{
-    if n == 4 {
-        return wide(file[code + 9]);
-    }
-    0
-}
-
-// Stores the twelve numbers of a row. The stores stand by themselves, so that their proof knows of
-// nothing else.
+// Stores the numbers of a row; nothing else knows their order. The stores stand by themselves, so that
+// their proof knows of nothing else.
 fn put_numbers(
     table: &mut [u32],
     to: usize,
@@ -73,7 +172,7 @@ fn put_numbers(
     k: u32,
     l: u32,
 )
-    requires { ⌜ to + 12 ≤ length (now table) ⌝ }
+    requires { ⌜ to + width ≤ length (now table) ⌝ }
     ensures { λ _. ⌜ now (table .exit) ≡ sets (now (table .entry)) to (place ∷ units ∷ a ∷ b ∷ c ∷ d ∷ e ∷ f ∷ g ∷ h ∷ k ∷ l ∷ []) ⌝ }
 {
     table[to] = place;
@@ -90,117 +189,51 @@ fn put_numbers(
     table[to + 11] = l;
 }
 
-// Stores the numbers of the record of n components at `at`, and answers the place behind it: all is
-// loaded and only then stored, which compilers join.
-fn put_row(file: &[u8], at: usize, n: usize, table: &mut [u32], to: usize) -> usize
-    requires { ⌜ (3 ≤ n) × (nextRecord n (now file) at ≤ length (now file)) × (length (now file) ≤ limit) × (to + 12 ≤ length (now table)) ⌝ }
-    ensures { λ r. ⌜ (r ≡ nextRecord n (now (file .entry)) at) × (now (table .exit) ≡ sets (now (table .entry)) to (rawRow n (now (file .entry)) at)) ⌝ }
+// Stores a record as a row.
+fn put_row(table: &mut [u32], to: usize, swatch: Swatch)
+    requires { ⌜ (to + width ≤ length (now table)) × (givenIn (toldSwatch swatch) .name .0 < 2 ^ 32) ⌝ }
+    ensures { λ _. ⌜ now (table .exit) ≡ sets (now (table .entry)) to (numbers (givenIn (toldSwatch swatch))) ⌝ }
 {
-    let units = fields::u32_or_zero(file, at);
-    let code = at + 4 + 2 * (units as usize);
-    let a = wide(file[code]);
-    let b = wide(file[code + 1]);
-    let c = wide(file[code + 2]);
-    let d = wide(file[code + 3]);
-    let e = wide(file[code + 4]);
-    let f = wide(file[code + 5]);
-    let g = wide(file[code + 6]);
-    let h = wide(file[code + 7]);
-    let k = wide(file[code + 8]);
-    let l = fourth_at(file, code, n);
+    let name = swatch.name;
+    let code = swatch.code;
+    let ks = swatch.components;
+    let lies = lies_of(name);
     put_numbers(
         table,
         to,
-        (at + 4) as u32,
-        units,
-        a,
-        b,
-        c,
-        d,
-        e,
-        f,
-        g,
-        h,
-        k,
-        l,
+        lies.place as u32,
+        lies.units,
+        wide(code[0]),
+        wide(code[1]),
+        wide(code[2]),
+        wide(code[3]),
+        wide(code[4]),
+        wide(code[5]),
+        wide(ks[0]),
+        wide(ks[1]),
+        wide(ks[2]),
+        wide(ks[3]),
     );
-    code + 6 + n
 }
 
-// Stores the records of an accepted file.
-fn fill(file: &[u8], count: usize, first: usize, n: usize, table: &mut [u32])
-    requires { ⌜ Accepted (acb (now file)) count first n × (12 * count ≤ length (now table)) ⌝ }
-    ensures { λ _. ⌜ now (table .exit) ≡ sets (now (table .entry)) 0 (joined row (entriesOf (acb (now (file .entry))))) ⌝ }
+// Stores the `count` records from `first` on.
+fn fill(file: &[u8], count: usize, first: usize, space: u16, table: &mut [u32])
+    requires { ⌜ (length (now file) ≤ limit) × (width * count ≤ length (now table)) ⌝ }
+    ensures { λ _. ⌜ now (table .exit) ≡ sets (now (table .entry)) 0 (joined numbers (walked space (now (file .entry)) first count)) ⌝ }
 {
     let mut i: usize = 0;
     let mut at = first;
     while i < count {
-        at = put_row(file, at, n, table, WIDTH * i);
+        let step = step_at(file, at, space);
+        put_row(table, WIDTH * i, step.swatch);
+        at = step.next;
         i += 1;
-    }
-}
-
-// The place of record i of an accepted file, which has it.
-fn record_place(file: &[u8], count: usize, first: usize, n: usize, i: usize) -> usize
-    requires { ⌜ Accepted (acb (now file)) count first n × (i < count) ⌝ }
-    ensures { λ r. ⌜ r ≡ recordPlace n (now (file .entry)) first i ⌝ }
-{
-    let mut k: usize = 0;
-    let mut at = first;
-    while k < i {
-        at = record_end(file, at, n);
-        k += 1;
-    }
-    at
-}
-
-fn narrow(x: u32) -> u8
-    requires { ⌜ x < 256 ⌝ }
-    ensures { λ r. ⌜ r ≡ x ⌝ }
-{
-    x as u8
-}
-
-// Record i of an accepted file, which has it.
-fn found(file: &[u8], count: usize, first: usize, n: usize, i: usize) -> Swatch
-    requires { ⌜ Accepted (acb (now file)) count first n × (i < count) ⌝ }
-    ensures { λ r. ⌜ toldSwatch r ≡ shown (recordAt i (acb (now (file .entry)))) ⌝ }
-{
-    let at = record_place(file, count, first, n, i);
-    let units = fields::u32_or_zero(file, at);
-    let code = at + 4 + 2 * (units as usize);
-    let last = narrow(fourth_at(file, code, n));
-    Swatch {
-        code: [
-            file[code],
-            file[code + 1],
-            file[code + 2],
-            file[code + 3],
-            file[code + 4],
-            file[code + 5],
-        ],
-        components: [file[code + 6], file[code + 7], file[code + 8], last],
-        name: NamePlace::At {
-            place: at + 4,
-            units,
-        },
-    }
-}
-
-// No record: zeros beside the refusal.
-fn none(number: u32, place: usize) -> Swatch
-    ensures { λ r. ⌜ toldSwatch r ≡ shown (missing number place) ⌝ }
-{
-    Swatch {
-        code: [0; 6],
-        components: [0; 4],
-        name: NamePlace::Refused { number, place },
     }
 }
 
 // Reads a file into a table, which a refusal leaves as it was. `count` in `Answer` counts the rows.
 pub fn read(file: &[u8], table: &mut [u32]) -> Answer
-    ensures { λ r. ⌜ (told r, now (table .exit)) ≡ filled (acb (now (file .entry))) (now (table .entry)) ⌝ }
+    ensures { λ r. ⌜ (told r, now (table .exit)) ≡ filled width row entriesOf report (acb (now (file .entry))) (now (table .entry)) ⌝ }
 {
     match acb_judge::judge(file) {
         Answer::Refused { number, place } => Answer::Refused { number, place },
@@ -216,13 +249,7 @@ pub fn read(file: &[u8], table: &mut [u32]) -> Answer
                     place: 0,
                 };
             }
-            fill(
-                file,
-                count,
-                first,
-                acb_judge::components_of(header.space),
-                table,
-            );
+            fill(file, count, first, header.space, table);
             Answer::Accepted {
                 header,
                 tag,
@@ -233,9 +260,11 @@ pub fn read(file: &[u8], table: &mut [u32]) -> Answer
     }
 }
 
+// ---- a record by its number
+
 // Record i of a file.
 pub fn record_at(file: &[u8], i: usize) -> Swatch
-    ensures { λ r. ⌜ toldSwatch r ≡ shown (recordAt i (acb (now (file .entry)))) ⌝ }
+    ensures { λ r. ⌜ toldSwatch r ≡ shown (recordAt entriesOf blank i (acb (now (file .entry)))) ⌝ }
 {
     match acb_judge::judge(file) {
         Answer::Refused { number, place } => none(number, place),
@@ -248,20 +277,16 @@ pub fn record_at(file: &[u8], i: usize) -> Swatch
             if count <= i {
                 return none(12, 0);
             }
-            found(
-                file,
-                count,
-                first,
-                acb_judge::components_of(header.space),
-                i,
-            )
+            let at = place_at(file, first, header.space, i);
+            let step = step_at(file, at, header.space);
+            step.swatch
         }
     }
 }
 
 // The bytes of the name of record i, a part of the file; none where `record_at` refuses.
 pub fn name_at(file: &[u8], i: usize) -> &[u8]
-    ensures { λ r. ⌜ now r ≡ nameBytesIn (now (file .entry)) (recordAt i (acb (now (file .entry)))) ⌝ }
+    ensures { λ r. ⌜ now r ≡ nameBytesIn (now (file .entry)) (recordAt entriesOf blank i (acb (now (file .entry)))) ⌝ }
 {
     let swatch = record_at(file, i);
     let name = swatch.name;

@@ -1,4 +1,5 @@
 -- Which fault is found first, and how long the file is, on plain values. Assumes nothing.
+use Rattle.algebra.proofs.Table.{whole-in}
 use Rattle.algebra.proofs.Counted.{counted-end, counted-start, counted-turn}
 use Prim.Native.Nat.{ℕ, zero, suc, _+_, _*_, _-_, _/_, _≤_, _<_}
 use mathlib.Core.Path.{_≡_, refl, sym, ap, _∙_, subst}
@@ -17,19 +18,19 @@ use Rattle.algebra.proofs.Tells.{first-inv, pick-none}
 use Rattle.algebra.proofs.Firsts.{hit, pass}
 use Rattle.acb.specs.Reading.{isSpace}
 use Rattle.acb_judge.specs.Answer.{Shown}
-use Rattle.acb_records.specs.Writing.{Given, givenAt, givens, componentsIn, sizes, stringSize, sizeIn, textFault, byteFault, headFault, colourFault}
-use Rattle.acb_records.specs.Parts.{noRecord, recordIn, start, RecordFits, RecordsFit}
+use Rattle.acb_records.specs.Writing.{componentsIn, sizes, stringSize, sizeIn, textFault, byteFault, headFault, colourFault}
+use Rattle.algebra.specs.Table.{rowAt, rows}
+use Rattle.acb.specs.Row.{Given, width, taken}
+use Rattle.acb_records.specs.Parts.{givenAt, recordIn, start, RecordFits, RecordsFit}
 
 -- ---- a record of a run
 
-pub record-in : (run : List ℕ) (k : ℕ) → k < length run / 12 → recordIn run k ≡ givenAt run k
-record-in run k h = ap (λ (b : Bool). pick b (givenAt run k) noRecord) (lt-ltb _ _ h)
+pub record-whole : (run : List ℕ) (n k : ℕ) → width * n ≤ length run → k < n → recordIn run k ≡ givenAt run k
+record-whole run n k h l = whole-in width taken run (taken []) k (omega arith)
 
-pub record-whole : (run : List ℕ) (n k : ℕ) → 12 * n ≤ length run → k < n → recordIn run k ≡ givenAt run k
-record-whole run n k h l = record-in run k (omega arith)
-
-pub record-out : (run : List ℕ) (k : ℕ) → length run / 12 ≤ k → recordIn run k ≡ noRecord
-record-out run k h = ap (λ (b : Bool). pick b (givenAt run k) noRecord) (le-ltb _ _ h)
+-- the record of a row, with the place of its name taken on its own
+pub row-taken : (run l : List ℕ) (k x : ℕ) → l ≡ rowAt width run k → x ≡ getD l 0 0 → record { name = (x, taken l .name .1); code = taken l .code; components = taken l .components } ≡ givenAt run k
+row-taken run l k x e h = ap (λ (p : ℕ). record { name = (p, taken l .name .1); code = taken l .code; components = taken l .components }) h ∙ ap taken e
 
 -- ---- the first fault of a list, one value after the other
 
@@ -147,11 +148,6 @@ module _ (text : List ℕ) (n : ℕ) (g : Given) where
   unfolding colourFault
   colour-name e = first-inv (textFault text (g .name)) _ e .0
 
--- the record with the place of its name taken on its own
-pub first-at : (run : List ℕ) (k x : ℕ) → x ≡ getD run (12 * k) 0
-    → record { name = (x, getD run (12 * k + 1) 0); code = givenAt run k .code; components = givenAt run k .components } ≡ givenAt run k
-first-at run k x e = ap (λ (p : ℕ). record { name = (p, getD run (12 * k + 1) 0); code = givenAt run k .code; components = givenAt run k .components }) e
-
 -- a record's size by the size of what stands behind its name
 abbrev pub toned : ℕ → Given → ℕ
 toned t g = stringSize (g .name) + t
@@ -160,14 +156,14 @@ toned t g = stringSize (g .name) + t
 
 module _ (run : List ℕ) where
   module _ (f : Given → ℕ) where
-    pub sizes-start : (n : ℕ) → sizes f (givens run (n - 0) 0) ≡ sizes f (givens run n 0)
+    pub sizes-start : (n : ℕ) → sizes f (rows width taken run (n - 0) 0) ≡ sizes f (rows width taken run n 0)
     sizes-start n = ap (sizes f) (sym (counted-start (givenAt run) n))
 
-    pub sizes-turn : (n i : ℕ) → i < n → sizes f (givens run (n - i) i) ≡ f (givenAt run i) + sizes f (givens run (n - (i + 1)) (i + 1))
+    pub sizes-turn : (n i : ℕ) → i < n → sizes f (rows width taken run (n - i) i) ≡ f (givenAt run i) + sizes f (rows width taken run (n - (i + 1)) (i + 1))
     unfolding sizes
     sizes-turn n i h = ap (sizes f) (counted-turn (givenAt run) n i h)
 
-    pub sizes-end : (n i : ℕ) → n ≤ i → sizes f (givens run (n - i) i) ≡ 0
+    pub sizes-end : (n i : ℕ) → n ≤ i → sizes f (rows width taken run (n - i) i) ≡ 0
     unfolding sizes
     sizes-end n i h = ap (sizes f) (counted-end (givenAt run) n i h)
 
@@ -189,11 +185,11 @@ module _ {A : Type 0} (f : A → ℕ) (a b c d : A) where
 -- ---- what storing asks
 
 module _ (text run : List ℕ) (m : ℕ) where
-  pub fit-start : (n at room : ℕ) → RecordsFit text m (givens run n 0) at room → RecordsFit text m (givens run (n - 0) 0) at room
+  pub fit-start : (n at room : ℕ) → RecordsFit text m (rows width taken run n 0) at room → RecordsFit text m (rows width taken run (n - 0) 0) at room
   fit-start n at room e = subst (λ (gs : List Given). RecordsFit text m gs at room) (counted-start (givenAt run) n) e
 
-  module _ (n i at room : ℕ) (h : i < n) (e : RecordsFit text m (givens run (n - i) i) at room) where
-    none : (colourFault text m (givenAt run i) ≡ 0) × (faults (colourFault text m) (givens run (n - (i + 1)) (i + 1)) ≡ 0)
+  module _ (n i at room : ℕ) (h : i < n) (e : RecordsFit text m (rows width taken run (n - i) i) at room) where
+    none : (colourFault text m (givenAt run i) ≡ 0) × (faults (colourFault text m) (rows width taken run (n - (i + 1)) (i + 1)) ≡ 0)
     unfolding faults
     none = first-inv _ _ (sym (ap (faults (colourFault text m)) (counted-turn (givenAt run) n i h)) ∙ e .sound)
 
@@ -202,7 +198,7 @@ module _ (text run : List ℕ) (m : ℕ) where
         let t = sizes-turn run (sizeIn m) n i h in
         record { least = e .least; most = e .most; inside = omega (arith, e .inside); sound = none .0 }
 
-    pub fit-rest : (q : ℕ) → q ≡ at + sizeIn m (givenAt run i) → RecordsFit text m (givens run (n - (i + 1)) (i + 1)) q room
+    pub fit-rest : (q : ℕ) → q ≡ at + sizeIn m (givenAt run i) → RecordsFit text m (rows width taken run (n - (i + 1)) (i + 1)) q room
     fit-rest q w =
         let t = sizes-turn run (sizeIn m) n i h in
         record { least = e .least; most = e .most; inside = omega (arith, e .inside); sound = none .1 }

@@ -16,7 +16,8 @@ use Rattle.acb.specs.Grammar.{Ending}
 use Rattle.acb.specs.Reading.{componentsOf}
 use Rattle.acb.specs.Faults.{endingFault}
 use Rattle.acb_judge.specs.Answer.{Shown}
-use Rattle.acb_records.specs.Writing.{Given, sizes, sizeIn, headSize, size, headFault, colourFault, fault, needed}
+use Rattle.acb_records.specs.Writing.{sizes, sizeIn, headSize, size, headFault, colourFault, fault, needed}
+use Rattle.acb.specs.Row.{Given}
 use Rattle.acb_records.specs.Parts.{RecordsFit}
 use Rattle.acb.proofs.Laws.{components-some}
 

@@ -14,7 +14,8 @@ use Rattle.acb.specs.Reading.{isSpace, componentsOf}
 use Rattle.acb.specs.Faults.{endingFault}
 use Rattle.acb_judge.specs.Answer.{Shown}
 use Rattle.acb_records.specs.Refusals.{refusals}
-use Rattle.acb_records.specs.Writing.{Given, componentsIn, bookIn, size, textFault, headFault, byteFault, colourFault, fault, needed, written}
+use Rattle.acb_records.specs.Writing.{componentsIn, bookIn, size, textFault, headFault, byteFault, colourFault, fault, needed, written}
+use Rattle.acb.specs.Row.{Given}
 
 text-numbered : (text : List ℕ) (l : ℕ × ℕ) → Fault refusals (textFault text l)
 text-numbered text l = body-fault (among refl) 2 (l .1) text (l .0)

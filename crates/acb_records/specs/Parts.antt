@@ -1,31 +1,34 @@
 -- What the parts of judging and storing take.
-use Prim.Native.Nat.{ℕ, _+_, _/_, _≤_}
+use Prim.Native.Nat.{ℕ, _+_, _≤_}
 use mathlib.Core.Path.{_≡_}
 use mathlib.Core.List.{List, [], _∷_, _++_, map}
-use lib.Dec.{ltb, eqb}
-use lib.ListN.{length}
+use lib.Dec.{eqb}
+use lib.ListN.{getD}
 use Rattle.algebra.specs.Numbers.{be, joined}
 use Rattle.algebra.specs.Reader.{pick}
 use Rattle.algebra.specs.Faults.{faults}
 use Rattle.acb.specs.Grammar.{stringBytes}
 use Rattle.acb_judge.specs.Answer.{Shown, toldText}
 use Rattle.acb_records.specs.declared.Record.{Record}
-use Rattle.acb_records.specs.Writing.{Given, givenAt, unitsIn, sizes, stringSize, sizeIn, textFault, colourFault}
+use Rattle.acb_records.specs.Writing.{unitsIn, sizes, stringSize, sizeIn, textFault, colourFault}
+use Rattle.algebra.specs.Table.{rowAt, whole}
+use Rattle.acb.specs.Row.{Given, width, taken}
+
+-- record k of a run
+abbrev pub givenAt : List ℕ → ℕ → Given
+givenAt run k = taken (rowAt width run k)
+
+-- the same, all zeros where the run does not have it whole
+abbrev pub recordIn : List ℕ → ℕ → Given
+recordIn run k = getD (whole width taken run) k (taken [])
 
 -- a record that was taken out of a run
-abbrev pub givenOf : Record → Given
-givenOf r = record {
+abbrev pub toldRecord : Record → Given
+toldRecord r = record {
   name = toldText (r .name);
   code = r .a ∷ r .b ∷ r .c ∷ r .d ∷ r .e ∷ r .f ∷ [];
   components = r .k ∷ r .l ∷ r .m ∷ r .n ∷ [];
 }
-
--- record k of a run, all zeros where the run does not have it whole
-abbrev pub noRecord : Given
-noRecord = record { name = (0, 0); code = 0 ∷ 0 ∷ 0 ∷ 0 ∷ 0 ∷ 0 ∷ []; components = 0 ∷ 0 ∷ 0 ∷ 0 ∷ [] }
-
-abbrev pub recordIn : List ℕ → ℕ → Given
-recordIn run k = pick (ltb k (length run / 12)) (givenAt run k) noRecord
 
 -- where a string begins; 0 for one of no units, whose place may be any
 abbrev pub start : ℕ × ℕ → ℕ

@@ -1,40 +1,17 @@
 -- Writing a header, the records of a run of numbers and a tag: what is judged first, and the bytes that are made.
-use Prim.Native.Nat.{ℕ, _+_, _*_, _/_}
+use Prim.Native.Nat.{ℕ, _+_, _*_}
 use mathlib.Core.List.{List, [], _∷_, map}
-use lib.ListN.{length, getD, take}
+use lib.ListN.{length, take}
 use lib.Dec.{leb, ltb}
-use Rattle.algebra.specs.Numbers.{counted, nums}
+use Rattle.algebra.specs.Numbers.{nums}
 use Rattle.algebra.specs.Reader.{pick, body, numberOf, limit}
 use Rattle.algebra.specs.Faults.{firstOf, faults}
 use Rattle.algebra.specs.Writing.{Outcome, needs, writes}
 use Rattle.acb.specs.Grammar.{Colour, Tag, none, spot, process, Ending, tagged, other, Book, fileBytes}
 use Rattle.acb.specs.Reading.{isSpace, componentsOf}
+use Rattle.acb.specs.Row.{Given}
 use Rattle.acb.specs.Faults.{endingFault}
 use Rattle.acb_judge.specs.Answer.{Shown}
-
--- ---- the records of a run
-
--- a record as it is given: its name by place and number of units in lent bytes, its code, four components
-pub record Given : Type 0 where
-  pub name : ℕ × ℕ
-  pub code : List ℕ
-  pub components : List ℕ
-
--- record k of a run, twelve numbers to a record
-abbrev pub givenAt : List ℕ → ℕ → Given
-givenAt run k = record {
-  name = (getD run (12 * k) 0, getD run (12 * k + 1) 0);
-  code = getD run (12 * k + 2) 0 ∷ getD run (12 * k + 3) 0 ∷ getD run (12 * k + 4) 0 ∷ getD run (12 * k + 5) 0 ∷ getD run (12 * k + 6) 0 ∷ getD run (12 * k + 7) 0 ∷ [];
-  components = getD run (12 * k + 8) 0 ∷ getD run (12 * k + 9) 0 ∷ getD run (12 * k + 10) 0 ∷ getD run (12 * k + 11) 0 ∷ [];
-}
-
--- the n records from record k
-abbrev pub givens : List ℕ → ℕ → ℕ → List Given
-givens run n k = counted (givenAt run) n k
-
--- as many records as fit whole in a run
-abbrev pub given : List ℕ → List Given
-given run = givens run (length run / 12) 0
 
 -- ---- the book that is given: a spare component is no part of it
 

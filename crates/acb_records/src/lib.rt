@@ -1,6 +1,7 @@
 // ACB colour books: a header and the records of a run of numbers, judged as the reader would judge the file made of
 // them.
 ghost use mathlib.Core.Path.{_≡_};
+ghost use mathlib.Core.List.{[]};
 ghost use Prim.Native.Nat.{_+_, _*_, _≤_, _<_};
 ghost use lib.Dec.{leb};
 ghost use lib.ListN.{length};
@@ -8,9 +9,11 @@ ghost use Rattle.algebra.specs.Reader.{pick, limit};
 ghost use Rattle.algebra.specs.Faults.{faults};
 ghost use Rattle.algebra.specs.Writing.{bytes, refused};
 ghost use Rattle.acb_judge.specs.Answer.{toldText, toldHeader, toldTag};
-ghost use Rattle.acb_records.specs.Writing.{givenAt, givens, given, componentsIn, stringSize, tagSize, endingSize, headSize, size, textFault, byteFault, headFault, colourFault, fault, needed};
+ghost use Rattle.acb_records.specs.Writing.{componentsIn, stringSize, tagSize, endingSize, headSize, size, textFault, byteFault, headFault, colourFault, fault, needed};
+ghost use Rattle.algebra.specs.Table.{rows, whole};
+ghost use Rattle.acb.specs.Row.{width, taken};
 ghost use Rattle.fields.specs.Answer.{toldWritten};
-ghost use Rattle.acb_records.specs.Parts.{givenOf, noRecord, recordIn};
+ghost use Rattle.acb_records.specs.Parts.{givenAt, toldRecord, recordIn};
 ghost use Rattle.acb_records.specs.Answer.{toldEnding};
 use acb::WIDTH;
 use acb_judge::Header;
@@ -41,30 +44,33 @@ pub enum Ending {
 
 // Record k of a run that has it; nothing else knows how a run lays it out.
 fn whole_at(run: &[u32], k: usize) -> Record
-    requires { ⌜ 12 * k + 12 ≤ length (now run) ⌝ }
-    ensures { λ r. ⌜ givenOf r ≡ givenAt (now (run .entry)) k ⌝ }
+    requires { ⌜ width * k + width ≤ length (now run) ⌝ }
+    ensures { λ r. ⌜ toldRecord r ≡ givenAt (now (run .entry)) k ⌝ }
 {
-    let first = fields::wide(run[WIDTH * k]);
+    let at = WIDTH * k;
+    let end = at + WIDTH;
+    let row = &run[at..end];
+    let place = fields::wide(row[0]);
     Record {
         name: Text {
-            place: first,
-            units: run[WIDTH * k + 1],
+            place,
+            units: row[1],
         },
-        a: run[WIDTH * k + 2],
-        b: run[WIDTH * k + 3],
-        c: run[WIDTH * k + 4],
-        d: run[WIDTH * k + 5],
-        e: run[WIDTH * k + 6],
-        f: run[WIDTH * k + 7],
-        k: run[WIDTH * k + 8],
-        l: run[WIDTH * k + 9],
-        m: run[WIDTH * k + 10],
-        n: run[WIDTH * k + 11],
+        a: row[2],
+        b: row[3],
+        c: row[4],
+        d: row[5],
+        e: row[6],
+        f: row[7],
+        k: row[8],
+        l: row[9],
+        m: row[10],
+        n: row[11],
     }
 }
 
 fn no_record() -> Record
-    ensures { λ r. ⌜ givenOf r ≡ noRecord ⌝ }
+    ensures { λ r. ⌜ toldRecord r ≡ taken [] ⌝ }
 {
     Record {
         name: Text { place: 0, units: 0 },
@@ -83,7 +89,7 @@ fn no_record() -> Record
 
 // Record k of a run, all zeros where the run does not have it whole.
 pub fn record_at(run: &[u32], k: usize) -> Record
-    ensures { λ r. ⌜ givenOf r ≡ recordIn (now (run .entry)) k ⌝ }
+    ensures { λ r. ⌜ toldRecord r ≡ recordIn (now (run .entry)) k ⌝ }
 {
     if run.len() / WIDTH <= k {
         return no_record();
@@ -132,8 +138,8 @@ fn head_size(header: Header) -> usize
 
 // How many bytes the file of n records takes. It stops at the limit, so that no sum passes 64 bits.
 fn size_of(header: Header, ending: Ending, run: &[u32], n: usize) -> Written
-    requires { ⌜ 12 * n ≤ length (now run) ⌝ }
-    ensures { λ r. ⌜ toldWritten r ≡ pick (leb (size (toldHeader header) (toldEnding ending) (givens (now (run .entry)) n 0)) limit) (bytes (size (toldHeader header) (toldEnding ending) (givens (now (run .entry)) n 0))) (refused 1 0) ⌝ }
+    requires { ⌜ width * n ≤ length (now run) ⌝ }
+    ensures { λ r. ⌜ toldWritten r ≡ pick (leb (size (toldHeader header) (toldEnding ending) (rows width taken (now (run .entry)) n 0)) limit) (bytes (size (toldHeader header) (toldEnding ending) (rows width taken (now (run .entry)) n 0))) (refused 1 0) ⌝ }
 {
     let tones = 6 + acb_judge::components_of(header.space);
     let mut total = head_size(header) + ending_size(ending);
@@ -212,7 +218,7 @@ fn head_fault(text: &[u8], header: Header, count: usize) -> u32
 
 // The fault of a record's code.
 fn code_fault(given: Record) -> u32
-    ensures { λ r. ⌜ r ≡ faults byteFault (givenOf given .code) ⌝ }
+    ensures { λ r. ⌜ r ≡ faults byteFault (toldRecord given .code) ⌝ }
 {
     if 255 < given.a {
         return 5;
@@ -238,7 +244,7 @@ fn code_fault(given: Record) -> u32
 // The first fault of the n components of a record: three or four.
 fn components_fault(given: Record, n: usize) -> u32
     requires { ⌜ (3 ≤ n) × (n ≤ 4) ⌝ }
-    ensures { λ r. ⌜ r ≡ faults byteFault (componentsIn n (givenOf given)) ⌝ }
+    ensures { λ r. ⌜ r ≡ faults byteFault (componentsIn n (toldRecord given)) ⌝ }
 {
     if 255 < given.k {
         return 5;
@@ -261,7 +267,7 @@ fn components_fault(given: Record, n: usize) -> u32
 // The first fault of a record of n components.
 fn colour_fault(text: &[u8], given: Record, n: usize) -> u32
     requires { ⌜ (3 ≤ n) × (n ≤ 4) ⌝ }
-    ensures { λ r. ⌜ r ≡ colourFault (now (text .entry)) n (givenOf given) ⌝ }
+    ensures { λ r. ⌜ r ≡ colourFault (now (text .entry)) n (toldRecord given) ⌝ }
 {
     let x = text_fault(text, given.name);
     if x != 0 {
@@ -276,8 +282,8 @@ fn colour_fault(text: &[u8], given: Record, n: usize) -> u32
 
 // The first fault of the count records of n components.
 fn colours_fault(run: &[u32], text: &[u8], count: usize, n: usize) -> u32
-    requires { ⌜ (12 * count ≤ length (now run)) × (3 ≤ n) × (n ≤ 4) ⌝ }
-    ensures { λ r. ⌜ r ≡ faults (colourFault (now (text .entry)) n) (givens (now (run .entry)) count 0) ⌝ }
+    requires { ⌜ (width * count ≤ length (now run)) × (3 ≤ n) × (n ≤ 4) ⌝ }
+    ensures { λ r. ⌜ r ≡ faults (colourFault (now (text .entry)) n) (rows width taken (now (run .entry)) count 0) ⌝ }
 {
     let mut i: usize = 0;
     while i < count {
@@ -292,7 +298,7 @@ fn colours_fault(run: &[u32], text: &[u8], count: usize, n: usize) -> u32
 
 // The exact length that writing needs, or the refusal.
 pub fn write_length(header: Header, ending: Ending, records: &[u32], text: &[u8]) -> Written
-    ensures { λ r. ⌜ toldWritten r ≡ needed (now (text .entry)) (toldHeader header) (toldEnding ending) (given (now (records .entry))) ⌝ }
+    ensures { λ r. ⌜ toldWritten r ≡ needed (now (text .entry)) (toldHeader header) (toldEnding ending) (whole width taken (now (records .entry))) ⌝ }
 {
     let n = records.len() / WIDTH;
     let Written::Bytes(size) = size_of(header, ending, records, n) else {

@@ -15,7 +15,8 @@ use Rattle.acb.specs.Reading.{Contents, bookOf, acb}
 use Rattle.acb_judge.specs.Answer.{Shown, shown}
 use Rattle.acb.specs.Faults.{bookFault}
 use Rattle.acb.proofs.RoundTrip.{accepted-allowed, allowed-written}
-use Rattle.acb_records.specs.Writing.{Given, size, fault, needed, written}
+use Rattle.acb_records.specs.Writing.{size, fault, needed, written}
+use Rattle.acb.specs.Row.{Given}
 use Rattle.acb_roundtrip.specs.Tie.{made, tabled}
 use Rattle.acb_roundtrip.proofs.Fitting.{length-made, fault-same}
 use Rattle.acb_roundtrip.proofs.Records.{given-book, given-fit}

@@ -20,7 +20,8 @@ use Rattle.acb.specs.Grammar.{Ending, tagged, other, String, Swatch}
 use Rattle.acb.specs.Reading.{isSpace, componentsOf}
 use Rattle.acb_judge.specs.Answer.{Shown}
 use Rattle.acb.specs.Faults.{endingFault, EndingFits, bookFault, BookFits}
-use Rattle.acb_records.specs.Writing.{Given, unitsIn, componentsIn, colourIn, bookIn, sizes, stringSize, sizeIn, size, textFault, byteFault, headFault, colourFault, fault}
+use Rattle.acb_records.specs.Writing.{unitsIn, componentsIn, colourIn, bookIn, sizes, stringSize, sizeIn, size, textFault, byteFault, headFault, colourFault, fault}
+use Rattle.acb.specs.Row.{Given}
 use Rattle.acb_records.proofs.Judging.{text-in, text-cut}
 use Rattle.acb.proofs.Laws.{components-some}
 use Rattle.acb_write.proofs.Puts.{Shaped, length-file}

@@ -4,9 +4,7 @@ use mathlib.Core.Path.{_≡_, refl, sym, ap, ap₂, _∙_, subst}
 use mathlib.Core.List.{List, [], _∷_, _++_, map}
 use lib.Dec.{leb}
 use lib.ListN.{length, getD, take}
-use lib.Seq.{getD-append-add}
 use native.Mathlib.Omega.{arith}
-use native.Mathlib.Nat.{add-zero}
 use Rattle.algebra.specs.Numbers.{counted, nums, joined, Bytes, All}
 use Rattle.algebra.specs.Reader.{Reader, ok, field, body, each, limit}
 use Rattle.algebra.specs.Text.{Name}
@@ -14,34 +12,15 @@ use Rattle.algebra.proofs.Places.{length-nums}
 use Rattle.algebra.proofs.Inverse.{then-inv, pick-inv, body-inv, ok-value, each-none, each-inv}
 use Rattle.algebra.proofs.Exact.{all-map, all-both, length-map}
 use Rattle.algebra.proofs.Firsts.{all-image, all-source}
-use Rattle.algebra.proofs.Rows.{rows-back, length-rows, all-fit}
 use Rattle.acb.specs.Grammar.{Colour, tagged, Book, String, Swatch, Allowed, File, file}
 use Rattle.acb.specs.Reading.{string, Entry, colour, componentsOf, Header, strings, numbers, opening, header, closing, Contents, book, acb, colourOf, bookOf}
 use Rattle.acb_judge.specs.Answer.{lies, shown}
+use Rattle.acb.proofs.Row.{six-back, four-back}
 use Rattle.acb.proofs.Laws.{components-some, space-components, space-small}
 use Rattle.acb.proofs.RoundTrip.{accepted-allowed}
-use Rattle.acb_read.specs.Table.{sixOf, fourOf, row}
-use Rattle.acb_records.specs.Writing.{givenAt, givens, given, unitsIn, colourIn, bookIn}
-use Rattle.acb_roundtrip.specs.Tie.{taken, tabled, TextFitting, Fitting, BookFitting}
-
--- ---- a run made of rows gives the records
-
-row-back : (p : List ℕ) (k : ℕ) (e : Entry) (more : List ℕ) → length p ≡ 12 * k → Unit {0} → givenAt (p ++ (row e ++ more)) k ≡ taken e
-row-back p k e more l u =
-    let y : List ℕ = row e ++ more in
-    let s : List ℕ = p ++ y in
-    let at : (i : ℕ) → getD s (12 * k + i) 0 ≡ getD y i 0 = λ i. ap (λ (n : ℕ). getD s (n + i) 0) (sym l) ∙ getD-append-add p y i 0 in
-    let at0 : getD s (12 * k) 0 ≡ e .name .first = ap (λ (n : ℕ). getD s n 0) (sym (add-zero (12 * k))) ∙ at 0 in
-    λ i. record {
-      name = (at0 i, at 1 i);
-      code = at 2 i ∷ at 3 i ∷ at 4 i ∷ at 5 i ∷ at 6 i ∷ at 7 i ∷ [];
-      components = at 8 i ∷ at 9 i ∷ at 10 i ∷ at 11 i ∷ [];
-    }
-
-pub given-rows : (es : List Entry) → given (joined row es) ≡ tabled es
-given-rows es =
-    let n : length (joined row es) / 12 ≡ length es = omega (arith, length-rows 12 row givenAt taken (λ e. Unit {0}) (λ e u. refl) row-back es (all-fit 0 es)) in
-    ap (λ (k : ℕ). givens (joined row es) k 0) n ∙ rows-back 12 row givenAt taken (λ e. Unit {0}) (λ e u. refl) row-back es (all-fit 0 es)
+use Rattle.acb_records.specs.Writing.{unitsIn, colourIn, bookIn}
+use Rattle.acb.specs.Row.{givenOf}
+use Rattle.acb_roundtrip.specs.Tie.{tabled, TextFitting, Fitting, BookFitting}
 
 -- ---- the strings and names of an accepted file lie in it
 
@@ -100,44 +79,22 @@ module _ (s : List ℕ) where
 
 -- ---- the book of an accepted file, as it is given
 
-six-back : (cs : List ℕ) → length cs ≡ 6 → sixOf cs ≡ cs
-six-back [] h = absurd (omega arith)
-six-back (a ∷ []) h = absurd (omega arith)
-six-back (a ∷ b ∷ []) h = absurd (omega arith)
-six-back (a ∷ b ∷ c ∷ []) h = absurd (omega arith)
-six-back (a ∷ b ∷ c ∷ d ∷ []) h = absurd (omega arith)
-six-back (a ∷ b ∷ c ∷ d ∷ e ∷ []) h = absurd (omega arith)
-six-back (a ∷ b ∷ c ∷ d ∷ e ∷ f ∷ []) h = refl
-six-back (a ∷ b ∷ c ∷ d ∷ e ∷ f ∷ g ∷ more) h = absurd (omega arith)
-
--- four components of a table are those of the space, and then spare
-four-take : (ks : List ℕ) → length ks ≤ 4 → take (length ks) (fourOf ks) ≡ ks
-four-take [] h = refl
-four-take (a ∷ []) h = refl
-four-take (a ∷ b ∷ []) h = refl
-four-take (a ∷ b ∷ c ∷ []) h = refl
-four-take (a ∷ b ∷ c ∷ d ∷ []) h = refl
-four-take (a ∷ b ∷ c ∷ d ∷ e ∷ more) h = absurd (omega arith)
-
-four-back : (n : ℕ) (ks : List ℕ) → n ≤ 4 → length ks ≡ n → take n (fourOf ks) ≡ ks
-four-back n ks h l = ap (λ (j : ℕ). take j (fourOf ks)) (sym l) ∙ four-take ks (omega arith)
-
 module _ (s : List ℕ) (n : ℕ) (few : n ≤ 4) where
   abbrev Sound : Entry → Type 0
   Sound e = NameIn s (e .name) × Swatch n (colourOf e)
 
-  colour-back : (e : Entry) → Sound e → colourIn s n (taken e) ≡ colourOf e
+  colour-back : (e : Entry) → Sound e → colourIn s n (givenOf e) ≡ colourOf e
   colour-back e h =
       let a = h .0 .are in
       let b = six-back (e .code) (h .1 .code .count) in
       let c = four-back n (e .components) few (h .1 .components .count) in
       λ i. record { name = a i; code = b i; components = c i }
 
-  colours-back : (i : ℕ) (es : List Entry) → All (λ k e. Sound e) i es → map (colourIn s n) (map taken es) ≡ map colourOf es
+  colours-back : (i : ℕ) (es : List Entry) → All (λ k e. Sound e) i es → map (colourIn s n) (map givenOf es) ≡ map colourOf es
   colours-back i [] h = refl
   colours-back i (e ∷ es) h = ap₂ (λ (x : Colour) (xs : List Colour). x ∷ xs) (colour-back e (h .0)) (colours-back (i + 1) es (h .1))
 
-  taken-fits : (e : Entry) → Sound e → Fitting s n (taken e)
+  taken-fits : (e : Entry) → Sound e → Fitting s n (givenOf e)
   taken-fits e h = record {
     named = record { counted = h .1 .name .counted; inside = h .0 .inside };
     six = refl;
@@ -197,8 +154,8 @@ module _ (s : List ℕ) (bytes : Bytes s) {c : Contents} {q : ℕ} (e : acb s �
     strings = all-image lies (λ k l. TextFitting s l) 0 (c .header .texts)
         (all-map (λ k nm. NameIn s nm × String (nm .units)) (λ k nm. TextFitting s (lies nm)) (λ k nm h. texts-fit s nm (h .0) (h .1)) 0 (c .header .texts)
         (all-both (λ k nm. NameIn s nm) (λ k nm. String (nm .units)) 0 (c .header .texts) (all-lie s e .0) (all-source (λ (nm : Name). nm .units) (λ k us. String us) 0 (c .header .texts) (allowed .texts))));
-    count = subst (λ (k : ℕ). k < 256 ^ 2) (length-map colourOf (c .entries) ∙ sym (length-map taken (c .entries))) (allowed .count);
-    records = all-image taken (λ k g. Fitting s n g) 0 (c .entries)
-        (all-map (λ k x. NameIn s (x .name) × Swatch n (colourOf x)) (λ k x. Fitting s n (taken x)) (λ k x h. taken-fits s n (components-some (c .header .numbers .space) .1) x h) 0 (c .entries) sounds);
+    count = subst (λ (k : ℕ). k < 256 ^ 2) (length-map colourOf (c .entries) ∙ sym (length-map givenOf (c .entries))) (allowed .count);
+    records = all-image givenOf (λ k g. Fitting s n g) 0 (c .entries)
+        (all-map (λ k x. NameIn s (x .name) × Swatch n (colourOf x)) (λ k x. Fitting s n (givenOf x)) (λ k x h. taken-fits s n (components-some (c .header .numbers .space) .1) x h) 0 (c .entries) sounds);
     tag = tt;
   }

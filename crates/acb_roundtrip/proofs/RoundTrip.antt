@@ -16,44 +16,45 @@ use Rattle.acb.specs.Reading.{Entry, Contents, componentsOf, acb}
 use Rattle.acb_judge.specs.Answer.{Shown, shown}
 use Rattle.acb.specs.Faults.{EndingFits, bookFault}
 use Rattle.acb.proofs.RoundTrip.{allowed-reads, written-number, written-allowed}
-use Rattle.acb_read.specs.Table.{row}
-use Rattle.acb_records.specs.Writing.{Given, given, colourIn, bookIn, sizeIn, size, colourFault, fault, needed, written}
+use Rattle.acb_records.specs.Writing.{colourIn, bookIn, sizeIn, size, colourFault, fault, needed, written}
+use Rattle.algebra.specs.Table.{whole}
+use Rattle.acb.specs.Row.{Given, width, taken, row}
 use Rattle.acb_write.proofs.Puts.{givens-shaped}
 use Rattle.acb_roundtrip.specs.Tie.{Headed, Holds, made, tabled, BookFitting, Alike, AllAlike}
 use Rattle.acb_roundtrip.proofs.Fitting.{length-made, book-fits, fault-same, faultless-fit}
-use Rattle.acb_roundtrip.proofs.Records.{given-rows}
+use Rattle.acb.proofs.Row.{rows-given}
 use Rattle.acb_roundtrip.proofs.Back.{written-inv, needs-all, writes-all}
 use Rattle.acb_roundtrip.proofs.Spare.{colour-alike, fault-alike, size-alike, needed-alike, written-alike}
 
 -- ---- what is written reads back
 
 -- a header, records and a tag without a fault are made into a file that holds their book, and that is as long as the writer says
-pub written-reads : (text : List ℕ) (h : Shown) (t : Ending) (run : List ℕ) → Bytes text → Headed h → fault text h t (given run) ≡ 0
-    → Holds (made text h t (given run)) (bookIn text h t (given run)) × (length (made text h t (given run)) ≡ size h t (given run))
+pub written-reads : (text : List ℕ) (h : Shown) (t : Ending) (run : List ℕ) → Bytes text → Headed h → fault text h t (whole width taken run) ≡ 0
+    → Holds (made text h t (whole width taken run)) (bookIn text h t (whole width taken run)) × (length (made text h t (whole width taken run)) ≡ size h t (whole width taken run))
 written-reads text h t run b hd e =
-    let gs : List Given = given run in
+    let gs : List Given = whole width taken run in
     let d : Book = bookIn text h t gs in
     let fit = faultless-fit text h t gs hd (givens-shaped run _ 0 0) e in
     let x = test-holds (leb (length (fileBytes d)) limit) (bookFault d) 1 (omega arith) (sym (fault-same text h t gs fit) ∙ e) in
     (allowed-reads (written-allowed d (book-fits text h t gs fit b) (x .1) (leb-true (length (fileBytes d)) limit (x .0))), length-made text h t gs fit)
 
 -- where the writer says that it wrote n bytes, the first n bytes are a file that holds the book that was given, and the rest is as it was
-pub written-holds : (text : List ℕ) (h : Shown) (t : Ending) (run out out′ : List ℕ) (n : ℕ) → Bytes text → Headed h → written text h t (given run) out ≡ (bytes n, out′)
-    → (n ≤ length out′) × (length out′ ≡ length out) × Holds (take n out′) (bookIn text h t (given run)) × (drop n out′ ≡ drop n out)
+pub written-holds : (text : List ℕ) (h : Shown) (t : Ending) (run out out′ : List ℕ) (n : ℕ) → Bytes text → Headed h → written text h t (whole width taken run) out ≡ (bytes n, out′)
+    → (n ≤ length out′) × (length out′ ≡ length out) × Holds (take n out′) (bookIn text h t (whole width taken run)) × (drop n out′ ≡ drop n out)
 written-holds text h t run out out′ n b hd e =
-    let file : List ℕ = made text h t (given run) in
-    let i = written-inv text h t (given run) out e in
+    let file : List ℕ = made text h t (whole width taken run) in
+    let i = written-inv text h t (whole width taken run) out e in
     let r = written-reads text h t run b hd (i .none) in
     let l : length file ≡ n = r .1 ∙ i .size-is in
     let m : length out′ ≡ length out = ap length (i .is) ∙ length-append file (drop n out) ∙ omega (arith, length-drop n out, i .inside) in
     let k : take n out′ ≡ file = ap (take n) (i .is) ∙ take-at file (drop n out) n l in
-    (omega (arith, i .inside), m, subst (λ (f : List ℕ). Holds f (bookIn text h t (given run))) (sym k) (r .0), ap (drop n) (i .is) ∙ drop-at file (drop n out) n l)
+    (omega (arith, i .inside), m, subst (λ (f : List ℕ). Holds f (bookIn text h t (whole width taken run))) (sym k) (r .0), ap (drop n) (i .is) ∙ drop-at file (drop n out) n l)
 
 -- ---- what is read is written back
 
 -- the table that reading fills gives the records of the file
-pub read-gives : (es : List Entry) → given (joined row es) ≡ tabled es
-read-gives es = given-rows es
+pub read-gives : (es : List Entry) → whole width taken (joined row es) ≡ tabled es
+read-gives es = rows-given es
 
 -- the header, the records and the tag of an accepted file, written back with the file itself for their strings and names, are the file, byte for byte
 pub read-writes : (s : List ℕ) → Bytes s → {c : Contents} {q : ℕ} → acb s ≡ ok c q

@@ -11,7 +11,8 @@ use Rattle.acb.specs.Grammar.{Colour, Ending, fileBytes}
 use Rattle.acb.specs.Reading.{componentsOf}
 use Rattle.acb.specs.Faults.{endingFault}
 use Rattle.acb_judge.specs.Answer.{Shown}
-use Rattle.acb_records.specs.Writing.{Given, unitsIn, colourIn, sizes, sizeIn, endingSize, headSize, textFault, byteFault, headFault, colourFault, fault, needed, written}
+use Rattle.acb_records.specs.Writing.{unitsIn, colourIn, sizes, sizeIn, endingSize, headSize, textFault, byteFault, headFault, colourFault, fault, needed, written}
+use Rattle.acb.specs.Row.{Given}
 use Rattle.acb_roundtrip.specs.Tie.{Alike, AllAlike}
 
 module _ (text : List ℕ) (n : ℕ) where

@@ -9,8 +9,8 @@ use Rattle.acb.specs.Grammar.{Ending, Book, fileBytes}
 use Rattle.acb.specs.Faults.{EndingFits}
 use Rattle.acb.specs.Reading.{Entry, Contents, bookOf, componentsOf, acb}
 use Rattle.acb_judge.specs.Answer.{Shown}
-use Rattle.acb_read.specs.Table.{sixOf, fourOf}
-use Rattle.acb_records.specs.Writing.{Given, componentsIn, bookIn}
+use Rattle.acb_records.specs.Writing.{componentsIn, bookIn}
+use Rattle.acb.specs.Row.{Given, givenOf}
 
 -- four strings and numbers of 16 bits, as in a `Header`
 pub record Headed (h : Shown) : Type 0 where
@@ -30,12 +30,8 @@ made text h t gs = fileBytes (bookIn text h t gs)
 
 -- ---- the records of a file that was read, as they are given to a writer
 
--- a spare place is 0
-abbrev pub taken : Entry → Given
-taken e = record { name = (e .name .first, length (e .name .units)); code = sixOf (e .code); components = fourOf (e .components) }
-
 abbrev pub tabled : List Entry → List Given
-tabled es = map taken es
+tabled es = map givenOf es
 
 -- ---- what is given and fits its fields; it may be refused all the same
 

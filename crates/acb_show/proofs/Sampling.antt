@@ -3,13 +3,13 @@ use Prim.Native.Nat.{ℕ, zero, suc, _+_, _-_, _*_, _/_, _≤_, _<_, min}
 use mathlib.Core.Path.{_≡_, refl, sym, ap, ap₂, _∙_}
 use mathlib.Core.List.{List, [], _∷_}
 use mathlib.Core.Bool.{Bool, true, false}
-use lib.Dec.{ltb, eqb}
-use lib.ListN.{length, getD, take, drop}
-use borrow.Author.Tests.{eq-eqb, ne-eqb, lt-ltb, le-ltb, ltb-true}
+use lib.Dec.{ltb}
+use lib.ListN.{length, getD, take, drop, length-drop}
+use borrow.Author.Tests.{lt-ltb, le-ltb, ltb-true}
 use native.Mathlib.Omega.{arith}
-use native.Mathlib.Nat.{add-zero, sub-zero, mul-le-mul-right, div-mul-le-self, lt-div-mul-add}
+use native.Mathlib.Nat.{mul-le-mul-right, div-mul-le-self, lt-div-mul-add}
 use Rattle.algebra.specs.Reader.{pick}
-use Rattle.acb_show.specs.Pages.{none, shown, numbered, sampleFrom, sampleOf, records, absent, pageRange, dummies}
+use Rattle.acb_show.specs.Pages.{none, shown, numbered, sampleFrom, sampleOf, records, absent, pageRange}
 use Rattle.acb_show.specs.Answer.{Told, record-is, refused, pageOf}
 
 -- ---- of some records the one numbered k, or the last, or x where there is none
@@ -30,41 +30,37 @@ unfolding numbered orLast
 numbered-or-last k [] = refl
 numbered-or-last k (i ∷ more) = sym (some-numbered (refused 12 0) k i more)
 
--- ---- a loop over the records from i to before `end`, where u says the units of a record's name:
+-- ---- a loop over records, of which the first is numbered i, by whether each is a dummy:
 -- `all` is what the whole page shows, x what it shows so far, and k more records are to pass
 
-module _ (u : ℕ → ℕ) (end : ℕ) where
-  -- the records from i on that are no dummies
-  abbrev pub left : ℕ → List ℕ
-  left i = shown i (dummies u i (end - i))
+pub sample-start : (first k : ℕ) (ds : List Bool) (x : Told) → x ≡ refused 12 0 → pageOf (sampleFrom first k ds) ≡ orLast x k (shown first ds)
+sample-start first k ds x e = numbered-or-last k _ ∙ ap (λ (y : Told). orLast y k (shown first ds)) (sym e)
 
-  pub sample-start : (first k : ℕ) (x : Told) → x ≡ refused 12 0 → pageOf (sampleFrom first k (dummies u first (end - first))) ≡ orLast x k (left first)
-  sample-start first k x e = numbered-or-last k _ ∙ ap (λ (y : Told). orLast y k (left first)) (sym e)
-
-  module _ (all x : Told) (k i : ℕ) (inv : all ≡ orLast x k (left i)) where
-    turn : i < end → all ≡ orLast x k (pick (eqb (u i) 0) (left (i + 1)) (i ∷ left (i + 1)))
-    unfolding shown dummies
-    turn h = let e : end - i ≡ suc (end - (i + 1)) = omega arith in inv ∙ ap (λ (n : ℕ). orLast x k (shown i (dummies u i n))) e
-
+module _ (all x : Told) (k i : ℕ) {ds : List Bool} (inv : all ≡ orLast x k (shown i ds)) where
+  module _ {d : Bool} {more : List Bool} (is : ds ≡ d ∷ more) where
     by : Bool → Told
-    by b = orLast x k (pick b (left (i + 1)) (i ∷ left (i + 1)))
+    by b = orLast x k (pick b (shown (i + 1) more) (i ∷ shown (i + 1) more))
+
+    turn : all ≡ by d
+    unfolding shown by
+    turn = inv ∙ ap (λ (l : List Bool). orLast x k (shown i l)) is
 
     -- a dummy is passed over
-    pub sample-dummy : i < end → u i ≡ 0 → all ≡ orLast x k (left (i + 1))
+    pub sample-dummy : d ≡ true → all ≡ orLast x k (shown (i + 1) more)
     unfolding by
-    sample-dummy h d = turn h ∙ ap by (eq-eqb _ _ d)
+    sample-dummy h = turn ∙ ap by h
 
-    pub sample-found : i < end → (u i ≡ 0 → ⊥) → k ≡ 0 → all ≡ record-is i
+    pub sample-found : d ≡ false → k ≡ 0 → all ≡ record-is i
     unfolding orLast by
-    sample-found h d e = turn h ∙ ap by (ne-eqb _ _ d) ∙ rw e
+    sample-found h e = turn ∙ ap by h ∙ rw e
 
-    pub sample-on : i < end → (u i ≡ 0 → ⊥) → (k ≡ 0 → ⊥) → all ≡ orLast (record-is i) (k - 1) (left (i + 1))
+    pub sample-on : d ≡ false → (k ≡ 0 → ⊥) → all ≡ orLast (record-is i) (k - 1) (shown (i + 1) more)
     unfolding orLast by
-    sample-on h d e = let n : k ≡ suc (k - 1) = omega arith in turn h ∙ ap by (ne-eqb _ _ d) ∙ ap (λ (m : ℕ). orLast x m (i ∷ left (i + 1))) n
+    sample-on h e = let n : k ≡ suc (k - 1) = omega arith in turn ∙ ap by h ∙ ap (λ (m : ℕ). orLast x m (i ∷ shown (i + 1) more)) n
 
-    pub sample-end : end ≤ i → all ≡ x
-    unfolding orLast shown dummies
-    sample-end h = let n : end - i ≡ 0 = omega arith in inv ∙ ap (λ (m : ℕ). orLast x k (shown i (dummies u i m))) n
+  pub sample-end : ds ≡ [] → all ≡ x
+  unfolding orLast shown
+  sample-end h = inv ∙ ap (λ (l : List Bool). orLast x k (shown i l)) h
 
 -- ---- which records a page has
 
@@ -95,52 +91,37 @@ module _ (n size p : ℕ) where
 
 -- ---- the sample of a page, from its records
 
-module _ (u : ℕ → ℕ) where
-  pub length-dummies : (i n : ℕ) → length (dummies u i n) ≡ n
-  unfolding dummies
-  length-dummies i zero = refl
-  length-dummies i (suc n) = ap suc (length-dummies (i + 1) n)
+take-most : {A : Type 0} (k : ℕ) (l : List A) → take k l ≡ take (min k (length l)) l
+take-most zero l = let e : min 0 (length l) ≡ 0 = omega arith in rw e
+take-most (suc k) [] = let e : min (suc k) 0 ≡ 0 = omega arith in rw e
+take-most (suc k) (a ∷ l) = let e : min (suc k) (suc (length l)) ≡ suc (min k (length l)) = omega arith in rw e (ap (λ m. a ∷ m) (take-most k l))
 
-  drop-dummies : (k i n : ℕ) → drop k (dummies u i n) ≡ dummies u (i + k) (n - k)
-  unfolding dummies
-  drop-dummies zero i n = rw (add-zero, sub-zero)
-  drop-dummies (suc k) i zero = let e : 0 - suc k ≡ 0 = omega arith in rw e
-  drop-dummies (suc k) i (suc n) =
-      let a : i + 1 + k ≡ i + suc k = omega arith in
-      let b : n - k ≡ suc n - suc k = omega arith in
-      drop-dummies k (i + 1) n ∙ ap₂ (λ (x y : ℕ). dummies u x y) a b
+module _ (n size offset p : ℕ) (ds : List Bool) (counts : length ds ≡ n) where
+  abbrev end : ℕ
+  end = p * size + min size (n - p * size)
 
-  take-dummies : (k i n : ℕ) → take k (dummies u i n) ≡ dummies u i (min k n)
-  unfolding dummies
-  take-dummies zero i n = let e : min 0 n ≡ 0 = omega arith in rw e
-  take-dummies (suc k) i zero = let e : min (suc k) 0 ≡ 0 = omega arith in rw e
-  take-dummies (suc k) i (suc n) = let e : min (suc k) (suc n) ≡ suc (min k n) = omega arith in rw e (ap (λ (l : List Bool). eqb (u i) 0 ∷ l) (take-dummies k (i + 1) n))
+  sample-by : (b : Bool) → ltb (p * size) n ≡ b → sampleOf size offset p ds ≡ pick b (sampleFrom (p * size) offset (take (min size (n - p * size)) (drop (p * size) ds))) none
+  unfolding sampleOf
+  sample-by b e =
+      let l : length (drop (p * size) ds) ≡ n - p * size = length-drop (p * size) ds ∙ ap (λ (k : ℕ). k - p * size) counts in
+      let t : take size (drop (p * size) ds) ≡ take (min size (n - p * size)) (drop (p * size) ds) = take-most size (drop (p * size) ds) ∙ ap (λ (k : ℕ). take (min size k) (drop (p * size) ds)) l in
+      ap₂ (λ (x : Bool) (y : List Bool). pick x (sampleFrom (p * size) offset y) none) (ap (ltb (p * size)) counts ∙ e) t
 
-  module _ (n size offset p : ℕ) where
-    sample-by : (b : Bool) → ltb (p * size) n ≡ b → sampleOf size offset p (dummies u 0 n) ≡ pick b (sampleFrom (p * size) offset (dummies u (p * size) (min size (n - p * size)))) none
-    unfolding sampleOf
-    sample-by b e =
-        let z : 0 + p * size ≡ p * size = omega arith in
-        let d : take size (drop (p * size) (dummies u 0 n)) ≡ dummies u (p * size) (min size (n - p * size)) =
-        ap (take size) (drop-dummies (p * size) 0 n) ∙ take-dummies size (0 + p * size) (n - p * size) ∙ ap (λ (x : ℕ). dummies u x (min size (n - p * size))) z in
-        ap₂ (λ (x : Bool) (ds : List Bool). pick x (sampleFrom (p * size) offset ds) none) (ap (ltb (p * size)) (length-dummies 0 n) ∙ e) d
+  -- no such page, or a page of the records from `first` to before `end`
+  pub page-absent : pageRange n size p ≡ absent → sampleOf size offset p ds ≡ none
+  page-absent e = go (ltb (p * size) n) refl e
+    where
+      go : (b : Bool) → ltb (p * size) n ≡ b → pick b (records (p * size) end) absent ≡ absent → sampleOf size offset p ds ≡ none
+      go true h k = let z : _≡_ {A = ℕ} 0 1 = cc in absurd (omega arith)
+      go false h k = sample-by false h
 
-    -- no such page, or a page of the records from `first` to before `end`
-    pub page-absent : pageRange n size p ≡ absent → sampleOf size offset p (dummies u 0 n) ≡ none
-    page-absent e = go (ltb (p * size) n) refl e
-      where
-        go : (b : Bool) → ltb (p * size) n ≡ b → pick b (records (p * size) (p * size + min size (n - p * size))) absent ≡ absent → sampleOf size offset p (dummies u 0 n) ≡ none
-        go true h k = let z : _≡_ {A = ℕ} 0 1 = cc in absurd (omega arith)
-        go false h k = sample-by false h
-
-    pub page-there : {first end : ℕ} → pageRange n size p ≡ records first end → sampleOf size offset p (dummies u 0 n) ≡ sampleFrom first offset (dummies u first (end - first))
-    page-there {first} {end} e = go (ltb (p * size) n) refl e
-      where
-        go : (b : Bool) → ltb (p * size) n ≡ b → pick b (records (p * size) (p * size + min size (n - p * size))) absent ≡ records first end
-            → sampleOf size offset p (dummies u 0 n) ≡ sampleFrom first offset (dummies u first (end - first))
-        go true h k =
-            let f : p * size ≡ first = cc in
-            let g : p * size + min size (n - p * size) ≡ end = cc in
-            let m : min size (n - p * size) ≡ end - p * size = omega arith in
-            sample-by true h ∙ ap (λ (x : ℕ). sampleFrom (p * size) offset (dummies u (p * size) x)) m ∙ ap (λ (x : ℕ). sampleFrom x offset (dummies u x (end - x))) f
-        go false h k = let z : _≡_ {A = ℕ} 0 1 = cc in absurd (omega arith)
+  pub page-there : {first stop : ℕ} → pageRange n size p ≡ records first stop → sampleOf size offset p ds ≡ sampleFrom first offset (take (stop - first) (drop first ds))
+  page-there {first} {stop} e = go (ltb (p * size) n) refl e
+    where
+      go : (b : Bool) → ltb (p * size) n ≡ b → pick b (records (p * size) end) absent ≡ records first stop → sampleOf size offset p ds ≡ sampleFrom first offset (take (stop - first) (drop first ds))
+      go true h k =
+          let f : p * size ≡ first = cc in
+          let g : end ≡ stop = cc in
+          let m : min size (n - p * size) ≡ stop - p * size = omega arith in
+          sample-by true h ∙ ap (λ (x : ℕ). sampleFrom (p * size) offset (take x (drop (p * size) ds))) m ∙ ap (λ (x : ℕ). sampleFrom x offset (take (stop - x) (drop x ds))) f
+      go false h k = let z : _≡_ {A = ℕ} 0 1 = cc in absurd (omega arith)

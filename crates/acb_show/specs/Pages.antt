@@ -1,8 +1,8 @@
 -- Pages of a book: which record a page shows, by which records are dummies.
-use Prim.Native.Nat.{ℕ, zero, suc, _+_, _-_, _*_, _/_, min}
+use Prim.Native.Nat.{ℕ, _+_, _-_, _*_, min}
 use mathlib.Core.List.{List, [], _∷_}
 use mathlib.Core.Bool.{Bool}
-use lib.Dec.{ltb, eqb}
+use lib.Dec.{ltb}
 use lib.ListN.{length, getD, take, drop}
 use Rattle.algebra.specs.Reader.{pick}
 
@@ -36,18 +36,3 @@ pub data Range : Type 0 where
 
 abbrev pub pageRange : ℕ → ℕ → ℕ → Range
 pageRange count size p = pick (ltb (p * size) count) (records (p * size) (p * size + min size (count - p * size))) absent
-
--- ---- which records are dummies
-
--- n records from i on, where `units` says how many units the name of a record has: a dummy has none
-unfoldable pub dummies : (ℕ → ℕ) → ℕ → ℕ → List Bool
-dummies units i zero = []
-dummies units i (suc n) = eqb (units i) 0 ∷ dummies units (i + 1) n
-
--- the same of a table, of 12 numbers a record, the second of which is the units of its name
-abbrev pub unitsIn : List ℕ → ℕ → ℕ
-unitsIn t i = getD t (12 * i + 1) 0
-
--- of `count` records those that the table holds whole
-abbrev pub dummiesIn : List ℕ → ℕ → List Bool
-dummiesIn t count = dummies (unitsIn t) 0 (min count (length t / 12))

@@ -6,7 +6,6 @@ mod text;
 pub use component::shown_component;
 pub use page::Page;
 pub use page::Records;
-pub use page::page_in;
 pub use page::page_records;
 pub use text::shown_start;
 pub use text::shown_text;

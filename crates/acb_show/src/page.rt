@@ -1,10 +1,8 @@
-// Pages of a book: the record that a page shows.
+// Pages of a book: the records of a page, and the answer that says which of them it shows.
 ghost use mathlib.Core.Path.{_≡_};
-ghost use Prim.Native.Nat.{_-_, _*_, _≤_, min};
-ghost use lib.ListN.{length};
-ghost use Rattle.acb_show.specs.Pages.{sampleFrom, sampleOf, pageRange, dummies, unitsIn, dummiesIn};
-ghost use Rattle.acb_show.specs.Answer.{refused, toldPage, pageOf, toldRecords};
-use acb::WIDTH;
+ghost use Prim.Native.Nat.{min};
+ghost use Rattle.acb_show.specs.Pages.{pageRange};
+ghost use Rattle.acb_show.specs.Answer.{toldRecords};
 
 // The number of the record that a page shows, or the refusal.
 pub enum Page {
@@ -16,15 +14,6 @@ pub enum Page {
 pub enum Records {
     Are(usize, usize),
     Absent,
-}
-
-fn none() -> Page
-    ensures { λ r. ⌜ toldPage r ≡ refused 12 0 ⌝ }
-{
-    Page::Refused {
-        number: 12,
-        place: 0,
-    }
 }
 
 fn smaller(a: usize, b: usize) -> usize
@@ -49,36 +38,4 @@ pub fn page_records(count: usize, size: u16, page: usize) -> Records
         return Records::Absent;
     }
     Records::Are(first, first + smaller(n, count - first))
-}
-
-// The sample among the records of a table from `first` to before `end`.
-fn sample_in(table: &[u32], first: usize, end: usize, offset: usize) -> Page
-    requires { ⌜ 12 * end ≤ length (now table) ⌝ }
-    ensures { λ r. ⌜ toldPage r ≡ pageOf (sampleFrom first offset (dummies (unitsIn (now (table .entry))) first (end - first))) ⌝ }
-{
-    let mut found = none();
-    let mut left = offset;
-    let mut i = first;
-    while i < end {
-        if table[WIDTH * i + 1] != 0 {
-            if left == 0 {
-                return Page::Is(i);
-            }
-            found = Page::Is(i);
-            left -= 1;
-        }
-        i += 1;
-    }
-    found
-}
-
-// The record that a page of `size` records shows, of the `count` records of a table; those past the
-// table's end are no records.
-pub fn page_in(table: &[u32], count: usize, size: u16, offset: u16, page: usize) -> Page
-    ensures { λ r. ⌜ toldPage r ≡ pageOf (sampleOf size offset page (dummiesIn (now (table .entry)) count)) ⌝ }
-{
-    match page_records(smaller(count, table.len() / WIDTH), size, page) {
-        Records::Absent => none(),
-        Records::Are(first, end) => sample_in(table, first, end, offset as usize),
-    }
 }

@@ -17,8 +17,11 @@ use Rattle.algebra.proofs.Places.{length-nums}
 use Rattle.algebra.proofs.Stores.{stored-in, stored-append, length-stored}
 use Rattle.acb.specs.Grammar.{Tag}
 use Rattle.acb.specs.Reading.{string, Entry, componentsOf, Header, opening, strings, numbers, header, closing, colour, Contents, book, acb}
-use Rattle.acb_judge.specs.Answer.{Shown, lies, shown, accepted, refused, verdict}
-use Rattle.acb_read.specs.Table.{blank, fourOf, found, recordAt, nameBytesIn}
+use Rattle.algebra.specs.Table.{accepted, refused, verdict, recordAt}
+use Rattle.algebra.proofs.Table.{refused-of}
+use Rattle.acb.specs.Row.{four}
+use Rattle.acb_judge.specs.Answer.{Shown, lies, shown, Report, reported, report}
+use Rattle.acb_read.specs.Table.{entriesOf, blank, nameBytesIn}
 use Rattle.acb_read.specs.Answer as read
 use Rattle.acb_show.specs.Texts.{shownStart, shownText}
 use Rattle.acb_show.specs.Components.{shownComponent}
@@ -95,13 +98,14 @@ pub record Opened (s : List ℕ) (h : Shown) (n : ℕ) : Type 0 where
   pub space : h .space ≡ contents .header .numbers .space
   pub texts : h .texts ≡ map lies (contents .header .texts)
 
-pub opened : (s : List ℕ) {h : Shown} {t : Tag} {n p : ℕ} → accepted h t n p ≡ verdict (acb s) → Opened s h n
+pub opened : (s : List ℕ) {h : Shown} {t : Tag} {n p : ℕ} → accepted (reported h n p t) ≡ verdict report (acb s) → Opened s h n
 opened s {h} {t} {n} {p} e = go (acb s) refl e
   where
-    go : (m : Res Contents) → acb s ≡ m → accepted h t n p ≡ verdict m → Opened s h n
+    go : (m : Res Contents) → acb s ≡ m → accepted (reported h n p t) ≡ verdict report m → Opened s h n
     go (ok c q) d k =
-        let l : n ≡ length (c .entries) = cc in
-        let g : h ≡ shown (c .header) = cc in
+        let w : reported h n p t ≡ report c = cc in
+        let l : n ≡ length (c .entries) = ap (λ (x : Report). x .count) w in
+        let g : h ≡ shown (c .header) = ap (λ (x : Report). x .header) w in
         record { contents = c; end = q; is = d; short = accepted-short s d; count = l; space = ap (λ (x : Shown). x .space) g; texts = ap (λ (x : Shown). x .texts) g }
     go (refuse y q r f) d k = let z : _≡_ {A = ℕ} 0 1 = cc in absurd (omega arith)
 
@@ -125,8 +129,8 @@ module _ (s : List ℕ) {h : Shown} {n : ℕ} (o : Opened s h n) (i : ℕ) where
   abbrev pub entry : Entry
   entry = getD (o .contents .entries) i blank
 
-  pub entry-found : i < n → recordAt i (acb s) ≡ found entry
-  entry-found l = let c = o .count in ap (recordAt i) (o .is) ∙ rw (lt-ltb i (length (o .contents .entries)) (omega arith))
+  pub entry-found : i < n → recordAt entriesOf blank i (acb s) ≡ accepted entry
+  entry-found l = let c = o .count in ap (recordAt entriesOf blank i) (o .is) ∙ rw (lt-ltb i (length (o .contents .entries)) (omega arith))
 
   -- ---- answers
 
@@ -139,10 +143,10 @@ module _ (s : List ℕ) {h : Shown} {n : ℕ} (o : Opened s h n) (i : ℕ) where
   pub values-none : n ≤ i → (noValues, refusal 12 0) ≡ shownAt i (acb s)
   values-none l = let c = o .count in sym (ap (shownAt i) (o .is) ∙ rw (le-ltb i (length (o .contents .entries)) (omega arith)))
 
-  pub values-are : i < n → (ks : List ℕ) → ks ≡ read.shown (recordAt i (acb s)) .components → (valuesOf (h .space) ks, counted (componentsOf (h .space))) ≡ shownAt i (acb s)
+  pub values-are : i < n → (ks : List ℕ) → ks ≡ read.shown (recordAt entriesOf blank i (acb s)) .components → (valuesOf (h .space) ks, counted (componentsOf (h .space))) ≡ shownAt i (acb s)
   values-are l ks e =
       let c = o .count in
-      let f : ks ≡ fourOf (entry .components) = e ∙ ap (λ w. read.shown w .components) (entry-found l) in
+      let f : ks ≡ four (entry .components) 0 = e ∙ ap (λ w. read.shown w .components) (entry-found l) in
       ap₂ (λ (x : ℕ) (k : List ℕ). (valuesOf x k, counted (componentsOf x))) (o .space) f
       ∙ sym (ap (shownAt i) (o .is) ∙ rw (lt-ltb i (length (o .contents .entries)) (omega arith)))
 
@@ -155,7 +159,7 @@ shown-short : (l : List ℕ) → length (shownText l) ≤ length l
 shown-short l = omega (arith, length-drop (shownStart l) l)
 
 module _ (s : List ℕ) {h : Shown} {n : ℕ} (o : Opened s h n) (i : ℕ) (there : i < n) {p u p′ u′ : ℕ} (x : getD (h .texts) 1 (0, 0) ≡ (p, u)) (y : getD (h .texts) 2 (0, 0) ≡ (p′, u′))
-    (a b c : List ℕ) (ea : a ≡ shownText (part s p (2 * u))) (eb : b ≡ nameBytesIn s (recordAt i (acb s))) (ec : c ≡ shownText (part s p′ (2 * u′))) where
+    (a b c : List ℕ) (ea : a ≡ shownText (part s p (2 * u))) (eb : b ≡ nameBytesIn s (recordAt entriesOf blank i (acb s))) (ec : c ≡ shownText (part s p′ (2 * u′))) where
   full : List ℕ
   full = fullName s (o .contents) (entry s o i)
 
@@ -201,17 +205,15 @@ module _ (s : List ℕ) {h : Shown} {n : ℕ} (o : Opened s h n) (i : ℕ) (ther
       ap₂ (λ (m : ℕ) (d : List ℕ). (counted m, d)) sum w ∙ sym (in-name out ∙ rw (le-leb (length full) (length out) (omega arith)))
 
 -- a refused file
-pub values-refused : (m : Res Contents) (i : ℕ) {x p : ℕ} → refused x p ≡ verdict m → (noValues, refusal x p) ≡ shownAt i m
-values-refused (ok c q) i e = let z : _≡_ {A = ℕ} 0 1 = cc in absurd (omega arith)
-values-refused (refuse y q r f) i {x} {p} e = let a : x ≡ y = cc in let b : p ≡ q = cc in ap₂ (λ (j k : ℕ). (noValues, refusal j k)) a b
+module _ (m : Res Contents) (i : ℕ) {x p r f : ℕ} (e : refused x p r f ≡ verdict report m) where
+  pub values-refused : (noValues, refusal x p) ≡ shownAt i m
+  values-refused = sym (ap (shownAt i) (refused-of report m e))
 
-pub length-refused : (s : List ℕ) (m : Res Contents) (i : ℕ) {x p : ℕ} → refused x p ≡ verdict m → refusal x p ≡ fullLength s i m
-length-refused s (ok c q) i e = let z : _≡_ {A = ℕ} 0 1 = cc in absurd (omega arith)
-length-refused s (refuse y q r f) i {x} {p} e = let a : x ≡ y = cc in let b : p ≡ q = cc in ap₂ refusal a b
+  pub length-refused : (s : List ℕ) → refusal x p ≡ fullLength s i m
+  length-refused s = sym (ap (fullLength s i) (refused-of report m e))
 
-pub name-refused : (s : List ℕ) (m : Res Contents) (i : ℕ) (out : List ℕ) {x p : ℕ} → refused x p ≡ verdict m → (refusal x p, out) ≡ fullNameAt s i m out
-name-refused s (ok c q) i out e = let z : _≡_ {A = ℕ} 0 1 = cc in absurd (omega arith)
-name-refused s (refuse y q r f) i out {x} {p} e = let a : x ≡ y = cc in let b : p ≡ q = cc in ap₂ (λ (j k : ℕ). (refusal j k, out)) a b
+  pub name-refused : (s out : List ℕ) → (refusal x p, out) ≡ fullNameAt s i m out
+  name-refused s out = sym (ap (λ (y : Res Contents). fullNameAt s i y out) (refused-of report m e))
 
 -- ---- the shown components of a record of a space, one by one
 

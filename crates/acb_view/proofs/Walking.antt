@@ -1,100 +1,117 @@
--- The records of a page in an accepted file, on plain values. Assumes nothing.
-use Prim.Native.Nat.{ℕ, suc, _+_, _*_, _-_, _≤_, _<_}
+-- Which records of a file or of a table are dummies, and what a page then shows. Assumes nothing.
+use Prim.Native.Nat.{ℕ, zero, suc, _+_, _-_, _/_, _≤_, _<_, min}
 use mathlib.Core.Path.{_≡_, refl, sym, ap, ap₂, _∙_, subst}
 use mathlib.Core.List.{List, [], _∷_, map}
 use mathlib.Core.Bool.{Bool}
-use lib.ListN.{length, getD}
+use lib.ListN.{length, take, drop}
 use lib.Dec.{eqb, eqb·suc-zero}
 use native.Mathlib.Omega.{arith}
-use Rattle.algebra.specs.Numbers.{Bytes}
-use Rattle.algebra.specs.Reader.{Res, ok, refuse, field, orZero, limit}
+use native.Mathlib.Nat.{add-zero}
+use Rattle.algebra.specs.Numbers.{counted}
+use Rattle.algebra.specs.Reader.{Res, ok, refuse}
+use Rattle.algebra.specs.Table.{refused, verdict, rows}
+use Rattle.algebra.specs.Filling.{Accepted}
 use Rattle.algebra.specs.Text.{isEmpty}
-use Rattle.acb.specs.Grammar.{Tag}
-use Rattle.acb.specs.Reading.{Entry, componentsOf, Contents, acb}
-use Rattle.acb_judge.specs.Answer.{Shown, shown as heading, accepted, refused, verdict}
-use Rattle.acb_read.specs.Table.{blank, recordAt}
-use Rattle.acb_read.specs.Raw.{recordPlace, Accepted}
-use Rattle.acb_read.specs.Answer.{lies, refusal, shown}
-use Rattle.acb_read.proofs.Filling.{here, entryAt}
-use Rattle.acb_read.proofs.Answers.{accepted-of, placed, counted, code-in, is-found}
-use Rattle.acb_show.specs.Pages.{sampleOf, pageRange, records, dummies}
+use Rattle.algebra.proofs.Counted.{length-counted}
+use Rattle.algebra.proofs.Exact.{length-map}
+use Rattle.algebra.proofs.Table.{refused-of}
+use Rattle.acb.specs.Reading.{Entry, Contents, acb}
+use Rattle.acb.specs.Row.{Given, width, taken, givenOf}
+use Rattle.acb_judge.specs.Answer.{Report, report}
+use Rattle.acb_read.specs.Walked.{passed, walked}
+use Rattle.acb_read.proofs.Walking.{walked-from}
+use Rattle.acb_records.specs.Parts.{givenAt}
+use Rattle.acb_show.specs.Pages.{sampleFrom, sampleOf, pageRange, records, absent}
 use Rattle.acb_show.specs.Answer.{refused as page-refused, pageOf}
-use Rattle.acb_show.proofs.Sampling.{range-inv}
-use Rattle.acb_view.specs.View.{dummy, pageAt}
-use Rattle.acb_view.specs.Places.{unitsOf, Standing, Having}
+use Rattle.acb_show.proofs.Sampling.{range-inv, page-absent, page-there}
+use Rattle.acb_view.specs.View.{dummy, unnamed, dummiesIn, pageAt}
 
--- ---- a turn of the walk
+-- ---- parts of lists
 
--- record k of n components, whose count of units was loaded from its place
-pub record Counts (s : List ℕ) (n p k at units : ℕ) : Type 0 where
-  pub is : units ≡ unitsOf (acb s) k
-  pub inside : at + 4 + 2 * units + 6 + n ≤ length s
-  pub short : length s ≤ limit
-  pub next : at + (10 + n + 2 * units) ≡ recordPlace n s p (k + 1)
+take-map : {A B : Type 0} (f : A → B) (n : ℕ) (l : List A) → take n (map f l) ≡ map f (take n l)
+take-map f zero l = refl
+take-map f (suc n) [] = refl
+take-map f (suc n) (a ∷ l) = ap (λ m. f a ∷ m) (take-map f n l)
 
-pub counts : (s : List ℕ) → Bytes s → (n a i end : ℕ) (st : Standing s n a i end) (k : ℕ) → k < end → (at units : ℕ) → at ≡ recordPlace n s (st .1) k → units ≡ orZero (field 4 s at) → Counts s n (st .1) k at units
-counts s bytes n a i end st k h at units e u =
-    let few : k < st .0 = omega (arith, st .3) in
-    let w = placed s bytes (st .0) (st .1) n (st .2) k few at units e u in
-    let v = counted s bytes (st .0) (st .1) n (st .2) k few at units e u in
-    let c = code-in s bytes (st .0) (st .1) n (st .2) k few at units e u in
-    record { is = v ∙ sym (w .units); inside = c .0; short = c .1; next = omega (arith, v, w .next) }
+part-map : {A B : Type 0} (f : A → B) (k n : ℕ) (l : List A) → take n (drop k (map f l)) ≡ map f (take n (drop k l))
+part-map f zero n l = take-map f n l
+part-map f (suc k) n [] = take-map f n []
+part-map f (suc k) n (a ∷ l) = part-map f k n l
 
--- ---- from a record's number to its place
+module _ {A : Type 0} (f : ℕ → A) where
+  take-counted : (m n i : ℕ) → m ≤ n → take m (counted f n i) ≡ counted f m i
+  unfolding counted
+  take-counted zero n i h = refl
+  take-counted (suc m) zero i h = absurd (omega arith)
+  take-counted (suc m) (suc n) i h = ap (λ l. f i ∷ l) (take-counted m n (i + 1) (omega arith))
 
-module _ (s : List ℕ) (bytes : Bytes s) (n i end : ℕ) (w : Having s n i end) where
-  name-is : shown (recordAt i (acb s)) .name ≡ lies (recordPlace n s (w .1) i + 4) (length (entryAt s i .name .units))
-  name-is =
-      let k = here s bytes (w .0) (w .1) n (w .2) i (w .4) (recordPlace n s (w .1) i) refl in
-      ap (λ f. shown f .name) (is-found s (w .0) (w .1) n (w .2) i (w .4)) ∙ ap (λ (p : ℕ). lies p (length (entryAt s i .name .units))) (k .first)
+  part-counted : (k m n i : ℕ) → k + m ≤ n → take m (drop k (counted f n i)) ≡ counted f m (i + k)
+  unfolding counted
+  part-counted zero m n i h = take-counted m n i (omega arith) ∙ ap (counted f m) (sym (add-zero i))
+  part-counted (suc k) m zero i h = absurd (omega arith)
+  part-counted (suc k) m (suc n) i h = let e : i + 1 + k ≡ i + suc k = omega arith in part-counted k m n (i + 1) (omega arith) ∙ ap (counted f m) e
 
-  module _ {p u : ℕ} (e : lies p u ≡ shown (recordAt i (acb s)) .name) where
-    place-of : p ≡ recordPlace n s (w .1) i + 4
-    place-of = let f : lies p u ≡ lies (recordPlace n s (w .1) i + 4) (length (entryAt s i .name .units)) = e ∙ name-is in cc
-
-    pub behind-count : 4 ≤ p
-    behind-count = omega (arith, place-of)
-
-    pub standing : Standing s n (p - 4) i end
-    standing = (w .0, w .1, w .2, w .3, omega (arith, place-of))
-
-  pub not-missing : {x p : ℕ} → refusal x p ≡ shown (recordAt i (acb s)) .name → ⊥
-  not-missing e = let z : _≡_ {A = ℕ} 0 1 = cc (e ∙ name-is) in omega arith
-
--- ---- which records of a file are dummies
+-- ---- dummies
 
 few-units : (us : List ℕ) → eqb (length us) 0 ≡ isEmpty us
 few-units [] = refl
 few-units (u ∷ us) = eqb·suc-zero (length us)
 
-pub from-units : (es : List Entry) (u : ℕ → ℕ) (i : ℕ) → ((k : ℕ) → k < length es → u (i + k) ≡ length (getD es k blank .name .units)) → dummies u i (length es) ≡ map dummy es
-unfolding dummies
-from-units [] u i h = refl
-from-units (e ∷ es) u i h =
-    let z : i ≡ i + 0 = omega arith in
-    ap₂ (λ (d : Bool) (ds : List Bool). d ∷ ds) (ap (λ (k : ℕ). eqb k 0) (ap u z ∙ h 0 (omega arith)) ∙ few-units (e .name .units))
-    (from-units es u (i + 1) (λ k l. let y : i + 1 + k ≡ i + suc k = omega arith in ap u y ∙ h (suc k) (omega arith)))
+pub same-dummies : (es : List Entry) → map unnamed (map givenOf es) ≡ map dummy es
+same-dummies [] = refl
+same-dummies (e ∷ es) = ap₂ (λ (d : Bool) (ds : List Bool). d ∷ ds) (few-units (e .name .units)) (same-dummies es)
 
-pub file-dummies : (c : Contents) (q : ℕ) → dummies (unitsOf (ok c q)) 0 (length (c .entries)) ≡ map dummy (c .entries)
-file-dummies c q = from-units (c .entries) (unitsOf (ok c q)) 0 (λ k l. let y : 0 + k ≡ k = omega arith in ap (unitsOf (ok c q)) y)
+-- ---- what a page of a file shows
 
--- ---- what a file's page shows
+pub page-refuses : (m : Res Contents) (page : ℕ) {x p r f : ℕ} → refused x p r f ≡ verdict report m → page-refused x p ≡ pageAt page m
+page-refuses m page e = sym (ap (pageAt page) (refused-of report m e))
 
-pub page-refuses : (m : Res Contents) (page : ℕ) {x p : ℕ} → refused x p ≡ verdict m → page-refused x p ≡ pageAt page m
-page-refuses (ok c q) page e = let z : _≡_ {A = ℕ} 0 1 = cc in absurd (omega arith)
-page-refuses (refuse y q r f) page {x} {p} e = let a : x ≡ y = cc in let b : p ≡ q = cc in ap₂ page-refused a b
+module _ (s : List ℕ) (page : ℕ) {b : Report} (a : Accepted report (acb s) b) where
+  abbrev ds : List Bool
+  ds = map dummy (a .0 .entries)
 
--- by the numbers of the header that was told
-pub page-shows : (m : Res Contents) (page : ℕ) {h : Shown} {t : Tag} {n p : ℕ} → accepted h t n p ≡ verdict m → pageOf (sampleOf (h .size) (h .offset) page (dummies (unitsOf m) 0 n)) ≡ pageAt page m
-page-shows (ok c q) page {h} {t} {n} {p} e =
-    let l : n ≡ length (c .entries) = cc in
-    let g : h ≡ heading (c .header) = cc in
-    ap (λ (k : ℕ). pageOf (sampleOf (h .size) (h .offset) page (dummies (unitsOf (ok c q)) 0 k))) l
-    ∙ ap (λ (ds : List Bool). pageOf (sampleOf (h .size) (h .offset) page ds)) (file-dummies c q)
-    ∙ ap (λ (y : Shown). pageOf (sampleOf (y .size) (y .offset) page (map dummy (c .entries)))) g
-page-shows (refuse y q r f) page e = let z : _≡_ {A = ℕ} 0 1 = cc in absurd (omega arith)
+  counts : length ds ≡ b .count
+  counts = length-map dummy (a .0 .entries) ∙ ap (λ (r : Report). r .count) (a .3)
 
-pub having : (s : List ℕ) {h : Shown} {t : Tag} {n p : ℕ} → accepted h t n p ≡ verdict (acb s) → (size page : ℕ) {k i end : ℕ} → k ≡ componentsOf (h .space) → pageRange n size page ≡ records i end → Having s k i end
-having s {h} {t} {n} {p} e size page {k} {i} {end} w r =
-    let v = range-inv n size page r in
-    (n, p, subst (Accepted (acb s) n p) (sym w) (accepted-of (acb s) e), v .1, v .2)
+  shows : pageOf (sampleOf (b .header .size) (b .header .offset) page ds) ≡ pageAt page (acb s)
+  shows = ap (λ (r : Report). pageOf (sampleOf (r .header .size) (r .header .offset) page ds)) (sym (a .3)) ∙ sym (ap (pageAt page) (a .2))
+
+  pub page-none : pageRange (b .count) (b .header .size) page ≡ absent → page-refused 12 0 ≡ pageAt page (acb s)
+  page-none e = sym (ap pageOf (page-absent (b .count) (b .header .size) (b .header .offset) page ds counts e)) ∙ shows
+
+  pub page-shows : {i end : ℕ} → pageRange (b .count) (b .header .size) page ≡ records i end
+      → pageOf (sampleFrom i (b .header .offset) (map unnamed (walked (b .header .space) s (passed (b .header .space) s (b .first) i) (end - i)))) ≡ pageAt page (acb s)
+  page-shows {i} {end} e =
+      let v = range-inv (b .count) (b .header .size) page e in
+      let es : List Entry = a .0 .entries in
+      let n : length es ≡ b .count = ap (λ (r : Report). r .count) (a .3) in
+      let w : walked (a .0 .header .numbers .space) s (passed (a .0 .header .numbers .space) s (a .0 .first) i) (end - i) ≡ map givenOf (take (end - i) (drop i es)) = walked-from s (a .2) i (end - i) (omega arith) in
+      let x : walked (b .header .space) s (passed (b .header .space) s (b .first) i) (end - i) ≡ map givenOf (take (end - i) (drop i es)) =
+      subst (λ (r : Report). walked (r .header .space) s (passed (r .header .space) s (r .first) i) (end - i) ≡ map givenOf (take (end - i) (drop i es))) (a .3) w in
+      ap (λ (l : List Bool). pageOf (sampleFrom i (b .header .offset) l)) (ap (map unnamed) x ∙ same-dummies (take (end - i) (drop i es)) ∙ sym (part-map dummy i (end - i) es))
+      ∙ sym (ap pageOf (page-there (b .count) (b .header .size) (b .header .offset) page ds counts e)) ∙ shows
+
+-- ---- what a page of a table shows
+
+module _ (t : List ℕ) (n count size offset page : ℕ) (is : n ≡ min count (length t / width)) where
+  at : ℕ → List Bool
+  at k = map unnamed (rows width taken t k 0)
+
+  sized : length (at n) ≡ n
+  unfolding at
+  sized = length-map unnamed (rows width taken t n 0) ∙ length-counted (givenAt t) n 0
+
+  told : pageOf (sampleOf size offset page (at n)) ≡ pageOf (sampleOf size offset page (dummiesIn t count))
+  unfolding at
+  told = ap (λ (k : ℕ). pageOf (sampleOf size offset page (map unnamed (rows width taken t k 0)))) is
+
+  pub table-none : pageRange n size page ≡ absent → page-refused 12 0 ≡ pageOf (sampleOf size offset page (dummiesIn t count))
+  table-none e = sym (ap pageOf (page-absent n size offset page (at n) sized e)) ∙ told
+
+  pub table-shows : {first end : ℕ} → pageRange n size page ≡ records first end → pageOf (sampleFrom first offset (map unnamed (rows width taken t (end - first) first))) ≡ pageOf (sampleOf size offset page (dummiesIn t count))
+  unfolding at
+  table-shows {first} {end} e =
+      let v = range-inv n size page e in
+      let z : 0 + first ≡ first = omega arith in
+      let p = part-map unnamed first (end - first) (rows width taken t n 0) ∙ ap (map unnamed) (part-counted (givenAt t) first (end - first) n 0 (omega arith) ∙ ap (counted (givenAt t) (end - first)) z) in
+      ap (λ (l : List Bool). pageOf (sampleFrom first offset l)) (sym p) ∙ sym (ap pageOf (page-there n size offset page (at n) sized e)) ∙ told

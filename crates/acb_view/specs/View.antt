@@ -1,5 +1,5 @@
--- What a file shows: a record's components and full name, and a page's sample.
-use Prim.Native.Nat.{ℕ, _*_}
+-- What a file shows: a record's components and full name, and a page's sample; the sample also by a table of records.
+use Prim.Native.Nat.{ℕ, _*_, _/_, min}
 use mathlib.Core.List.{List, [], _∷_, _++_, map}
 use mathlib.Core.Bool.{Bool}
 use lib.Dec.{leb, ltb, eqb}
@@ -8,7 +8,9 @@ use lib.ListN.{length, getD, drop}
 use Rattle.algebra.specs.Reader.{Res, ok, refuse, pick}
 use Rattle.algebra.specs.Text.{Name, isEmpty}
 use Rattle.algebra.specs.Store.{part}
+use Rattle.algebra.specs.Table.{rows}
 use Rattle.acb.specs.Reading.{Entry, componentsOf, Contents}
+use Rattle.acb.specs.Row.{Given, width, taken}
 use Rattle.acb_read.specs.Table.{blank}
 use Rattle.acb_show.specs.Texts.{shownText}
 use Rattle.acb_show.specs.Components.{shownComponent}
@@ -45,6 +47,14 @@ shownAt i (ok c q) =
 -- an empty name marks a dummy
 abbrev pub dummy : Entry → Bool
 dummy e = isEmpty (e .name .units)
+
+-- the same of a record by its numbers
+abbrev pub unnamed : Given → Bool
+unnamed g = eqb (g .name .1) 0
+
+-- which of `count` records of a table are dummies; those past its end are no records
+abbrev pub dummiesIn : List ℕ → ℕ → List Bool
+dummiesIn t count = map unnamed (rows width taken t (min count (length t / width)) 0)
 
 -- the record that page p shows; the file's own refusal first, then 12 where there is none
 abbrev pub pageAt : ℕ → Res Contents → Told

@@ -1,20 +1,23 @@
-// ACB colour books: what a file shows. A record's components and full name, and a page's sample.
+// ACB colour books: what a file shows. A record's components and full name, and a page's sample, which a
+// table of records shows too.
 ghost use mathlib.Core.Path.{_≡_};
-ghost use mathlib.Core.List.{_++_};
-ghost use Prim.Native.Nat.{_+_, _-_, _*_, _≤_};
+ghost use mathlib.Core.List.{_++_, map};
+ghost use Prim.Native.Nat.{_+_, _-_, _*_, _≤_, min};
 ghost use lib.ListN.{length};
 ghost use lib.Seq.{sets};
 ghost use Rattle.algebra.specs.Store.{part};
 ghost use Rattle.acb.specs.Reading.{acb, componentsOf};
 ghost use Rattle.acb_show.specs.Texts.{shownText};
-ghost use Rattle.acb_show.specs.Pages.{sampleFrom, dummies};
-ghost use Rattle.acb_show.specs.Answer.{toldPage, pageOf};
-ghost use Rattle.acb_view.specs.View.{counted, refusal, valuesOf, noValues, shownAt, pageAt, fullLength, fullNameAt};
-ghost use Rattle.acb_view.specs.Places.{unitsOf, Standing, Having};
+ghost use Rattle.algebra.specs.Table.{rows};
+ghost use Rattle.acb.specs.Row.{width, taken};
+ghost use Rattle.acb_read.specs.Walked.{walked};
+ghost use Rattle.acb_show.specs.Pages.{sampleFrom, sampleOf};
+ghost use Rattle.acb_show.specs.Answer.{refused, toldPage, pageOf};
+ghost use Rattle.acb_view.specs.View.{counted, refusal, valuesOf, noValues, shownAt, unnamed, dummiesIn, pageAt, fullLength, fullNameAt};
 ghost use Rattle.acb_view.specs.Answer.{toldCount, toldComponents};
+use acb::WIDTH;
 use acb_judge::Answer;
 use acb_judge::Text;
-use acb_read::NamePlace;
 use acb_show::Page;
 use acb_show::Records;
 
@@ -88,44 +91,39 @@ pub fn shown_at(file: &[u8], i: usize) -> Components
 
 // ---- pages
 
-// The sample among the records from i to before `end`, of n components, where record i stands at `at`.
-fn sample_at(file: &[u8], n: usize, at: usize, i: usize, end: usize, offset: usize) -> Page
-    requires { ⌜ Standing (now file) n at i end ⌝ }
-    ensures { λ r. ⌜ toldPage r ≡ pageOf (sampleFrom i offset (dummies (unitsOf (acb (now (file .entry)))) i (end - i))) ⌝ }
+fn none() -> Page
+    ensures { λ r. ⌜ toldPage r ≡ refused 12 0 ⌝ }
 {
-    let mut found = Page::Refused {
+    Page::Refused {
         number: 12,
         place: 0,
-    };
+    }
+}
+
+// The sample among the records from i to before `end` of a book of a space, where record i stands at `at`.
+pub fn sample_at(file: &[u8], space: u16, at: usize, i: usize, end: usize, offset: usize) -> Page
+    ensures { λ r. ⌜ toldPage r ≡ pageOf (sampleFrom i offset (map unnamed (walked space (now (file .entry)) at (end - i)))) ⌝ }
+{
+    let mut found = none();
     let mut left = offset;
     let mut k = i;
     let mut p = at;
     while k < end {
-        let units = fields::u32_or_zero(file, p);
-        if units != 0 {
+        let step = acb_read::step_at(file, p, space);
+        p = step.next;
+        let swatch = step.swatch;
+        let name = swatch.name;
+        let lies = acb_read::lies_of(name);
+        if lies.units != 0 {
             if left == 0 {
                 return Page::Is(k);
             }
             found = Page::Is(k);
             left -= 1;
         }
-        p += 10 + n + 2 * (units as usize);
         k += 1;
     }
     found
-}
-
-// The same, where record i is found by its number.
-fn sample_from(file: &[u8], n: usize, i: usize, end: usize, offset: usize) -> Page
-    requires { ⌜ Having (now file) n i end ⌝ }
-    ensures { λ r. ⌜ toldPage r ≡ pageOf (sampleFrom i offset (dummies (unitsOf (acb (now (file .entry)))) i (end - i))) ⌝ }
-{
-    let swatch = acb_read::record_at(file, i);
-    let name = swatch.name;
-    match name {
-        NamePlace::At { place, units: _ } => sample_at(file, n, place - 4, i, end, offset),
-        NamePlace::Refused { number, place } => Page::Refused { number, place },
-    }
 }
 
 // The record that a page of a file shows.
@@ -138,20 +136,53 @@ pub fn page_at(file: &[u8], page: usize) -> Page
             header,
             tag: _,
             count,
-            first: _,
+            first,
         } => match acb_show::page_records(count, header.size, page) {
-            Records::Absent => Page::Refused {
-                number: 12,
-                place: 0,
-            },
-            Records::Are(i, end) => sample_from(
-                file,
-                acb_judge::components_of(header.space),
-                i,
-                end,
-                header.offset as usize,
-            ),
+            Records::Absent => none(),
+            Records::Are(i, end) => {
+                let at = acb_read::place_at(file, first, header.space, i);
+                sample_at(file, header.space, at, i, end, header.offset as usize)
+            }
         },
+    }
+}
+
+// The sample among the records of a table from `first` to before `end`.
+fn sample_in(table: &[u32], first: usize, end: usize, offset: usize) -> Page
+    requires { ⌜ width * end ≤ length (now table) ⌝ }
+    ensures { λ r. ⌜ toldPage r ≡ pageOf (sampleFrom first offset (map unnamed (rows width taken (now (table .entry)) (end - first) first))) ⌝ }
+{
+    let mut found = none();
+    let mut left = offset;
+    let mut i = first;
+    while i < end {
+        let given = acb_records::record_at(table, i);
+        if given.name.units != 0 {
+            if left == 0 {
+                return Page::Is(i);
+            }
+            found = Page::Is(i);
+            left -= 1;
+        }
+        i += 1;
+    }
+    found
+}
+
+fn smaller(a: usize, b: usize) -> usize
+    ensures { λ r. ⌜ r ≡ min a b ⌝ }
+{
+    if a < b { a } else { b }
+}
+
+// The record that a page of `size` records shows, of the `count` records of a table; those past the
+// table's end are no records.
+pub fn page_in(table: &[u32], count: usize, size: u16, offset: u16, page: usize) -> Page
+    ensures { λ r. ⌜ toldPage r ≡ pageOf (sampleOf size offset page (dummiesIn (now (table .entry)) count)) ⌝ }
+{
+    match acb_show::page_records(smaller(count, table.len() / WIDTH), size, page) {
+        Records::Absent => none(),
+        Records::Are(first, end) => sample_in(table, first, end, offset as usize),
     }
 }
 

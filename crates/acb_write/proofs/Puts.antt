@@ -17,8 +17,10 @@ use Rattle.algebra.proofs.Storing.{as-sets, peel, peel-be, length-kept}
 use Rattle.acb.specs.Grammar.{Tag, none, spot, process, Ending, tagged, other, stringBytes, colourBytes, tagBytes, endingBytes, headBytes, fileBytes}
 use Rattle.acb.specs.Reading.{componentsOf}
 use Rattle.acb_judge.specs.Answer.{Shown}
-use Rattle.acb_records.specs.Writing.{Given, givenAt, givens, unitsIn, componentsIn, colourIn, bookIn, sizes, stringSize, sizeIn, tagSize, endingSize, headSize, size, textFault}
-use Rattle.acb_records.specs.Parts.{start, numberBytes, headingBytes}
+use Rattle.acb_records.specs.Writing.{unitsIn, componentsIn, colourIn, bookIn, sizes, stringSize, sizeIn, tagSize, endingSize, headSize, size, textFault}
+use Rattle.algebra.specs.Table.{rows}
+use Rattle.acb.specs.Row.{Given, width, taken}
+use Rattle.acb_records.specs.Parts.{givenAt, start, numberBytes, headingBytes}
 use Rattle.acb_records.proofs.Judging.{text-inside}
 use Rattle.acb.proofs.Laws.{components-some}
 
@@ -96,7 +98,7 @@ module _ (text : List ℕ) (n : ℕ) (g : Given) (six : length (g .code) ≡ 6) 
 abbrev pub Shaped : Given → Type 0
 Shaped g = (length (g .code) ≡ 6) × (length (g .components) ≡ 4)
 
-pub givens-shaped : (run : List ℕ) (n k i : ℕ) → All (λ j g. Shaped g) i (givens run n k)
+pub givens-shaped : (run : List ℕ) (n k i : ℕ) → All (λ j g. Shaped g) i (rows width taken run n k)
 unfolding counted
 givens-shaped run zero k i = tt
 givens-shaped run (suc n) k i = ((refl, refl), givens-shaped run n (k + 1) (i + 1))
@@ -112,16 +114,16 @@ module _ (text : List ℕ) (m : ℕ) (few : m ≤ 4) where
 
 module _ (run text : List ℕ) (m : ℕ) where
   module _ (all out : List ℕ) (n i at : ℕ) where
-    pub puts-start : all ≡ sets out at (joined colourBytes (map (colourIn text m) (givens run n 0))) → all ≡ sets out at (joined colourBytes (map (colourIn text m) (givens run (n - 0) 0)))
+    pub puts-start : all ≡ sets out at (joined colourBytes (map (colourIn text m) (rows width taken run n 0))) → all ≡ sets out at (joined colourBytes (map (colourIn text m) (rows width taken run (n - 0) 0)))
     puts-start e = e ∙ ap (λ (gs : List Given). sets out at (joined colourBytes (map (colourIn text m) gs))) (counted-start (givenAt run) n)
 
-    module _ (inv : all ≡ sets out at (joined colourBytes (map (colourIn text m) (givens run (n - i) i)))) where
+    module _ (inv : all ≡ sets out at (joined colourBytes (map (colourIn text m) (rows width taken run (n - i) i)))) where
       pub puts-turn : m ≤ 4 → i < n → (o : List ℕ) (q : ℕ) → q ≡ at + sizeIn m (givenAt run i) → (g : Given) → g ≡ givenAt run i → o ≡ sets out at (colourBytes (colourIn text m g))
-          → all ≡ sets o q (joined colourBytes (map (colourIn text m) (givens run (n - (i + 1)) (i + 1))))
+          → all ≡ sets o q (joined colourBytes (map (colourIn text m) (rows width taken run (n - (i + 1)) (i + 1))))
       unfolding joined
       puts-turn few h o q w g z s =
           inv ∙ ap (λ (gs : List Given). sets out at (joined colourBytes (map (colourIn text m) gs))) (counted-turn (givenAt run) n i h)
-          ∙ peel out o (colourBytes (colourIn text m (givenAt run i))) (joined colourBytes (map (colourIn text m) (givens run (n - (i + 1)) (i + 1)))) at (sizeIn m (givenAt run i)) q (length-shaped text m few (givenAt run i) (refl, refl)) (sym w)
+          ∙ peel out o (colourBytes (colourIn text m (givenAt run i))) (joined colourBytes (map (colourIn text m) (rows width taken run (n - (i + 1)) (i + 1)))) at (sizeIn m (givenAt run i)) q (length-shaped text m few (givenAt run i) (refl, refl)) (sym w)
           (s ∙ ap (λ (x : Given). sets out at (colourBytes (colourIn text m x))) z)
 
       pub puts-end : n ≤ i → out ≡ all
@@ -233,11 +235,11 @@ module _ (text : List ℕ) (h : Shown) (t : Ending) (gs : List Given) where
 
 module _ (run text : List ℕ) (h : Shown) (t : Ending) (n : ℕ) where
   pub put-file : (m : ℕ) → m ≡ componentsOf (h .space) → (o₀ o₁ o₂ o₃ : List ℕ) (p q : ℕ) → o₁ ≡ sets o₀ 0 (headingBytes text h n) → p ≡ headSize h
-      → o₂ ≡ sets o₁ p (joined colourBytes (map (colourIn text m) (givens run n 0))) → q ≡ p + sizes (sizeIn m) (givens run n 0)
-      → o₃ ≡ sets o₂ q (endingBytes t) → o₃ ≡ sets o₀ 0 (fileBytes (bookIn text h t (givens run n 0)))
+      → o₂ ≡ sets o₁ p (joined colourBytes (map (colourIn text m) (rows width taken run n 0))) → q ≡ p + sizes (sizeIn m) (rows width taken run n 0)
+      → o₃ ≡ sets o₂ q (endingBytes t) → o₃ ≡ sets o₀ 0 (fileBytes (bookIn text h t (rows width taken run n 0)))
   unfolding fileBytes
   put-file m w o₀ o₁ o₂ o₃ p q e₁ x e₂ y e₃ =
-      let gs : List Given = givens run n 0 in
+      let gs : List Given = rows width taken run n 0 in
       let k : ℕ = componentsOf (h .space) in
       let s : headBytes (bookIn text h t gs) ≡ headingBytes text h n = heading-is text h t gs ∙ ap (headingBytes text h) (length-counted (givenAt run) n 0) in
       let u : 0 + headSize h ≡ p = omega arith in
@@ -248,10 +250,10 @@ module _ (run text : List ℕ) (h : Shown) (t : Ending) (n : ℕ) where
       (e₂ ∙ ap (λ (j : ℕ). sets o₁ p (joined colourBytes (map (colourIn text j) gs))) w))
 
   -- a file stored in front of what was there
-  pub file-front : (out o : List ℕ) → size h t (givens run n 0) ≤ length out → o ≡ sets out 0 (fileBytes (bookIn text h t (givens run n 0)))
-      → o ≡ fileBytes (bookIn text h t (givens run n 0)) ++ drop (size h t (givens run n 0)) out
+  pub file-front : (out o : List ℕ) → size h t (rows width taken run n 0) ≤ length out → o ≡ sets out 0 (fileBytes (bookIn text h t (rows width taken run n 0)))
+      → o ≡ fileBytes (bookIn text h t (rows width taken run n 0)) ++ drop (size h t (rows width taken run n 0)) out
   file-front out o k e =
-      let l : List ℕ = fileBytes (bookIn text h t (givens run n 0)) in
-      let m : length l ≡ size h t (givens run n 0) = length-file text h t (givens run n 0) (givens-shaped run n 0 0) in
-      let z : 0 + length l ≡ size h t (givens run n 0) = omega arith in
+      let l : List ℕ = fileBytes (bookIn text h t (rows width taken run n 0)) in
+      let m : length l ≡ size h t (rows width taken run n 0) = length-file text h t (rows width taken run n 0) (givens-shaped run n 0 0) in
+      let z : 0 + length l ≡ size h t (rows width taken run n 0) = omega arith in
       e ∙ sets-eq l out 0 (omega arith) ∙ ap (λ (j : ℕ). l ++ drop j out) z

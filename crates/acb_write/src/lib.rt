@@ -8,10 +8,12 @@ ghost use Rattle.algebra.specs.Numbers.{be, joined};
 ghost use Rattle.acb.specs.Grammar.{stringBytes, colourBytes, tagBytes, endingBytes, fileBytes};
 ghost use Rattle.acb.specs.Faults.{endingFault};
 ghost use Rattle.acb_judge.specs.Answer.{toldText, toldHeader, toldTag};
-ghost use Rattle.acb_records.specs.Writing.{givens, given, unitsIn, componentsIn, colourIn, bookIn, sizes, stringSize, sizeIn, tagSize, endingSize, headSize, size, headFault, fault, written};
+ghost use Rattle.acb_records.specs.Writing.{unitsIn, componentsIn, colourIn, bookIn, sizes, stringSize, sizeIn, tagSize, endingSize, headSize, size, headFault, fault, written};
+ghost use Rattle.algebra.specs.Table.{rows, whole};
+ghost use Rattle.acb.specs.Row.{width, taken};
 ghost use Rattle.fields.specs.Answer.{toldWritten};
 ghost use Rattle.acb_records.specs.Answer.{toldEnding};
-ghost use Rattle.acb_records.specs.Parts.{givenOf, start, numberBytes, headingBytes, StringFits, TextsFit, RecordFits, RecordsFit};
+ghost use Rattle.acb_records.specs.Parts.{toldRecord, start, numberBytes, headingBytes, StringFits, TextsFit, RecordFits, RecordsFit};
 use acb::WIDTH;
 use acb_judge::Header;
 use acb_judge::Tag;
@@ -55,7 +57,7 @@ fn put_string(out: &mut [u8], at: usize, text: &[u8], lies: Text) -> usize
 // The code of a record; of each number its low byte, which is all of one that was judged.
 fn put_code(out: &mut [u8], at: usize, given: Record)
     requires { ⌜ at + 6 ≤ length (now out) ⌝ }
-    ensures { λ _. ⌜ now (out .exit) ≡ sets (now (out .entry)) at (joined (be 1) (givenOf given .code)) ⌝ }
+    ensures { λ _. ⌜ now (out .exit) ≡ sets (now (out .entry)) at (joined (be 1) (toldRecord given .code)) ⌝ }
 {
     out[at] = (given.a % 256) as u8;
     out[at + 1] = (given.b % 256) as u8;
@@ -68,7 +70,7 @@ fn put_code(out: &mut [u8], at: usize, given: Record)
 // The n components of a record: three or four.
 fn put_components(out: &mut [u8], at: usize, given: Record, n: usize)
     requires { ⌜ (at + n ≤ length (now out)) × (3 ≤ n) × (n ≤ 4) ⌝ }
-    ensures { λ _. ⌜ now (out .exit) ≡ sets (now (out .entry)) at (joined (be 1) (componentsIn n (givenOf given))) ⌝ }
+    ensures { λ _. ⌜ now (out .exit) ≡ sets (now (out .entry)) at (joined (be 1) (componentsIn n (toldRecord given))) ⌝ }
 {
     out[at] = (given.k % 256) as u8;
     out[at + 1] = (given.l % 256) as u8;
@@ -81,8 +83,8 @@ fn put_components(out: &mut [u8], at: usize, given: Record, n: usize)
 
 // A record of n components from `at`; it answers the next place.
 fn put_colour(out: &mut [u8], at: usize, text: &[u8], given: Record, n: usize) -> usize
-    requires { ⌜ RecordFits (now text) n (givenOf given) at (length (now out)) ⌝ }
-    ensures { λ r. ⌜ (r ≡ at + sizeIn n (givenOf given)) × (now (out .exit) ≡ sets (now (out .entry)) at (colourBytes (colourIn (now (text .entry)) n (givenOf given)))) ⌝ }
+    requires { ⌜ RecordFits (now text) n (toldRecord given) at (length (now out)) ⌝ }
+    ensures { λ r. ⌜ (r ≡ at + sizeIn n (toldRecord given)) × (now (out .exit) ≡ sets (now (out .entry)) at (colourBytes (colourIn (now (text .entry)) n (toldRecord given)))) ⌝ }
 {
     let p = put_string(out, at, text, given.name);
     put_code(out, p, given);
@@ -92,8 +94,8 @@ fn put_colour(out: &mut [u8], at: usize, text: &[u8], given: Record, n: usize) -
 
 // The count records of n components from `at`; it answers the next place.
 fn put_colours(out: &mut [u8], at: usize, run: &[u32], text: &[u8], count: usize, n: usize) -> usize
-    requires { ⌜ (12 * count ≤ length (now run)) × RecordsFit (now text) n (givens (now run) count 0) at (length (now out)) ⌝ }
-    ensures { λ r. ⌜ (r ≡ at + sizes (sizeIn n) (givens (now (run .entry)) count 0)) × (now (out .exit) ≡ sets (now (out .entry)) at (joined colourBytes (map (colourIn (now (text .entry)) n) (givens (now (run .entry)) count 0)))) ⌝ }
+    requires { ⌜ (width * count ≤ length (now run)) × RecordsFit (now text) n (rows width taken (now run) count 0) at (length (now out)) ⌝ }
+    ensures { λ r. ⌜ (r ≡ at + sizes (sizeIn n) (rows width taken (now (run .entry)) count 0)) × (now (out .exit) ≡ sets (now (out .entry)) at (joined colourBytes (map (colourIn (now (text .entry)) n) (rows width taken (now (run .entry)) count 0)))) ⌝ }
 {
     let mut p = at;
     let mut i: usize = 0;
@@ -170,8 +172,8 @@ fn put_ending(out: &mut [u8], at: usize, ending: Ending)
 
 // The whole file of n records.
 fn put_file(out: &mut [u8], header: Header, ending: Ending, run: &[u32], text: &[u8], n: usize)
-    requires { ⌜ (12 * n ≤ length (now run)) × (size (toldHeader header) (toldEnding ending) (givens (now run) n 0) ≤ length (now out)) × (fault (now text) (toldHeader header) (toldEnding ending) (givens (now run) n 0) ≡ 0) ⌝ }
-    ensures { λ _. ⌜ now (out .exit) ≡ sets (now (out .entry)) 0 (fileBytes (bookIn (now (text .entry)) (toldHeader header) (toldEnding ending) (givens (now (run .entry)) n 0))) ⌝ }
+    requires { ⌜ (width * n ≤ length (now run)) × (size (toldHeader header) (toldEnding ending) (rows width taken (now run) n 0) ≤ length (now out)) × (fault (now text) (toldHeader header) (toldEnding ending) (rows width taken (now run) n 0) ≡ 0) ⌝ }
+    ensures { λ _. ⌜ now (out .exit) ≡ sets (now (out .entry)) 0 (fileBytes (bookIn (now (text .entry)) (toldHeader header) (toldEnding ending) (rows width taken (now (run .entry)) n 0))) ⌝ }
 {
     let first = put_head(out, text, header, n);
     let end = put_colours(
@@ -194,7 +196,7 @@ pub fn write(
     text: &[u8],
     out: &mut [u8],
 ) -> Written
-    ensures { λ r. ⌜ (toldWritten r, now (out .exit)) ≡ written (now (text .entry)) (toldHeader header) (toldEnding ending) (given (now (records .entry))) (now (out .entry)) ⌝ }
+    ensures { λ r. ⌜ (toldWritten r, now (out .exit)) ≡ written (now (text .entry)) (toldHeader header) (toldEnding ending) (whole width taken (now (records .entry))) (now (out .entry)) ⌝ }
 {
     match acb_records::write_length(header, ending, records, text) {
         Written::Refused(x) => Written::Refused(x),

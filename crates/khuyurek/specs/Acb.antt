@@ -6,13 +6,14 @@ use lib.IntN.{ℤ, pos}
 use lib.ListN.{getD}
 use Rattle.algebra.specs.Reader.{pick}
 use Rattle.acb.specs.Grammar.{Tag, none, spot, process, Ending, tagged, other}
-use Rattle.acb_judge.specs.Answer.{Shown, Verdict, accepted, refused}
-use Rattle.acb_read.specs.Answer.{Where, lies, refusal}
+use Rattle.algebra.specs.Table.{Verdict, accepted, refused}
+use Rattle.acb_judge.specs.Answer.{Shown, Report}
 use Rattle.acb_read.specs.Answer as record-of
-use Rattle.acb_show.specs.Pages.{sampleOf, dummiesIn}
+use Rattle.acb_show.specs.Pages.{sampleOf}
 use Rattle.acb_show.specs.Answer.{Told, record-is, refused as noPage, pageOf as sampled}
-use Rattle.acb_view.specs.View.{Counted, counted, refusal as refusalView}
-use Rattle.acb_records.specs.Writing.{Given, needed, written}
+use Rattle.acb_view.specs.View.{dummiesIn, Counted, counted, refusal as refusalView}
+use Rattle.acb.specs.Row.{Given}
+use Rattle.acb_records.specs.Writing.{needed, written}
 use Rattle.khuyurek.specs.declared.books.AcbText.{AcbText}
 use Rattle.khuyurek.specs.declared.books.AcbHeader.{AcbHeader}
 use Rattle.khuyurek.specs.declared.books.AcbAnswer.{AcbAnswer}
@@ -63,18 +64,18 @@ noHeader = record {
 
 -- ---- judging and reading
 
-abbrev pub answerOf : Verdict → AcbAnswer
-answerOf (accepted h t n p) = record { number = 0; place = 0; count = n; header = headerOf h t }
-answerOf (refused x p) = record { number = x; place = p; count = 0; header = noHeader }
+abbrev pub answerOf : Verdict Report → AcbAnswer
+answerOf (accepted r) = record { number = 0; place = 0; count = r .count; header = headerOf (r .header) (r .tag) }
+answerOf (refused x p r f) = record { number = x; place = p; count = 0; header = noHeader }
 
 -- an answer, and what the lent table then holds
-abbrev pub readOf : Verdict × List ℕ → AcbAnswer × List ℕ
+abbrev pub readOf : Verdict Report × List ℕ → AcbAnswer × List ℕ
 readOf v = (answerOf (v .0), v .1)
 
 -- a record's code and components beside where its name lies, or the refusal
-abbrev pub placed : List ℕ → List ℕ → Where → AcbRecord
-placed cs ks (lies p u) = record { number = 0; units = u; place = 0; name = p; code = cs; components = ks }
-placed cs ks (refusal x p) = record { number = x; units = 0; place = p; name = 0; code = cs; components = ks }
+abbrev pub placed : List ℕ → List ℕ → Verdict (ℕ × ℕ) → AcbRecord
+placed cs ks (accepted l) = record { number = 0; units = l .1; place = 0; name = l .0; code = cs; components = ks }
+placed cs ks (refused x p r f) = record { number = x; units = 0; place = p; name = 0; code = cs; components = ks }
 
 abbrev pub recordOf : record-of.Shown → AcbRecord
 recordOf w = placed (w .code) (w .components) (w .name)

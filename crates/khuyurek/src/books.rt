@@ -1,15 +1,16 @@
 // ACB colour books for C.
 ghost use mathlib.Core.Path.{_≡_};
 ghost use Rattle.acb.specs.Reading.{acb};
-ghost use Rattle.acb_judge.specs.Answer.{verdict, told, toldTag, toldHeader};
-ghost use Rattle.acb_read.specs.Table.{filled, recordAt};
+ghost use Rattle.acb_judge.specs.Answer.{report, told, toldTag, toldHeader};
+ghost use Rattle.acb_read.specs.Table.{entriesOf, blank};
 ghost use Rattle.acb_read.specs.Answer.{shown};
 ghost use Rattle.acb_show.specs.Components.{shownComponent};
 ghost use Rattle.acb_show.specs.Texts.{shownStart};
 ghost use Rattle.acb_show.specs.Answer.{toldPage};
 ghost use Rattle.acb_view.specs.View.{shownAt, pageAt, fullLength, fullNameAt};
 ghost use Rattle.acb_view.specs.Answer.{toldCount};
-ghost use Rattle.acb_records.specs.Writing.{given};
+ghost use Rattle.algebra.specs.Table.{verdict, filled, recordAt, whole};
+ghost use Rattle.acb.specs.Row.{width, taken, row};
 ghost use Rattle.acb_records.specs.Answer.{toldEnding};
 ghost use Rattle.khuyurek.specs.Acb.{numberOf, headerOf, noHeader, answerOf, readOf, recordOf, fourOf, shownOf, fullOf, fullReadOf, pageOf, pageInOf, givenOf, tagOf, lengthOf, wroteOf};
 use crate::Length;
@@ -147,7 +148,7 @@ fn exported(a: Answer) -> AcbAnswer
 // Judges a book.
 #[no_mangle]
 pub extern "C" fn khuyurek_acb_judge(file: &[u8]) -> AcbAnswer
-    ensures { λ r. ⌜ r ≡ answerOf (verdict (acb (now (file .entry)))) ⌝ }
+    ensures { λ r. ⌜ r ≡ answerOf (verdict report (acb (now (file .entry)))) ⌝ }
 {
     exported(acb_judge::judge(file))
 }
@@ -155,7 +156,7 @@ pub extern "C" fn khuyurek_acb_judge(file: &[u8]) -> AcbAnswer
 // Reads a book into a table, twelve numbers a record.
 #[no_mangle]
 pub extern "C" fn khuyurek_acb_read(file: &[u8], table: &mut [u32]) -> AcbAnswer
-    ensures { λ r. ⌜ (r, now (table .exit)) ≡ readOf (filled (acb (now (file .entry))) (now (table .entry))) ⌝ }
+    ensures { λ r. ⌜ (r, now (table .exit)) ≡ readOf (filled width row entriesOf report (acb (now (file .entry))) (now (table .entry))) ⌝ }
 {
     exported(acb_read::read(file, table))
 }
@@ -163,7 +164,7 @@ pub extern "C" fn khuyurek_acb_read(file: &[u8], table: &mut [u32]) -> AcbAnswer
 // Record i of a book.
 #[no_mangle]
 pub extern "C" fn khuyurek_acb_record_at(file: &[u8], i: usize) -> AcbRecord
-    ensures { λ r. ⌜ r ≡ recordOf (shown (recordAt i (acb (now (file .entry))))) ⌝ }
+    ensures { λ r. ⌜ r ≡ recordOf (shown (recordAt entriesOf blank i (acb (now (file .entry))))) ⌝ }
 {
     let swatch = acb_read::record_at(file, i);
     let code = swatch.code;
@@ -342,7 +343,7 @@ pub extern "C" fn khuyurek_acb_page_in(
 ) -> AcbPage
     ensures { λ r. ⌜ r ≡ pageInOf (now (table .entry)) count size offset page ⌝ }
 {
-    exported_page(acb_show::page_in(table, count, size, offset, page))
+    exported_page(acb_view::page_in(table, count, size, offset, page))
 }
 
 // ---- writing
@@ -393,7 +394,7 @@ fn tag_given(number: u32) -> Ending
 // How many bytes writing a book takes.
 #[no_mangle]
 pub extern "C" fn khuyurek_acb_length(header: AcbHeader, records: &[u32], text: &[u8]) -> Length
-    ensures { λ r. ⌜ r ≡ lengthOf (now (text .entry)) header (given (now (records .entry))) ⌝ }
+    ensures { λ r. ⌜ r ≡ lengthOf (now (text .entry)) header (whole width taken (now (records .entry))) ⌝ }
 {
     exported_length(acb_records::write_length(
         header_given(header),
@@ -411,7 +412,7 @@ pub extern "C" fn khuyurek_acb_write(
     text: &[u8],
     out: &mut [u8],
 ) -> Length
-    ensures { λ r. ⌜ (r, now (out .exit)) ≡ wroteOf (now (text .entry)) header (given (now (records .entry))) (now (out .entry)) ⌝ }
+    ensures { λ r. ⌜ (r, now (out .exit)) ≡ wroteOf (now (text .entry)) header (whole width taken (now (records .entry))) (now (out .entry)) ⌝ }
 {
     exported_length(acb_write::write(
         header_given(header),

@@ -1,8 +1,8 @@
 use borrow.Author.Needs.{needs}
 use native.Mathlib.Omega.{arith}
 use Prim.Native.Nat.{ℕ, _-_, _≤_}
-use lib.ListN.{length, take, drop, length-drop}
-use lib.Seq.{getD-take, getD-drop, length-take-le}
+use lib.ListN.{length, take, drop, length-take}
+use lib.Seq.{getD-take}
 use mathlib.Core.Path.{_≡_, refl, sym, ap, _∙_}
 use Rattle.algebra.specs.Numbers.{joined}
 use Rattle.listing.specs.Buffer.{putAll}
@@ -12,19 +12,23 @@ use Rattle.acb_list.proofs.put_components.Statement.{statement}
 use Rattle.acb_list.proofs.put_components.Tie as tie
 
 abbrev Inv-loop : tie.InvT-loop
-Inv-loop out₀ n row components at₀ k₀ out at k = (k ≤ components) × (length out ≡ length out₀) × (putAll (out₀, n) (joined word (take components (drop 8 row))) ≡ putAll (out, at) (joined word (drop k (take components (drop 8 row)))))
+Inv-loop out₀ n values components at₀ k₀ out at k = (k ≤ components) × (length out ≡ length out₀) × (putAll (out₀, n) (joined word (take components values)) ≡ putAll (out, at) (joined word (drop k (take components values))))
 
 abbrev μ-loop : tie.MeasureT-loop
-μ-loop out₀ n row components at₀ k₀ out at k = components - k
+μ-loop out₀ n values components at₀ k₀ out at k = components - k
 
 loop-holds : tie.Need-loop-holds Inv-loop μ-loop
 loop-holds c = (omega arith, refl, refl)
 
-add-number : tie.Need-add-number Inv-loop μ-loop
-add-number c = search needs
+same-length : tie.Need-same-length Inv-loop μ-loop
+same-length c = search needs
 
-mul-number : tie.Need-mul-number Inv-loop μ-loop
-mul-number c = search needs
+returns : tie.Need-returns Inv-loop μ-loop
+returns c =
+    let a = c .before .before .before .before .before .args in
+    let l = c .before .before .loop in
+    let some = length-take (a .components) (a .values .now) in
+    sym (items-end word _ (take (a .components) (a .values .now)) (l .out, l .at) (l .k) (l .inv .2) (omega (arith, c .if1 .taken)))
 
 shared-slice-read-number : tie.Need-shared-slice-read-number Inv-loop μ-loop
 shared-slice-read-number c = search needs
@@ -43,26 +47,23 @@ loop-less c = search needs
 
 loop-again : tie.Need-loop-again Inv-loop μ-loop
 loop-again c =
-    let w = c .before .before .before .before .before .before .before in
-    let s = w .before .before .before in
-    let a = s .args in
-    let l = w .loop in
-    let h = c .before .before .before .before .before .before .loop-test .taken in
-    let some : length (take (a .components) (drop 8 (a .row .now))) ≡ a .components = length-take-le (a .components) (drop 8 (a .row .now)) (omega (arith, s .pre, length-drop 8 (a .row .now))) in
-    let same = getD-take (a .components) (drop 8 (a .row .now)) (l .k) 0 h ∙ getD-drop 8 (a .row .now) (l .k) 0 in
+    let a = c .before .before .before .before .before .before .before .before .before .before .before .args in
+    let l = c .before .before .before .before .before .before .before .before .loop in
+    let h = c .before .before .before .before .before .before .before .loop-test .taken in
+    let some = length-take (a .components) (a .values .now) in
+    let same = getD-take (a .components) (a .values .now) (l .k) 0 h in
     let x = c .before .before .put-word .ensures ∙ ap (λ (v : ℕ). putAll (l .out, l .at) (word v)) (c .before .before .before .number .ensures ∙ sym same) in
-    (omega arith, search needs, items-turn word _ (take (a .components) (drop 8 (a .row .now))) (l .out, l .at) (l .k) (l .inv .2) (omega arith) x)
+    (omega arith, search needs, items-turn word _ (take (a .components) (a .values .now)) (l .out, l .at) (l .k) (l .inv .2) (omega (arith, h, c .before .before .before .before .before .before .if1 .left)) x)
 
-same-length : tie.Need-same-length Inv-loop μ-loop
-same-length c = search needs
+same-length-2 : tie.Need-same-length-2 Inv-loop μ-loop
+same-length-2 c = search needs
 
-returns : tie.Need-returns Inv-loop μ-loop
-returns c =
-    let s = c .before .before .before .before in
-    let a = s .args in
+returns-2 : tie.Need-returns-2 Inv-loop μ-loop
+returns-2 c =
+    let a = c .before .before .before .before .args in
     let l = c .before .loop in
-    let some : length (take (a .components) (drop 8 (a .row .now))) ≡ a .components = length-take-le (a .components) (drop 8 (a .row .now)) (omega (arith, s .pre, length-drop 8 (a .row .now))) in
-    sym (items-end word _ (take (a .components) (drop 8 (a .row .now))) (l .out, l .at) (l .k) (l .inv .2) (omega (arith, c .loop-test .left)))
+    let some = length-take (a .components) (a .values .now) in
+    sym (items-end word _ (take (a .components) (a .values .now)) (l .out, l .at) (l .k) (l .inv .2) (omega (arith, c .loop-test .left)))
 
 pub put-components-spec : {M : Type 1} → statement M
 put-components-spec =
@@ -71,13 +72,13 @@ put-components-spec =
     Inv-loop
     μ-loop
     loop-holds
-    add-number
-    mul-number
+    same-length
+    returns
     shared-slice-read-number
     number-requires
     put-word-requires
     add-k
     loop-less
     loop-again
-    same-length
-    returns)
+    same-length-2
+    returns-2)

@@ -4,12 +4,9 @@ use Prim.Native.Nat.{ℕ}
 use mathlib.Core.Path.{sym, ap, _∙_}
 use Rattle.acb_judge.specs.Answer.{told}
 use Rattle.acb_judge.specs.declared.Answer.{Answer}
-use Rattle.acb_judge.proofs.Judging.{components-most}
 use Rattle.listing.specs.Buffer.{putAll}
-use Rattle.listing.specs.Text.{lines}
 use Rattle.listing.proofs.Wording.{taken-beyond, taken-within}
 use Rattle.listing.proofs.Putting.{put-both}
-use Rattle.acb_list.specs.Listing.{line}
 use Rattle.acb_list.proofs.Listed.{listed-refused, listed-accepted}
 use Rattle.acb_list.proofs.put_listing.Statement.{statement}
 use Rattle.acb_list.proofs.put_listing.Tie as tie
@@ -40,22 +37,14 @@ put-refusal-requires-2 c κs = search needs
 enum-known-header : tie.Need-enum-known-header
 enum-known-header c = search needs
 
-components-of-requires : tie.Need-components-of-requires
-components-of-requires c κs = search needs
-
 put-heading-requires : tie.Need-put-heading-requires
 put-heading-requires c κs = search needs
 
 put-texts-requires : tie.Need-put-texts-requires
 put-texts-requires c κs = search needs
 
-slice-aggregate-put-records : tie.Need-slice-aggregate-put-records
-slice-aggregate-put-records c = search needs
-
 put-records-requires : tie.Need-put-records-requires
-put-records-requires c κs =
-    let k = c .before .before .before .before .before .before .before .before .before .before in
-    omega (arith, k .components-of .ensures, components-most (k .before .before .header .given .0 .0 .space))
+put-records-requires c κs = search needs
 
 slice-aggregate-put-pages : tie.Need-slice-aggregate-put-pages
 slice-aggregate-put-pages c = search needs
@@ -86,16 +75,14 @@ returns-3 : tie.Need-returns-3
 returns-3 c =
     let pages = c .before .before .before .before .before .before .before in
     let records = pages .before .before .before .before .before in
-    let texts = records .before .before .before .before .before in
+    let texts = records .before .before .before .before in
     let headed = texts .before .before .before .before in
-    let comps = headed .before .before in
-    let v = comps .before .before in
+    let v = headed .before .before .before in
     let j = v .before .before .before in
     let a = j .before .before .before .before .before .args in
     let x = listed-accepted (a .file .now) _ _ (search needs) (λ k. omega (arith, j .before .before .before .shared-slice-known .given k)) (j .before .before .if1 .left) (ap (λ (x : Answer). (told x, j .read .last .1 .0)) (sym (v .header .given .1)) ∙ j .read .ensures) in
-    let lined = records .put-records .ensures (x .0) (x .1) (x .2) (x .3) ∙ ap (λ (m : ℕ). putAll (texts .put-texts .last .0, texts .put-texts .result) (lines (line (a .file .now) m) 0 (x .0))) (comps .components-of .ensures) in
-    put-both _ _ _ (put-both _ _ _ (put-both _ _ _ (put-both _ _ _ (headed .put-heading .ensures) (texts .put-texts .ensures)) lined) (pages .put-pages .ensures)) (c .before .before .put-text .ensures)
-    ∙ ap (putAll (a .out .now, 0)) (x .4 ∙ taken-within 65536 (a .file .now) _ (j .before .before .if1 .left))
+    put-both _ _ _ (put-both _ _ _ (put-both _ _ _ (put-both _ _ _ (headed .put-heading .ensures) (texts .put-texts .ensures)) (records .put-records .ensures)) (pages .put-pages .ensures)) (c .before .before .put-text .ensures)
+    ∙ ap (putAll (a .out .now, 0)) (x ∙ taken-within 65536 (a .file .now) _ (j .before .before .if1 .left))
 
 pub put-listing-spec : {M : Type 1} → statement M
 put-listing-spec =
@@ -109,10 +96,8 @@ put-listing-spec =
     enum-known-number
     put-refusal-requires-2
     enum-known-header
-    components-of-requires
     put-heading-requires
     put-texts-requires
-    slice-aggregate-put-records
     put-records-requires
     slice-aggregate-put-pages
     put-pages-requires

@@ -1,45 +1,43 @@
-use Prim.Native.Nat.{_-_, _*_, _≤_}
-use mathlib.Core.Path.{_≡_, refl, sym, _∙_}
-use lib.ListN.{length, drop}
+use Prim.Native.Nat.{ℕ, _+_, _-_, _*_, _≤_}
+use mathlib.Core.Path.{_≡_, refl, sym, ap, _∙_}
+use mathlib.Core.List.{List, []}
+use lib.ListN.{length}
 use lib.Seq.{sets}
 use native.Mathlib.Omega.{arith}
 use borrow.Author.Needs.{needs}
 use Rattle.algebra.specs.Numbers.{joined}
-use Rattle.acb.specs.Reading.{acb}
-use Rattle.acb_read.specs.Table.{row, blank}
-use Rattle.acb_read.specs.Raw.{recordPlace, entriesOf}
-use Rattle.acb_read.proofs.Filling.{place-first, length-entries, count-small, Here, here}
-use Rattle.algebra.proofs.Rows.{fill-turn, fill-end}
+use Rattle.acb.specs.Row.{Given, width, numbers}
+use Rattle.acb_read.specs.Answer.{Shown}
+use Rattle.acb_read.specs.Walked.{givenIn, walked}
+use Rattle.acb_read.proofs.Walking.{walked-start, walked-turn, walked-end, name-small, row-stored, rows-stored}
 use Rattle.acb_read.proofs.fill.Statement.{statement}
 use Rattle.acb_read.proofs.fill.Tie as tie
 
 abbrev Inv-loop : tie.InvT-loop
-Inv-loop file count first n table₀ i₀ at₀ table i at = (i ≤ count) × (sets table₀ 0 (joined row (entriesOf (acb file))) ≡ sets table (12 * i) (joined row (drop i (entriesOf (acb file))))) × (length table ≡ length table₀) × (at ≡ recordPlace n file first i)
+Inv-loop file count first space table₀ i₀ at₀ table i at = (i ≤ count) × (sets table₀ 0 (joined numbers (walked space file first count)) ≡ sets table (width * i) (joined numbers (walked space file at (count - i)))) × (length table ≡ length table₀)
 
 abbrev μ-loop : tie.MeasureT-loop
-μ-loop file count first n table₀ i₀ at₀ table i at = count - i
-
--- what is known of record i
-known : (c : tie.In-loop Inv-loop μ-loop) → Here (c .before .before .before .before .args .file .now) (c .before .before .before .before .args .n) (c .before .before .before .before .args .first) (c .before .loop .i) (c .before .loop .at)
-known c =
-    let st = c .before .before .before .before in
-    let l = c .before .loop in
-    here (st .args .file .now) (λ j. omega (arith, c .before .before .before .shared-slice-known .given j)) (st .args .count) (st .args .first) (st .args .n) (st .pre .0) (l .i) (c .loop-test .taken) (l .at) (l .inv .3)
+μ-loop file count first space table₀ i₀ at₀ table i at = count - i
 
 loop-holds : tie.Need-loop-holds Inv-loop μ-loop
-loop-holds c = (omega arith, refl, refl, sym (place-first _ _ _))
+loop-holds c =
+    let a = c .before .before .args in
+    (omega arith, ap (λ (gs : List Given). sets (a .table .now) 0 (joined numbers gs)) (walked-start (a .space) (a .file .now) (a .first) (a .count)), refl)
+
+step-at-requires : tie.Need-step-at-requires Inv-loop μ-loop
+step-at-requires c κs = search needs
 
 mul-put-row : tie.Need-mul-put-row Inv-loop μ-loop
 mul-put-row c =
-    let st = c .before .before .before .before .before in
-    omega (arith, c .before .loop-test .taken, count-small (st .args .file .now) (λ j. omega (arith, c .before .before .before .before .shared-slice-known .given j)) (st .args .count) (st .args .first) (st .args .n) (st .pre .0))
+    let st = c .before .before .before .before .before .before in
+    omega (arith, c .before .before .loop-test .taken, st .pre .1, c .before .before .before .loop .inv .2)
 
 put-row-requires : tie.Need-put-row-requires Inv-loop μ-loop
 put-row-requires c κs =
-    let tn = c .before in
-    let h = known tn in
-    let st = tn .before .before .before .before in
-    (h .least, h .inside, h .short, omega (arith, tn .loop-test .taken, tn .before .loop .inv .2, st .pre .1))
+    let st = c .before .before .before .before .before .before in
+    let l = c .before .before .before .loop in
+    let e = ap (λ (w : Shown × ℕ). givenIn (w .0) .name .0) (c .before .step-at .ensures) in
+    (omega (arith, c .before .before .loop-test .taken, st .pre .1, l .inv .2), omega (arith, e, name-small (st .args .space) (st .args .file .now) (l .at) (st .pre .0)))
 
 add-i : tie.Need-add-i Inv-loop μ-loop
 add-i c = search needs
@@ -49,16 +47,20 @@ loop-less c = search needs
 
 loop-again : tie.Need-loop-again Inv-loop μ-loop
 loop-again c =
-    let pr = c .before .before in
-    let tn = pr .before .before in
-    let l = tn .before .loop in
-    let st = tn .before .before .before .before in
-    let s = st .args .file .now in
-    let k = known tn in (
-      omega (arith, tn .loop-test .taken),
-      fill-turn 12 row (entriesOf (acb s)) _ (l .table) (l .i) (l .inv .1) blank (omega (arith, tn .loop-test .taken, length-entries s (λ j. omega (arith, tn .before .before .before .shared-slice-known .given j)) (st .args .count) (st .args .first) (st .args .n) (st .pre .0))) _ _ (k .is-row) refl (pr .put-row .ensures .1),
-      pr .put-row .kept .1 .1 .1 .0 ∙ l .inv .2,
-      pr .put-row .ensures .0 ∙ k .next,
+    let put = c .before .before .put-row in
+    let step = c .before .before .before .before .step-at in
+    let t = c .before .before .before .before .before .loop-test .taken in
+    let l = c .before .before .before .before .before .before .loop in
+    let a = c .before .before .before .before .before .before .before .before .before .args in
+    let s = a .file .now in
+    let n = ap (λ (w : Shown × ℕ). w .1) (step .ensures) in
+    let z : width * (l .i + 1) ≡ width * l .i + width = omega arith in (
+      omega arith,
+      row-stored _ (l .table) _ (width * l .i) (width * (l .i + 1)) _ _
+          (l .inv .1 ∙ ap (λ (gs : List Given). sets (l .table) (width * l .i) (joined numbers gs)) (walked-turn (a .space) s (l .at) (a .count) (l .i) t))
+          (put .ensures ∙ ap (λ (w : Shown × ℕ). sets (l .table) (width * l .i) (numbers (givenIn (w .0)))) (step .ensures)) z
+          ∙ ap (λ (q : ℕ). sets (put .last .0) (width * (l .i + 1)) (joined numbers (walked (a .space) s q (a .count - (l .i + 1))))) (sym n),
+      put .kept .0 ∙ l .inv .2,
     )
 
 same-length : tie.Need-same-length Inv-loop μ-loop
@@ -67,9 +69,8 @@ same-length c = c .before .loop .inv .2
 returns : tie.Need-returns Inv-loop μ-loop
 returns c =
     let l = c .before .loop in
-    let st = c .before .before .before .before in
-    let s = st .args .file .now in
-    sym (fill-end 12 row (entriesOf (acb s)) _ (l .table) (l .i) (l .inv .1) (omega (arith, c .loop-test .left, length-entries s (λ j. omega (arith, c .before .before .before .shared-slice-known .given j)) (st .args .count) (st .args .first) (st .args .n) (st .pre .0))))
+    let a = c .before .before .before .before .args in
+    sym (rows-stored _ (l .table) (width * l .i) _ (l .inv .1) (walked-end (a .space) (a .file .now) (l .at) (a .count) (l .i) (c .loop-test .left)))
 
 pub fill-spec : {M : Type 1} → statement M
 fill-spec =
@@ -78,6 +79,7 @@ fill-spec =
     Inv-loop
     μ-loop
     loop-holds
+    step-at-requires
     mul-put-row
     put-row-requires
     add-i

@@ -1,9 +1,13 @@
-use mathlib.Core.Path.{sym, ap, _∙_, subst}
+use mathlib.Core.Path.{refl, sym, ap, _∙_}
+use lib.Seq.{sets}
 use native.Mathlib.Omega.{arith}
-use Rattle.acb_judge.specs.Answer.{told}
+use Rattle.algebra.proofs.Table.{accepted-of, filled-refused, filled-short, filled-is}
+use Rattle.algebra.specs.Filling.{recordsIn}
 use Rattle.acb.specs.Reading.{acb}
-use Rattle.acb_read.specs.Raw.{Accepted}
-use Rattle.acb_read.proofs.Answers.{accepted-of, filled-refused, filled-short, filled-is}
+use Rattle.acb.specs.Row.{width, row}
+use Rattle.acb_judge.specs.Answer.{Report, report, told}
+use Rattle.acb_read.specs.Table.{entriesOf}
+use Rattle.acb_read.proofs.Answers.{length-table, file-short, rows-walked}
 use borrow.Author.Needs.{needs}
 use Rattle.acb_read.proofs.read.Statement.{statement}
 use Rattle.acb_read.proofs.read.Tie as tie
@@ -22,25 +26,21 @@ returns c =
     let v = c .before .before in
     let j = v .before .before in
     let a = j .before .before .before .args in
-    filled-short (acb (a .file .now)) (a .table .now) (sym (ap told (v .header .given .1)) ∙ j .judge .ensures) (omega (arith, c .if1 .taken))
-
-components-of-requires : tie.Need-components-of-requires
-components-of-requires c κs = search needs
+    filled-short entriesOf report (λ (r : Report). r .count) (λ x. refl) (acb (a .file .now)) width row (a .table .now) (sym (ap told (v .header .given .1)) ∙ j .judge .ensures) (omega (arith, c .if1 .taken))
 
 fill-requires : tie.Need-fill-requires
 fill-requires c κs =
-    let n = c .before in
-    let v = n .before .before .before in
+    let v = c .before .before .before in
     let j = v .before .before in
     let s = j .before .before .before .args .file .now in
-    (subst (Accepted (acb s) _ _) (sym (n .components-of .ensures)) (accepted-of (acb s) (sym (ap told (v .header .given .1)) ∙ j .judge .ensures)), omega (arith, n .before .if1 .left))
+    (file-short s (accepted-of report (acb s) (sym (ap told (v .header .given .1)) ∙ j .judge .ensures)), omega (arith, c .before .if1 .left))
 
 returns-2 : tie.Need-returns-2
 returns-2 c =
     let x = c .before in
     let j = x .before .before in
     let a = j .before .before .before .args in
-    filled-refused (acb (a .file .now)) (a .table .now) (sym (ap told (x .number .given .1)) ∙ j .judge .ensures)
+    filled-refused entriesOf report (λ (r : Report). r .count) (λ y. refl) (acb (a .file .now)) width row (a .table .now) (sym (ap told (x .number .given .1)) ∙ j .judge .ensures)
 
 same-length : tie.Need-same-length
 same-length c = search needs
@@ -48,11 +48,13 @@ same-length c = search needs
 returns-3 : tie.Need-returns-3
 returns-3 c =
     let f = c .before .before in
-    let n = f .before .before in
-    let v = n .before .before .before in
+    let v = f .before .before .before .before in
     let j = v .before .before in
     let a = j .before .before .before .args in
-    filled-is (acb (a .file .now)) (a .table .now) (sym (ap told (v .header .given .1)) ∙ j .judge .ensures) (omega (arith, n .before .if1 .left)) _ (f .fill .ensures)
+    let s = a .file .now in
+    let e = sym (ap told (v .header .given .1)) ∙ j .judge .ensures in
+    filled-is entriesOf report (λ (r : Report). r .count) (λ x. refl) (acb s) width row (a .table .now) e (omega (arith, f .before .before .if1 .left)) (length-table (recordsIn entriesOf (acb s))) _
+    (f .fill .ensures ∙ ap (sets (a .table .now) 0) (rows-walked s (accepted-of report (acb s) e)))
 
 pub read-spec : {M : Type 1} → statement M
 read-spec =
@@ -62,7 +64,6 @@ read-spec =
     enum-known-number
     enum-known-header
     returns
-    components-of-requires
     fill-requires
     returns-2
     same-length

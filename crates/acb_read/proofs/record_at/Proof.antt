@@ -1,10 +1,13 @@
-use mathlib.Core.Path.{sym, ap, _∙_, subst}
+use Prim.Native.Nat.{ℕ}
+use mathlib.Core.Path.{refl, sym, ap, _∙_}
 use native.Mathlib.Omega.{arith}
-use Rattle.acb_judge.specs.Answer.{told}
+use Rattle.algebra.proofs.Table.{accepted-of, record-refused, record-none}
 use Rattle.acb.specs.Reading.{acb}
-use Rattle.acb_read.specs.Raw.{Accepted}
-use Rattle.acb_read.specs.Answer.{shown}
-use Rattle.acb_read.proofs.Answers.{accepted-of, no-file, no-record}
+use Rattle.acb_judge.specs.Answer.{Report, report, told}
+use Rattle.acb_read.specs.Table.{entriesOf, blank}
+use Rattle.acb_read.specs.Answer.{Shown, shown}
+use Rattle.acb_read.specs.Walked.{step}
+use Rattle.acb_read.proofs.Answers.{record-walked}
 use borrow.Author.Needs.{needs}
 use Rattle.acb_read.proofs.record_at.Statement.{statement}
 use Rattle.acb_read.proofs.record_at.Tie as tie
@@ -29,27 +32,30 @@ returns c =
     let v = c .before .before .before in
     let j = v .before .before in
     let a = j .before .before .args in
-    c .none2 .ensures ∙ ap shown (no-record (acb (a .file .now)) (a .i) (sym (ap told (v .header .given .1)) ∙ j .judge .ensures) (omega (arith, c .before .if1 .taken)))
+    let e = accepted-of report (acb (a .file .now)) (sym (ap told (v .header .given .1)) ∙ j .judge .ensures) in
+    c .none2 .ensures ∙ ap shown (record-none entriesOf report (λ (r : Report). r .count) (λ x. refl) (acb (a .file .now)) blank (a .i) e (omega (arith, c .before .if1 .taken)))
 
-components-of-requires : tie.Need-components-of-requires
-components-of-requires c κs = search needs
+place-at-requires : tie.Need-place-at-requires
+place-at-requires c κs = search needs
 
-found-requires : tie.Need-found-requires
-found-requires c κs =
-    let v = c .before .before .before in
-    let j = v .before .before in
-    let s = j .before .before .args .file .now in
-    (subst (Accepted (acb s) _ _) (sym (c .components-of .ensures)) (accepted-of (acb s) (sym (ap told (v .header .given .1)) ∙ j .judge .ensures)), omega (arith, c .before .if1 .left))
+step-at-requires : tie.Need-step-at-requires
+step-at-requires c κs = search needs
 
 returns-2 : tie.Need-returns-2
 returns-2 c =
     let x = c .before .before in
     let j = x .before .before in
     let a = j .before .before .args in
-    c .none .ensures ∙ ap shown (no-file (acb (a .file .now)) (a .i) (sym (ap told (x .number .given .1)) ∙ j .judge .ensures))
+    c .none .ensures ∙ ap shown (record-refused entriesOf report (λ (r : Report). r .count) (λ y. refl) (acb (a .file .now)) blank (a .i) (sym (ap told (x .number .given .1)) ∙ j .judge .ensures))
 
 returns-3 : tie.Need-returns-3
-returns-3 c = search needs
+returns-3 c =
+    let v = c .before .before .before .before .before in
+    let j = v .before .before in
+    let a = j .before .before .args in
+    let s = a .file .now in
+    let e = accepted-of report (acb s) (sym (ap told (v .header .given .1)) ∙ j .judge .ensures) in
+    ap (λ (w : Shown × ℕ). w .0) (c .before .step-at .ensures) ∙ ap (λ (p : ℕ). step (v .header .given .0 .0 .space) s p .0) (c .before .before .place-at .ensures) ∙ record-walked s e (a .i) (omega (arith, c .before .before .before .if1 .left))
 
 pub record-at-spec : {M : Type 1} → statement M
 record-at-spec =
@@ -61,7 +67,7 @@ record-at-spec =
     enum-known-header
     none-requires-2
     returns
-    components-of-requires
-    found-requires
+    place-at-requires
+    step-at-requires
     returns-2
     returns-3)

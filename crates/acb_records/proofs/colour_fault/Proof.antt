@@ -1,5 +1,5 @@
 use Rattle.acb_records.proofs.Judging.{colour-named, colour-coded, colour-rest}
-use Rattle.acb_records.specs.Parts.{givenOf}
+use Rattle.acb_records.specs.Parts.{toldRecord}
 use borrow.Author.Needs.{needs}
 use Rattle.acb_records.proofs.colour_fault.Statement.{statement}
 use Rattle.acb_records.proofs.colour_fault.Tie as tie
@@ -8,19 +8,19 @@ text-fault-requires : tie.Need-text-fault-requires
 text-fault-requires c κs = search needs
 
 returns : tie.Need-returns
-returns c = let a = c .before .before .before .args in colour-named (a .text .now) (a .n) (givenOf (a .given)) _ (c .before .text-fault .ensures) (c .if1 .taken)
+returns c = let a = c .before .before .before .args in colour-named (a .text .now) (a .n) (toldRecord (a .given)) _ (c .before .text-fault .ensures) (c .if1 .taken)
 
 code-fault-requires : tie.Need-code-fault-requires
 code-fault-requires c κs = search needs
 
 returns-2 : tie.Need-returns-2
-returns-2 c = let a = c .before .before .before .before .before .args in colour-coded (a .text .now) (a .n) (givenOf (a .given)) _ (c .before .before .before .text-fault .ensures) (c .before .before .if1 .left) _ (c .before .code-fault .ensures) (c .if2 .taken)
+returns-2 c = let a = c .before .before .before .before .before .args in colour-coded (a .text .now) (a .n) (toldRecord (a .given)) _ (c .before .before .before .text-fault .ensures) (c .before .before .if1 .left) _ (c .before .code-fault .ensures) (c .if2 .taken)
 
 components-fault-requires : tie.Need-components-fault-requires
 components-fault-requires c κs = search needs
 
 returns-3 : tie.Need-returns-3
-returns-3 c = let a = c .before .before .before .before .before .before .args in colour-rest (a .text .now) (a .n) (givenOf (a .given)) _ (c .before .before .before .before .text-fault .ensures) (c .before .before .before .if1 .left) _ (c .before .before .code-fault .ensures) (c .before .if2 .left) _ (c .components-fault .ensures)
+returns-3 c = let a = c .before .before .before .before .before .before .args in colour-rest (a .text .now) (a .n) (toldRecord (a .given)) _ (c .before .before .before .before .text-fault .ensures) (c .before .before .before .if1 .left) _ (c .before .before .code-fault .ensures) (c .before .if2 .left) _ (c .components-fault .ensures)
 
 pub colour-fault-spec : {M : Type 1} → statement M
 colour-fault-spec =

@@ -3,13 +3,16 @@ use mathlib.Core.Path.{_≡_, ap, _∙_}
 use native.Mathlib.Omega.{arith}
 use Prim.Native.Nat.{_-_, _≤_}
 use Rattle.algebra.specs.Faults.{faults}
-use Rattle.acb_records.specs.Writing.{givenAt, givens, colourFault}
+use Rattle.acb_records.specs.Writing.{colourFault}
+use Rattle.algebra.specs.Table.{rows}
+use Rattle.acb.specs.Row.{width, taken}
+use Rattle.acb_records.specs.Parts.{givenAt}
 use borrow.Author.Needs.{needs}
 use Rattle.acb_records.proofs.colours_fault.Statement.{statement}
 use Rattle.acb_records.proofs.colours_fault.Tie as tie
 
 abbrev Inv-loop : tie.InvT-loop
-Inv-loop run text count n i₀ i = (i ≤ count) × (faults (colourFault text n) (givens run count 0) ≡ faults (colourFault text n) (givens run (count - i) i))
+Inv-loop run text count n i₀ i = (i ≤ count) × (faults (colourFault text n) (rows width taken run count 0) ≡ faults (colourFault text n) (rows width taken run (count - i) i))
 
 abbrev μ-loop : tie.MeasureT-loop
 μ-loop run text count n i₀ i = count - i

@@ -6,13 +6,15 @@ use native.Mathlib.Omega.{arith}
 use Prim.Native.Nat.{ℕ, _+_, _-_, _≤_}
 use Rattle.acb_judge.specs.Answer.{toldHeader}
 use Rattle.acb_records.specs.Answer.{toldEnding}
-use Rattle.acb_records.specs.Writing.{Given, givens, sizes, stringSize, sizeIn, size}
+use Rattle.acb_records.specs.Writing.{sizes, stringSize, sizeIn, size}
+use Rattle.algebra.specs.Table.{rows}
+use Rattle.acb.specs.Row.{Given, width, taken}
 use borrow.Author.Needs.{needs}
 use Rattle.acb_records.proofs.size_of.Statement.{statement}
 use Rattle.acb_records.proofs.size_of.Tie as tie
 
 abbrev Inv-loop : tie.InvT-loop
-Inv-loop run n tones total₀ i₀ total i = (i ≤ n) × (total ≤ 16777216) × (total + sizes (toned tones) (givens run (n - i) i) ≡ total₀ + sizes (toned tones) (givens run n 0))
+Inv-loop run n tones total₀ i₀ total i = (i ≤ n) × (total ≤ 16777216) × (total + sizes (toned tones) (rows width taken run (n - i) i) ≡ total₀ + sizes (toned tones) (rows width taken run n 0))
 
 abbrev μ-loop : tie.MeasureT-loop
 μ-loop run n tones total₀ i₀ total i = n - i
@@ -34,7 +36,7 @@ add-total c = search needs
 
 returns : tie.Need-returns Inv-loop μ-loop
 returns c = let a = c .before .before .before .before .before .args in
-    size-over (size (toldHeader (a .header)) (toldEnding (a .ending)) (givens (a .run .now) (a .n) 0)) (omega (arith, c .before .before .head-size .ensures .0, c .before .ending-size .ensures .0, c .if1 .taken))
+    size-over (size (toldHeader (a .header)) (toldEnding (a .ending)) (rows width taken (a .run .now) (a .n) 0)) (omega (arith, c .before .before .head-size .ensures .0, c .before .ending-size .ensures .0, c .if1 .taken))
 
 loop-holds : tie.Need-loop-holds Inv-loop μ-loop
 loop-holds c = let a = c .before .before .before .before .before .args in
@@ -56,7 +58,7 @@ returns-2 : tie.Need-returns-2 Inv-loop μ-loop
 returns-2 c = let l = c .before .before .before .before .loop in
     let a = c .before .before .before .before .before .before .before .before .before .before .args in
     let m = c .before .before .before .before .before .before .before .before .components-of in
-    let gs = givens (a .run .now) (a .n) 0 in
+    let gs = rows width taken (a .run .now) (a .n) 0 in
     let z = ap (λ (j : ℕ). sizes (sizeIn j) gs) (m .ensures) in
     let e = c .before .string-size .ensures .0 ∙ ap (λ (g : Given). stringSize (g .name)) (c .before .before .whole-at .ensures) in
     let t = sizes-turn (a .run .now) (toned (6 + m .result)) (a .n) (l .i) (c .before .before .before .loop-test .taken) in
@@ -80,7 +82,7 @@ returns-3 : tie.Need-returns-3 Inv-loop μ-loop
 returns-3 c = let l = c .before .loop in
     let a = c .before .before .before .before .before .before .before .args in
     let m = c .before .before .before .before .before .components-of in
-    let gs = givens (a .run .now) (a .n) 0 in
+    let gs = rows width taken (a .run .now) (a .n) 0 in
     let z = ap (λ (j : ℕ). sizes (sizeIn j) gs) (m .ensures) in
     let t = sizes-end (a .run .now) (toned (6 + m .result)) (a .n) (l .i) (c .loop-test .left) in
     size-fits (size (toldHeader (a .header)) (toldEnding (a .ending)) gs) (l .total) (omega (arith, t, z, l .inv .2, c .before .before .before .before .head-size .ensures .0, c .before .before .before .ending-size .ensures .0)) (l .inv .1)

@@ -6,7 +6,7 @@ use Rattle.algebra.proofs.Counted.{length-counted}
 use Rattle.algebra.proofs.Writing.{size-is, size-passes}
 use Rattle.acb.proofs.Laws.{components-some}
 use Rattle.acb.specs.Faults.{endingFault}
-use Rattle.acb_records.specs.Writing.{givenAt}
+use Rattle.acb_records.specs.Parts.{givenAt}
 use Rattle.acb_records.specs.Answer.{toldEnding}
 use Rattle.acb_records.proofs.Outcomes.{too-long, bad-head, bad-colour, bad-ending, all-fine}
 use Rattle.acb_records.proofs.write_length.Statement.{statement}

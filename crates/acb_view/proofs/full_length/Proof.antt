@@ -44,7 +44,7 @@ add-t17 c =
 returns-2 : tie.Need-returns-2
 returns-2 c =
     let call = c .before .before .before in
-    length-refused (call .before .before .args .file .now) (acb (call .before .before .args .file .now)) _ (sym (ap told (c .before .number .given .1)) ∙ call .judge .ensures)
+    length-refused (acb (call .before .before .args .file .now)) _ (sym (ap told (c .before .number .given .1)) ∙ call .judge .ensures) (call .before .before .args .file .now)
 
 returns-3 : tie.Need-returns-3
 returns-3 c =

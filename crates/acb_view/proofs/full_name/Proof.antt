@@ -52,7 +52,7 @@ put-three-requires c κs = search needs
 returns-3 : tie.Need-returns-3
 returns-3 c =
     let call = c .before .before .before in
-    name-refused (call .before .before .before .args .file .now) (acb (call .before .before .before .args .file .now)) _ _ (sym (ap told (c .before .number .given .1)) ∙ call .judge .ensures)
+    name-refused (acb (call .before .before .before .args .file .now)) _ (sym (ap told (c .before .number .given .1)) ∙ call .judge .ensures) (call .before .before .before .args .file .now) _
 
 same-length : tie.Need-same-length
 same-length c = search needs

@@ -1,12 +1,15 @@
-use borrow.Author.Needs.{needs}
-use mathlib.Core.Path.{_≡_, sym, ap, _∙_}
+use Prim.Native.Nat.{ℕ, _-_}
+use mathlib.Core.Path.{sym, ap, _∙_}
+use mathlib.Core.List.{map}
+use Rattle.algebra.proofs.Table.{accepted-of}
 use Rattle.acb.specs.Reading.{acb}
-use Rattle.acb_judge.specs.Answer.{accepted, verdict, told, toldHeader, toldTag}
-use Rattle.acb_show.specs.Pages.{pageRange, records}
+use Rattle.acb_judge.specs.Answer.{report, told}
+use Rattle.acb_read.specs.Walked.{walked}
+use Rattle.acb_show.specs.Pages.{sampleFrom}
 use Rattle.acb_show.specs.Answer.{pageOf, toldRecords}
-use Rattle.acb_show.proofs.Sampling.{page-absent, page-there}
-use Rattle.acb_view.specs.Places.{unitsOf}
-use Rattle.acb_view.proofs.Walking.{page-refuses, page-shows, having}
+use Rattle.acb_view.specs.View.{unnamed}
+use Rattle.acb_view.proofs.Walking.{page-refuses, page-none, page-shows}
+use borrow.Author.Needs.{needs}
 use Rattle.acb_view.proofs.page_at.Statement.{statement}
 use Rattle.acb_view.proofs.page_at.Tie as tie
 
@@ -25,27 +28,20 @@ page-records-requires c κs = search needs
 enum-told : tie.Need-enum-told
 enum-told c = search needs
 
+none-requires : tie.Need-none-requires
+none-requires c κs = search needs
+
 enum-known-i : tie.Need-enum-known-i
 enum-known-i c = search needs
 
-components-of-requires : tie.Need-components-of-requires
-components-of-requires c κs = search needs
+place-at-requires : tie.Need-place-at-requires
+place-at-requires c κs = search needs
 
-cast-sample-from : tie.Need-cast-sample-from
-cast-sample-from c = search needs
+cast-sample-at : tie.Need-cast-sample-at
+cast-sample-at c = search needs
 
--- the verdict, where `header` is bound
-judged : (c : tie.After-header) → accepted (toldHeader (c .header .given .0 .0)) (toldTag (c .header .given .0 .1 .0)) (c .header .given .0 .1 .1 .0) (c .header .given .0 .1 .1 .1 .0) ≡ verdict (acb (c .before .before .before .before .args .file .now))
-judged c = sym (ap told (c .header .given .1)) ∙ c .before .before .judge .ensures
-
--- the page's records, where `i` and `end` are bound
-range : (c : tie.After-i) → pageRange (c .before .before .before .before .header .given .0 .1 .1 .0) (c .before .before .before .before .header .given .0 .0 .size) (c .before .before .before .before .before .before .before .before .args .page) ≡ records (c .i .given .0 .0) (c .i .given .0 .1 .0)
-range c = sym (c .before .before .page-records .ensures) ∙ ap toldRecords (c .i .given .1)
-
-sample-from-requires : tie.Need-sample-from-requires
-sample-from-requires c κs =
-    let i = c .before .before .before in
-    having _ (judged (i .before .before .before .before)) _ _ (c .before .components-of .ensures) (range i)
+sample-at-requires : tie.Need-sample-at-requires
+sample-at-requires c κs = search needs
 
 returns : tie.Need-returns
 returns c =
@@ -54,19 +50,23 @@ returns c =
 
 returns-2 : tie.Need-returns-2
 returns-2 c =
-    let w = c .before .before .before .before in
-    let a = w .before .before .before .before .args in
-    let h = w .header .given .0 in
-    let e = sym (c .before .before .page-records .ensures) ∙ ap toldRecords (c .enum-told .given .1) in
-    sym (ap pageOf (page-absent (unitsOf (acb (a .file .now))) (h .1 .1 .0) (h .0 .size) (h .0 .offset) (a .page) e)) ∙ page-shows (acb (a .file .now)) (a .page) (judged w)
+    let v = c .before .before .before .before .before in
+    let j = v .before .before in
+    let a = j .before .before .args in
+    let e = sym (c .before .before .before .page-records .ensures) ∙ ap toldRecords (c .before .enum-told .given .1) in
+    c .none .ensures ∙ page-none (a .file .now) (a .page) (accepted-of report (acb (a .file .now)) (sym (ap told (v .header .given .1)) ∙ j .judge .ensures)) e
 
 returns-3 : tie.Need-returns-3
 returns-3 c =
-    let i = c .before .before .before .before in
-    let w = i .before .before .before .before in
-    let a = w .before .before .before .before .args in
-    let h = w .header .given .0 in
-    c .sample-from .ensures ∙ sym (ap pageOf (page-there (unitsOf (acb (a .file .now))) (h .1 .1 .0) (h .0 .size) (h .0 .offset) (a .page) (range i))) ∙ page-shows (acb (a .file .now)) (a .page) (judged w)
+    let v = c .before .before .before .before .before .before .before .before in
+    let j = v .before .before in
+    let a = j .before .before .args in
+    let h = v .header .given .0 .0 in
+    let i = c .before .before .before .before .i .given .0 in
+    let e = sym (c .before .before .before .before .before .before .page-records .ensures) ∙ ap toldRecords (c .before .before .before .before .i .given .1) in
+    c .sample-at .ensures
+    ∙ ap (λ (p : ℕ). pageOf (sampleFrom (i .0) (h .offset) (map unnamed (walked (h .space) (a .file .now) p (i .1 .0 - i .0))))) (c .before .before .place-at .ensures)
+    ∙ page-shows (a .file .now) (a .page) (accepted-of report (acb (a .file .now)) (sym (ap told (v .header .given .1)) ∙ j .judge .ensures)) e
 
 pub page-at-spec : {M : Type 1} → statement M
 page-at-spec =
@@ -77,10 +77,11 @@ page-at-spec =
     enum-known-header
     page-records-requires
     enum-told
+    none-requires
     enum-known-i
-    components-of-requires
-    cast-sample-from
-    sample-from-requires
+    place-at-requires
+    cast-sample-at
+    sample-at-requires
     returns
     returns-2
     returns-3)

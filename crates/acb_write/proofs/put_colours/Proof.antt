@@ -8,15 +8,17 @@ use native.Mathlib.Omega.{arith}
 use Prim.Native.Nat.{_+_, _-_, _≤_}
 use Rattle.algebra.specs.Numbers.{joined}
 use Rattle.acb.specs.Grammar.{colourBytes}
-use Rattle.acb_records.specs.Writing.{Given, givenAt, givens, colourIn, sizes, sizeIn}
-use Rattle.acb_records.specs.Parts.{RecordFits, RecordsFit, givenOf}
+use Rattle.acb_records.specs.Writing.{colourIn, sizes, sizeIn}
+use Rattle.algebra.specs.Table.{rows}
+use Rattle.acb.specs.Row.{Given, width, taken}
+use Rattle.acb_records.specs.Parts.{givenAt, RecordFits, RecordsFit, toldRecord}
 use borrow.Author.Needs.{needs}
 use Rattle.acb_write.proofs.put_colours.Statement.{statement}
 use Rattle.acb_write.proofs.put_colours.Tie as tie
 
 abbrev Inv-loop : tie.InvT-loop
-Inv-loop out₀ at run text count n p₀ i₀ out p i = (i ≤ count) × (sets out₀ at (joined colourBytes (map (colourIn text n) (givens run count 0))) ≡ sets out p (joined colourBytes (map (colourIn text n) (givens run (count - i) i))))
-    × RecordsFit text n (givens run (count - i) i) p (length out₀) × (length out ≡ length out₀) × (p + sizes (sizeIn n) (givens run (count - i) i) ≡ at + sizes (sizeIn n) (givens run count 0))
+Inv-loop out₀ at run text count n p₀ i₀ out p i = (i ≤ count) × (sets out₀ at (joined colourBytes (map (colourIn text n) (rows width taken run count 0))) ≡ sets out p (joined colourBytes (map (colourIn text n) (rows width taken run (count - i) i))))
+    × RecordsFit text n (rows width taken run (count - i) i) p (length out₀) × (length out ≡ length out₀) × (p + sizes (sizeIn n) (rows width taken run (count - i) i) ≡ at + sizes (sizeIn n) (rows width taken run count 0))
 
 abbrev μ-loop : tie.MeasureT-loop
 μ-loop out₀ at run text count n p₀ i₀ out p i = count - i
@@ -55,7 +57,7 @@ loop-again c = let l = c .before .before .before .before .before .before .loop i
     let p = c .before .before .put-colour in
     let e = p .ensures .0 ∙ ap (λ (x : Given). l .p + sizeIn (a .n) x) w in (
       omega arith,
-      puts-turn (a .run .now) (a .text .now) (a .n) _ (l .out) (a .count) (l .i) (l .p) (l .inv .1) (l .inv .2 .most) tk _ _ e (givenOf (g .result)) w (p .ensures .1),
+      puts-turn (a .run .now) (a .text .now) (a .n) _ (l .out) (a .count) (l .i) (l .p) (l .inv .1) (l .inv .2 .most) tk _ _ e (toldRecord (g .result)) w (p .ensures .1),
       fit-rest (a .text .now) (a .run .now) (a .n) (a .count) (l .i) (l .p) (length (a .out .now)) tk (l .inv .2) _ e,
       p .kept .0 ∙ l .inv .3,
       omega (arith, e, sizes-turn (a .run .now) (sizeIn (a .n)) (a .count) (l .i) tk, l .inv .4),

@@ -6,7 +6,10 @@ use native.Mathlib.Omega.{arith}
 use Prim.Native.Nat.{ℕ}
 use Rattle.acb_judge.specs.Answer.{toldHeader}
 use Rattle.acb_records.specs.Answer.{toldEnding}
-use Rattle.acb_records.specs.Writing.{givenAt, givens, sizes, sizeIn, headFault}
+use Rattle.acb_records.specs.Writing.{sizes, sizeIn, headFault}
+use Rattle.algebra.specs.Table.{rows}
+use Rattle.acb.specs.Row.{width, taken}
+use Rattle.acb_records.specs.Parts.{givenAt}
 use borrow.Author.Needs.{needs}
 use Rattle.acb_write.proofs.put_file.Statement.{statement}
 use Rattle.acb_write.proofs.put_file.Tie as tie
@@ -16,7 +19,7 @@ put-head-requires c κs = let s = c .before .before .before .before in
     let a = s .args in
     let h = toldHeader (a .header) in
     let t = toldEnding (a .ending) in
-    let gs = givens (a .run .now) (a .n) 0 in
+    let gs = rows width taken (a .run .now) (a .n) 0 in
     (omega (arith, s .pre .1), subst (λ (k : ℕ). headFault (a .text .now) h k ≡ 0) (length-counted (givenAt (a .run .now)) (a .n) 0) (no-fault (a .text .now) h t gs (s .pre .2) .0))
 
 components-of-requires : tie.Need-components-of-requires
@@ -27,7 +30,7 @@ put-colours-requires c κs = let s = c .before .before .before .before .before .
     let a = s .args in
     let h = toldHeader (a .header) in
     let t = toldEnding (a .ending) in
-    let gs = givens (a .run .now) (a .n) 0 in
+    let gs = rows width taken (a .run .now) (a .n) 0 in
     let p = c .before .before .before .before .put-head in
     (s .pre .0, records-fit (a .text .now) h t gs (s .pre .2) _ _ _ (c .components-of .ensures) (p .ensures .0) (omega (arith, s .pre .1, p .kept .0)))
 
@@ -36,7 +39,7 @@ put-ending-requires c κs = let s = c .before .before .before .before .before .b
     let a = s .args in
     let h = toldHeader (a .header) in
     let t = toldEnding (a .ending) in
-    let gs = givens (a .run .now) (a .n) 0 in
+    let gs = rows width taken (a .run .now) (a .n) 0 in
     let p = c .before .before .before .before .before .before .before .before .put-head in
     let q = c .before .before .before .put-colours in
     (omega (arith, s .pre .1, p .ensures .0, p .kept .0, q .ensures .0, q .kept .0, ap (λ (j : ℕ). sizes (sizeIn j) gs) (c .before .before .before .before .components-of .ensures)), omega (arith, no-fault (a .text .now) h t gs (s .pre .2) .2))
@@ -49,7 +52,7 @@ returns c = let s = c .before .before .before .before .before .before .before .b
     let a = s .args in
     let h = toldHeader (a .header) in
     let t = toldEnding (a .ending) in
-    let gs = givens (a .run .now) (a .n) 0 in
+    let gs = rows width taken (a .run .now) (a .n) 0 in
     let p = c .before .before .before .before .before .before .before .before .before .before .before .put-head in
     let q = c .before .before .before .before .before .before .put-colours in
     put-file (a .run .now) (a .text .now) h t (a .n) _ (c .before .before .before .before .before .before .before .components-of .ensures) (a .out .now) _ _ _ _ _ (p .ensures .1) (p .ensures .0) (q .ensures .1) (q .ensures .0) (c .before .before .put-ending .ensures)

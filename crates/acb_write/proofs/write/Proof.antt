@@ -9,7 +9,9 @@ use Rattle.acb_records.specs.Answer.{toldEnding}
 use Prim.Native.Nat.{_/_}
 use lib.ListN.{length}
 use Rattle.acb.specs.Grammar.{fileBytes}
-use Rattle.acb_records.specs.Writing.{givens, bookIn, size, fault}
+use Rattle.acb_records.specs.Writing.{bookIn, size, fault}
+use Rattle.algebra.specs.Table.{rows}
+use Rattle.acb.specs.Row.{width, taken}
 use borrow.Author.Needs.{needs}
 use Rattle.acb_write.proofs.write.Statement.{statement}
 use Rattle.acb_write.proofs.write.Tie as tie
@@ -28,8 +30,8 @@ returns c = let a = c .before .before .before .before .before .before .before .b
     let text = a .text .now in
     let h = toldHeader (a .header) in
     let t = toldEnding (a .ending) in
-    let n = length (a .records .now) / 12 in
-    let gs = givens (a .records .now) n 0 in
+    let n = length (a .records .now) / width in
+    let gs = rows width taken (a .records .now) n 0 in
     let q = sym (ap toldWritten (c .before .before .size .given .1)) ∙ c .before .before .before .before .write-length .ensures in
     writes-none (fault text h t gs) (size h t gs) (fileBytes (bookIn text h t gs)) (a .out .now) _ q (c .if1 .taken)
 
@@ -38,8 +40,8 @@ put-file-requires c κs = let a = c .before .before .before .before .before .bef
     let text = a .text .now in
     let h = toldHeader (a .header) in
     let t = toldEnding (a .ending) in
-    let n = length (a .records .now) / 12 in
-    let gs = givens (a .records .now) n 0 in
+    let n = length (a .records .now) / width in
+    let gs = rows width taken (a .records .now) n 0 in
     let q = sym (ap toldWritten (c .before .before .before .size .given .1)) ∙ c .before .before .before .before .before .write-length .ensures in
     let w = needed-bytes text h t gs _ q in
     (omega arith, omega (arith, w .1, c .before .if1 .left), w .0)
@@ -49,8 +51,8 @@ returns-2 c = let a = c .before .before .before .before .before .before .before 
     let text = a .text .now in
     let h = toldHeader (a .header) in
     let t = toldEnding (a .ending) in
-    let n = length (a .records .now) / 12 in
-    let gs = givens (a .records .now) n 0 in
+    let n = length (a .records .now) / width in
+    let gs = rows width taken (a .records .now) n 0 in
     let q = sym (ap toldWritten (c .before .x .given .1)) ∙ c .before .before .before .write-length .ensures in
     writes-no (fault text h t gs) (size h t gs) (fileBytes (bookIn text h t gs)) (a .out .now) _ q
 
@@ -62,8 +64,8 @@ returns-3 c = let a = c .before .before .before .before .before .before .before 
     let text = a .text .now in
     let h = toldHeader (a .header) in
     let t = toldEnding (a .ending) in
-    let n = length (a .records .now) / 12 in
-    let gs = givens (a .records .now) n 0 in
+    let n = length (a .records .now) / width in
+    let gs = rows width taken (a .records .now) n 0 in
     let q = sym (ap toldWritten (c .before .before .before .before .before .before .size .given .1)) ∙ c .before .before .before .before .before .before .before .before .write-length .ensures in
     let w = needed-bytes text h t gs _ q in
     let room = c .before .before .before .before .if1 .left in

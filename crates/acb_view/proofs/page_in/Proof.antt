@@ -1,12 +1,13 @@
-use borrow.Author.Needs.{needs}
 use Prim.Native.Nat.{ℕ}
 use mathlib.Core.Path.{_≡_, sym, ap, _∙_}
 use native.Mathlib.Omega.{arith}
-use Rattle.acb_show.specs.Pages.{dummies, unitsIn, sampleOf, pageRange, records}
-use Rattle.acb_show.specs.Answer.{pageOf, toldRecords}
-use Rattle.acb_show.proofs.Sampling.{range-inv, page-absent, page-there}
-use Rattle.acb_show.proofs.page.page_in.Statement.{statement}
-use Rattle.acb_show.proofs.page.page_in.Tie as tie
+use Rattle.acb_show.specs.Pages.{pageRange, records}
+use Rattle.acb_show.specs.Answer.{toldRecords}
+use Rattle.acb_show.proofs.Sampling.{range-inv}
+use Rattle.acb_view.proofs.Walking.{table-none, table-shows}
+use borrow.Author.Needs.{needs}
+use Rattle.acb_view.proofs.page_in.Statement.{statement}
+use Rattle.acb_view.proofs.page_in.Tie as tie
 
 smaller-requires : tie.Need-smaller-requires
 smaller-requires c κs = search needs
@@ -37,15 +38,13 @@ returns c =
     let a = c .before .before .before .before .before .before .args in
     let n = c .before .before .before .before .smaller in
     let e = sym (c .before .before .before .page-records .ensures) ∙ ap toldRecords (c .before .enum-told .given .1) in
-    c .none .ensures ∙ sym (ap pageOf (page-absent (unitsIn (a .table .now)) (n .result) (a .size) (a .offset) (a .page) e))
-    ∙ ap (λ (m : ℕ). pageOf (sampleOf (a .size) (a .offset) (a .page) (dummies (unitsIn (a .table .now)) 0 m))) (n .ensures)
+    c .none .ensures ∙ table-none (a .table .now) (n .result) (a .count) (a .size) (a .offset) (a .page) (n .ensures) e
 
 returns-2 : tie.Need-returns-2
 returns-2 c =
     let a = c .before .before .before .before .before .before .before .args in
     let n = c .before .before .before .before .before .smaller in
-    c .sample-in .ensures ∙ sym (ap pageOf (page-there (unitsIn (a .table .now)) (n .result) (a .size) (a .offset) (a .page) (range (c .before .before))))
-    ∙ ap (λ (m : ℕ). pageOf (sampleOf (a .size) (a .offset) (a .page) (dummies (unitsIn (a .table .now)) 0 m))) (n .ensures)
+    c .sample-in .ensures ∙ table-shows (a .table .now) (n .result) (a .count) (a .size) (a .offset) (a .page) (n .ensures) (range (c .before .before))
 
 pub page-in-spec : {M : Type 1} → statement M
 page-in-spec =
