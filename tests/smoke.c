@@ -246,12 +246,13 @@ static int conversions(void) {
     CHECK(rgb.number == 0 && rgb.sample == 32768);
     khuyurek_sample cmyk = khuyurek_to_sample(CMYK_MODEL, HALF);
     CHECK(cmyk.number == 0 && cmyk.sample == 32767);
-    khuyurek_channel gray = khuyurek_to_channel(8, 65535);
+    khuyurek_channel gray = khuyurek_to_channel(8, 10000);
     CHECK(gray.number == 0 && gray.bits == ONE);
+    CHECK(khuyurek_to_channel(8, 10001).number == KHUYUREK_OUT_OF_RANGE);
     khuyurek_channel unknown = khuyurek_to_channel(3, 65535);
     CHECK(unknown.number == KHUYUREK_UNKNOWN && unknown.bits == 0);
     CHECK(khuyurek_to_channel(1, 0).number == KHUYUREK_NO_COUNTERPART);
-    CHECK(khuyurek_to_channel(7, 0).number == KHUYUREK_NO_COUNTERPART);
+    CHECK(khuyurek_to_channel(7, 65535).number == KHUYUREK_NO_COUNTERPART);
     CHECK(khuyurek_to_sample(0, NAN_BITS).number == KHUYUREK_UNKNOWN);
     CHECK(khuyurek_to_sample(KHUYUREK_LAB, NAN_BITS).number == KHUYUREK_OUT_OF_RANGE);
     CHECK(khuyurek_to_sample(KHUYUREK_LAB, HALF).number == KHUYUREK_NO_COUNTERPART);

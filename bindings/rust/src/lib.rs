@@ -27,7 +27,7 @@
 //!     ase::write(&blocks)
 //! }
 //!
-//! let gray = [0, 1, 0, 1, 0, 8, 0xFF, 0xFF, 0, 0, 0, 0, 0, 0];
+//! let gray = [0, 1, 0, 1, 0, 8, 0x27, 0x10, 0, 0, 0, 0, 0, 0];
 //! let palette = to_ase(&gray).unwrap();
 //! assert_eq!(ase::judge(&palette).unwrap().colours, 1);
 //! let lab = [0, 1, 0, 1, 0, 7, 0, 0, 0, 0, 0, 0, 0, 0];
