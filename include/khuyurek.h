@@ -309,6 +309,70 @@ khuyurek_length khuyurek_acb_write(khuyurek_acb_header header,
                                    const uint8_t *text, size_t text_len,
                                    uint8_t *out, size_t out_len);
 
+/* ---- image resource blocks */
+
+/* The numbers of a block: ID, place and length of the name, place and length of the data. */
+#define KHUYUREK_RESOURCE_WIDTH 5
+
+/* number 0: accepted, with the number of blocks. Else the refusal and its place. */
+typedef struct {
+    uint32_t number;
+    size_t place;
+    size_t blocks;
+} khuyurek_resource_answer;
+
+/* number 0: accepted, with the ID and where name and data lie. Else the refusal and its
+ * place, and all else is 0. */
+typedef struct {
+    uint32_t number;
+    uint32_t id;
+    size_t place;
+    size_t name;
+    size_t name_length;
+    size_t data;
+    size_t data_length;
+} khuyurek_resource_record;
+
+/* number 0: found, with the block's number. Else the refusal and its place. */
+typedef struct {
+    uint32_t number;
+    size_t place;
+    size_t index;
+} khuyurek_resource_found;
+
+/* number 0: accepted, with the place of the section's first byte and its length. Else the
+ * refusal and its place. */
+typedef struct {
+    uint32_t number;
+    size_t place;
+    size_t first;
+    size_t length;
+} khuyurek_section;
+
+khuyurek_resource_answer khuyurek_resource_judge(const uint8_t *section, size_t section_len);
+
+/* 11 where the table has no room for 5 numbers a block. */
+khuyurek_resource_answer khuyurek_resource_read(const uint8_t *section, size_t section_len,
+                                                uint32_t *table, size_t table_len);
+
+/* 12 where there is no such block. */
+khuyurek_resource_record khuyurek_resource_record_at(const uint8_t *section,
+                                                     size_t section_len, size_t index);
+
+/* The first block with that ID, else 12. */
+khuyurek_resource_found khuyurek_resource_find(const uint8_t *section, size_t section_len,
+                                               uint16_t id);
+
+khuyurek_length khuyurek_resource_length(const uint32_t *records, size_t records_len,
+                                         const uint8_t *text, size_t text_len);
+khuyurek_length khuyurek_resource_write(const uint32_t *records, size_t records_len,
+                                        const uint8_t *text, size_t text_len,
+                                        uint8_t *out, size_t out_len);
+
+/* Where the resource section of a Photoshop document lies, from the document's first
+ * bytes, as many as reach the section's end or more. */
+khuyurek_section khuyurek_document_resources(const uint8_t *document, size_t document_len);
+
 /* ---- descriptors */
 
 /* The numbers of a row: kind (its four characters as one number), parent, first byte,

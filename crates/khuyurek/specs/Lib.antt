@@ -1,4 +1,5 @@
 pub mod Exported
 pub mod Acb
 pub mod Descriptor
+pub mod Resource
 pub mod Walk

@@ -2,6 +2,7 @@
 // declares the same for C.
 mod books;
 mod descriptors;
+mod resources;
 mod walks;
 
 pub use books::AcbAnswer;
@@ -28,6 +29,17 @@ pub use descriptors::khuyurek_descriptor_judge;
 pub use descriptors::khuyurek_descriptor_read;
 pub use descriptors::khuyurek_descriptor_typed_at;
 pub use descriptors::khuyurek_descriptor_value_at;
+pub use resources::ResourceAnswer;
+pub use resources::ResourceFound;
+pub use resources::ResourceRecord;
+pub use resources::Section;
+pub use resources::khuyurek_document_resources;
+pub use resources::khuyurek_resource_find;
+pub use resources::khuyurek_resource_judge;
+pub use resources::khuyurek_resource_length;
+pub use resources::khuyurek_resource_read;
+pub use resources::khuyurek_resource_record_at;
+pub use resources::khuyurek_resource_write;
 pub use walks::AcoStart;
 pub use walks::AcoStep;
 pub use walks::AseStart;

@@ -17,6 +17,7 @@
 pub mod acb;
 pub mod ase;
 pub mod descriptor;
+pub mod resource;
 
 use std::fmt::{self, Debug, Formatter};
 
