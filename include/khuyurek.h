@@ -436,7 +436,7 @@ khuyurek_ase_step khuyurek_ase_walk_block(const uint8_t *file, size_t file_len, 
 #define KHUYUREK_GRAY 0x47726179u
 
 /* One sample of an ACO space (0 RGB, 1 HSB, 2 CMYK, 7 Lab, 8 gray) to a channel from
- * 0 to 1: 4 for an unknown space, 14 for HSB and Lab. */
+ * 0 to 1: 4 for an unknown space, 5 for gray above 10,000, 14 for HSB and Lab. */
 khuyurek_channel khuyurek_to_channel(uint16_t space, uint16_t sample);
 
 /* One channel of a model, by its bits, to the nearest sample: 4 for an unknown model,

@@ -13,10 +13,10 @@ use Rattle.algebra.specs.Text.{anyZero, Named}
 use Rattle.algebra.specs.Faults.{firstOf, faults, faultsFrom}
 use Rattle.algebra.proofs.Exact.{all-map, all-both, any-none, none-any}
 use Rattle.algebra.proofs.Tells.{first-none, first-inv, pick-none, pick-some, faults-inv, faults-none, faults-from}
-use Rattle.colour.specs.Spaces.{uses, known, allowed}
-use Rattle.aco.specs.Grammar.{Swatch, Allowed, Palette}
+use Rattle.colour.specs.Spaces.{known, allowed}
+use Rattle.aco.specs.Grammar.{Swatch, Sample, Allowed, Palette}
 use Rattle.aco.specs.Faults.{spaceFault, sampleFault, fieldsFault, colourFault, nameFault, paletteFault, Fits}
-use Rattle.aco.proofs.Laws.{hue, Painted, painted-sized, allowed-painted, painted-allowed, space-uses, space-known, known-space, allowed-unused, unused-allowed}
+use Rattle.aco.proofs.Laws.{hue, Painted, painted-sized, allowed-painted, painted-allowed, space-known, known-space, allowed-sample, sample-allowed}
 
 -- ---- no fault, so allowed
 
@@ -24,13 +24,12 @@ colour-sound : (w : Swatch) → Fits w → colourFault w ≡ 0 → Painted (hue 
 unfolding fieldsFault
 colour-sound w f e =
     let x : ℕ = w .space in
-    let i = first-inv (spaceFault x) (faultsFrom (sampleFault x) 0 (w .samples)) e in record {
-      used = uses x;
-      of = known-space x (pick-none (known x) 4 (omega arith) (i .0));
+    let i = first-inv (spaceFault x) (faultsFrom (sampleFault x) 0 (w .samples)) e in
+    let y = known-space x (pick-none (known x) 4 (omega arith) (i .0)) in record {
+      scales = y .0;
+      of = y .1;
       four = f .four;
-      fit = all-map (λ k v. (v < 256 ^ 2) × (sampleFault x k v ≡ 0)) (λ k v. (v ≤ 65535) × (uses x ≤ k → v ≡ 0))
-          (λ k v h. (omega (arith, h .0), λ l. allowed-unused x k v (pick-none (allowed x k v) 5 (omega arith) (h .1)) l)) 0 (w .samples)
-          (all-both (λ k v. v < 256 ^ 2) (λ k v. sampleFault x k v ≡ 0) 0 (w .samples) (f .each-small) (faults-inv (sampleFault x) 0 (w .samples) (i .1)));
+      fit = all-map (λ k v. sampleFault x k v ≡ 0) (Sample (y .0)) (λ k v h. allowed-sample (y .1) k v (pick-none (allowed x k v) 5 (omega arith) h)) 0 (w .samples) (faults-inv (sampleFault x) 0 (w .samples) (i .1));
     }
 
 name-sound : (w : Swatch) → Fits w → nameFault w ≡ 0 → Named 4 (w .name)
@@ -58,8 +57,7 @@ unfolding fieldsFault
 colour-complete w a =
     let x : ℕ = w .space in
     let f : All (λ k v. sampleFault x k v ≡ 0) 0 (w .samples) =
-    all-map (λ k v. (v ≤ 65535) × (a .used ≤ k → v ≡ 0)) (λ k v. sampleFault x k v ≡ 0)
-    (λ k v h. let g = h .1 in ap (λ (b : Bool). pick b 0 5) (unused-allowed x k v (h .0) (λ l. g (subst (λ (u : ℕ). u ≤ k) (space-uses (a .space)) l)))) 0 (w .samples) (a .samples) in
+    all-map (Sample (a .scales)) (λ k v. sampleFault x k v ≡ 0) (λ k v h. ap (λ (b : Bool). pick b 0 5) (sample-allowed (a .space) k v h)) 0 (w .samples) (a .samples) in
     first-none (spaceFault x) (faultsFrom (sampleFault x) 0 (w .samples)) (ap (λ (b : Bool). pick b 0 4) (space-known (a .space))) ∙ faults-none (sampleFault x) 0 (w .samples) f
 
 name-complete : (w : Swatch) → Allowed w → nameFault w ≡ 0

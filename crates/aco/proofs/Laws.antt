@@ -1,12 +1,12 @@
 -- The reader's parts accept exactly the grammar's bytes. Assumes nothing.
-use Prim.Native.Nat.{ℕ, suc, _+_, _-_, _^_, _≤_, _<_}
+use Prim.Native.Nat.{ℕ, zero, suc, _+_, _-_, _^_, _≤_, _<_}
 use mathlib.Core.Path.{_≡_, refl, sym, ap, ap₂, _∙_, subst}
 use mathlib.Core.List.{List, [], _∷_, _++_, map, append-nil}
-use mathlib.Core.Bool.{Bool, true, false}
-use lib.Dec.{ltb, eqb}
+use mathlib.Core.Bool.{Bool, true, false, true≢false}
+use lib.Dec.{leb, eqb}
 use lib.ListN.{length, getD}
 use lib.Seq.{ext-getD}
-use borrow.Author.Tests.{eqb-true, eq-eqb, ltb-true, ltb-false, le-ltb}
+use borrow.Author.Tests.{leb-true, le-leb, eqb-true, eq-eqb, ltb-true, le-ltb}
 use native.Mathlib.Omega.{arith}
 use native.Mathlib.Nat.{zero-add}
 use Rattle.algebra.specs.Numbers.{be, joined, Bytes, All}
@@ -16,23 +16,16 @@ use Rattle.algebra.specs.Algebra.{Lawful, Exact}
 use Rattle.algebra.proofs.Lawful.{judged-lawful, give-lawful, bind-lawful, each-lawful, name-lawful}
 use Rattle.algebra.proofs.Exact.{all-map, all-from, all-at, all-by, map-id, judged-exact, same-exact, one-exact, give-exact, bind-exact, each-exact, name-exact}
 use Rattle.colour.specs.declared.space.Colour.{Colour}
-use Rattle.colour.specs.Spaces.{uses, known, allowed}
-use Rattle.colour.proofs.Laws.{sample-by}
-use Rattle.aco.specs.Grammar.{Sample, Swatch, Space, rgb, hsb, cmyk, lab, gray, Allowed, colourBytes, entryBytes}
+use Rattle.colour.specs.Spaces as spaces
+use Rattle.colour.specs.Spaces.{uses, full, known, ranged, allowed}
+use Rattle.colour.proofs.Laws.{chrominance-plus, chrominance-minus, allowed-small}
+use Rattle.aco.specs.Grammar.{Swatch, Scale, upTo, chrominance, unused, Chrominance, plus, minus, On, Space, rgb, hsb, cmyk, lab, gray, Sample, Allowed, colourBytes, entryBytes}
 use Rattle.aco.specs.Reading.{space, sample, samples, colour, heading, twin, Entry, entry, swatch, version, compared}
 use Rattle.aco.proofs.Fine.{space-fine, sample-fine, version-fine, compared-fine, fine-space, fine-sample, fine-version, fine-compared}
 
 -- ---- the reader's table of spaces and the grammar's
 
-pub space-uses : {x u : ℕ} → Space x u → uses x ≡ u
-unfolding uses
-space-uses rgb = refl
-space-uses hsb = refl
-space-uses cmyk = refl
-space-uses lab = refl
-space-uses gray = refl
-
-pub space-known : {x u : ℕ} → Space x u → known x ≡ true
+pub space-known : {x : ℕ} {l : List Scale} → Space x l → known x ≡ true
 unfolding uses known
 space-known rgb = refl
 space-known hsb = refl
@@ -40,27 +33,92 @@ space-known cmyk = refl
 space-known lab = refl
 space-known gray = refl
 
-space-by : (x v n : ℕ) (b : Bool) → eqb x v ≡ b → (rest : ℕ) → Space v n → (b ≡ false → 0 < rest → Space x rest) → 0 < pick b n rest → Space x (pick b n rest)
-space-by x v n true e rest here more h = subst (λ (y : ℕ). Space y n) (sym (eqb-true x v e)) here
-space-by x v n false e rest here more h = more refl h
+-- a space with some scales
+abbrev Spaced : ℕ → Type 0
+Spaced x = (l : List Scale) × Space x l
 
-pub known-space : (x : ℕ) → known x ≡ true → Space x (uses x)
+space-by : (x v n : ℕ) (b : Bool) → eqb x v ≡ b → (rest : ℕ) → Spaced v → (0 < rest → Spaced x) → 0 < pick b n rest → Spaced x
+space-by x v n true e rest here more h = subst Spaced (sym (eqb-true x v e)) here
+space-by x v n false e rest here more h = more h
+
+pub known-space : (x : ℕ) → known x ≡ true → (l : List Scale) × Space x l
 unfolding uses known
 known-space x h =
-    space-by x 0 3 (eqb x 0) refl _ rgb (λ e. space-by x 1 3 (eqb x 1) refl _ hsb (λ e. space-by x 2 4 (eqb x 2) refl _ cmyk (λ e.
-    space-by x 7 3 (eqb x 7) refl _ lab (λ e. space-by x 8 1 (eqb x 8) refl _ gray (λ e l. absurd (omega arith)))))) (ltb-true 0 _ h)
+    space-by x 0 3 (eqb x 0) refl _ (_, rgb) (space-by x 1 3 (eqb x 1) refl _ (_, hsb) (space-by x 2 4 (eqb x 2) refl _ (_, cmyk)
+    (space-by x 7 3 (eqb x 7) refl _ (_, lab) (space-by x 8 1 (eqb x 8) refl _ (_, gray) (λ l. absurd (omega arith)))))) (ltb-true 0 _ h)
 
--- a sample is allowed: one that the space does not use is 0
-pub allowed-unused : (x k v : ℕ) → allowed x k v ≡ true → uses x ≤ k → v ≡ 0
-unfolding allowed
-allowed-unused x k v e h = eqb-true v 0 (simp (le-ltb k (uses x) h) at e)
+-- ---- the reader's ranges and the grammar's scales
 
-pub unused-allowed : (x k v : ℕ) → v ≤ 65535 → (uses x ≤ k → v ≡ 0) → allowed x k v ≡ true
-unused-allowed x k v f h = sym (sample-by x (uses x) k v refl (omega arith)) ∙ go (ltb k (uses x)) refl
+-- a sample that is on a scale, tested
+isOn : Scale → ℕ → Bool
+isOn (upTo n) v = leb v n
+isOn chrominance v = spaces.chrominance v
+isOn unused v = eqb v 0
+
+plus-or-minus : (v : ℕ) (p q r : Bool) → leb v 12700 ≡ p → leb 52736 v ≡ q → leb v 65535 ≡ r → pick p true (pick q r false) ≡ true → Chrominance v
+plus-or-minus v true q r e f g h = plus v (leb-true v 12700 e)
+plus-or-minus v false true true e f g h =
+    let a : 52736 ≤ v = leb-true 52736 v f in
+    let b : v ≤ 65535 = leb-true v 65535 g in
+    let z : 65536 - (65536 - v) ≡ v = omega arith in
+    subst Chrominance z (minus (65536 - v) (omega arith) (omega arith))
+plus-or-minus v false true false e f g h = absurd (true≢false (sym h))
+plus-or-minus v false false r e f g h = absurd (true≢false (sym h))
+
+on-true : (x : Scale) (v : ℕ) → isOn x v ≡ true → On x v
+unfolding isOn spaces.chrominance
+on-true (upTo n) v e = leb-true v n e
+on-true chrominance v e = plus-or-minus v (leb v 12700) (leb 52736 v) (leb v 65535) refl refl refl e
+on-true unused v e = eqb-true v 0 e
+
+true-on : (x : Scale) (v : ℕ) → On x v → isOn x v ≡ true
+unfolding isOn
+true-on (upTo n) v h = le-leb v n h
+true-on chrominance v h = by h
   where
-    go : (b : Bool) → ltb k (uses x) ≡ b → pick b true (eqb v 0) ≡ true
-    go true e = refl
-    go false e = eq-eqb v 0 (h (ltb-false k (uses x) e))
+    by : {v : ℕ} → Chrominance v → spaces.chrominance v ≡ true
+    by (plus n l) = chrominance-plus n l
+    by (minus n some l) = chrominance-minus (65536 - n) (omega arith) (omega arith) ∙ le-leb 52736 (65536 - n) (omega arith)
+true-on unused v e = eq-eqb v 0 e
+
+-- the two are the same at every position; a fifth sample, which no colour has, would be 0
+scale-is : {x : ℕ} {l : List Scale} → Space x l → (k v : ℕ) → allowed x k v ≡ isOn (getD l k unused) v
+unfolding isOn allowed ranged uses full
+scale-is rgb zero v = refl
+scale-is rgb (suc zero) v = refl
+scale-is rgb (suc (suc zero)) v = refl
+scale-is rgb (suc (suc (suc zero))) v = refl
+scale-is rgb (suc (suc (suc (suc k)))) v = rw (le-ltb (suc (suc (suc (suc k)))) 3 (omega arith))
+scale-is hsb zero v = refl
+scale-is hsb (suc zero) v = refl
+scale-is hsb (suc (suc zero)) v = refl
+scale-is hsb (suc (suc (suc zero))) v = refl
+scale-is hsb (suc (suc (suc (suc k)))) v = rw (le-ltb (suc (suc (suc (suc k)))) 3 (omega arith))
+scale-is cmyk zero v = refl
+scale-is cmyk (suc zero) v = refl
+scale-is cmyk (suc (suc zero)) v = refl
+scale-is cmyk (suc (suc (suc zero))) v = refl
+scale-is cmyk (suc (suc (suc (suc k)))) v = rw (le-ltb (suc (suc (suc (suc k)))) 4 (omega arith))
+scale-is lab zero v = refl
+scale-is lab (suc zero) v = refl
+scale-is lab (suc (suc zero)) v = refl
+scale-is lab (suc (suc (suc zero))) v = refl
+scale-is lab (suc (suc (suc (suc k)))) v = rw (le-ltb (suc (suc (suc (suc k)))) 3 (omega arith))
+scale-is gray zero v = refl
+scale-is gray (suc zero) v = refl
+scale-is gray (suc (suc zero)) v = refl
+scale-is gray (suc (suc (suc zero))) v = refl
+scale-is gray (suc (suc (suc (suc k)))) v = rw (le-ltb (suc (suc (suc (suc k)))) 1 (omega arith))
+
+pub allowed-sample : {x : ℕ} {l : List Scale} → Space x l → (k v : ℕ) → allowed x k v ≡ true → Sample l k v
+allowed-sample {x} {l} of k v e = on-true (getD l k unused) v (sym (scale-is of k v) ∙ e)
+
+pub sample-allowed : {x : ℕ} {l : List Scale} → Space x l → (k v : ℕ) → Sample l k v → allowed x k v ≡ true
+sample-allowed {x} {l} of k v h = scale-is of k v ∙ true-on (getD l k unused) v h
+
+-- every sample has 16 bits
+pub sample-small : {x : ℕ} {l : List Scale} → Space x l → (k v : ℕ) → Sample l k v → v < 256 ^ 2
+sample-small {x} of k v h = omega (arith, allowed-small x k v (sample-allowed of k v h))
 
 -- ---- one colour
 
@@ -77,10 +135,10 @@ paint c = be 2 (c .space) ++ joined (be 2) (c .samples)
 
 -- what the grammar asks of a swatch, apart from its name
 pub record Painted (c : Colour) : Type 0 where
-  pub used : ℕ
-  pub of : Space (c .space) used
+  pub scales : List Scale
+  pub of : Space (c .space) scales
   pub four : length (c .samples) ≡ 4
-  pub fit : All (Sample used) 0 (c .samples)
+  pub fit : All (Sample scales) 0 (c .samples)
 
 -- a colour whose numbers fit their fields
 pub record Sized (c : Colour) : Type 0 where
@@ -88,7 +146,7 @@ pub record Sized (c : Colour) : Type 0 where
   pub four : length (c .samples) ≡ 4
   pub each-small : All (λ k v. v < 256 ^ 2) 0 (c .samples)
 
-pub space-small : {x u : ℕ} → Space x u → x < 256 ^ 2
+pub space-small : {x : ℕ} {l : List Scale} → Space x l → x < 256 ^ 2
 space-small rgb = omega arith
 space-small hsb = omega arith
 space-small cmyk = omega arith
@@ -99,14 +157,14 @@ pub painted-sized : (c : Colour) → Painted c → Sized c
 painted-sized c p = record {
   small = space-small (p .of);
   four = p .four;
-  each-small = all-map (Sample (p .used)) (λ k v. v < 256 ^ 2) (λ k v h. omega (arith, h .0)) 0 (c .samples) (p .fit);
+  each-small = all-map (Sample (p .scales)) (λ k v. v < 256 ^ 2) (λ k v h. sample-small (p .of) k v h) 0 (c .samples) (p .fit);
 }
 
 pub allowed-painted : (w : Swatch) → Allowed w → Painted (hue w)
-allowed-painted w a = record { used = a .used; of = a .space; four = a .four; fit = a .samples }
+allowed-painted w a = record { scales = a .scales; of = a .space; four = a .four; fit = a .samples }
 
 pub painted-allowed : (w : Swatch) → Painted (hue w) → Named 4 (w .name) → Allowed w
-painted-allowed w p n = record { used = p .used; space = p .of; four = p .four; samples = p .fit; name = n }
+painted-allowed w p n = record { scales = p .scales; space = p .of; four = p .four; samples = p .fit; name = n }
 
 -- the same by the reader's tests
 abbrev pub Tested : Colour → Type 0
@@ -117,19 +175,18 @@ painted-tested c p = (
   (space-small (p .of), space-fine (c .space) (space-known (p .of))),
   (
     p .four,
-    all-map (Sample (p .used)) (λ k v. (v < 256 ^ 2) × (sample (c .space) k v ≡ fine))
-        (λ k v h. let f = h .1 in (omega (arith, h .0), sample-fine (c .space) k v (unused-allowed (c .space) k v (h .0) (λ l. f (subst (λ (u : ℕ). u ≤ k) (space-uses (p .of)) l))))) 0 (c .samples) (p .fit),
+    all-map (Sample (p .scales)) (λ k v. (v < 256 ^ 2) × (sample (c .space) k v ≡ fine)) (λ k v h. (sample-small (p .of) k v h, sample-fine (c .space) k v (sample-allowed (p .of) k v h))) 0 (c .samples) (p .fit),
   ),
 )
 
 tested-painted : (c : Colour) → Tested c → Painted c
-tested-painted c t = record {
-  used = uses (c .space);
-  of = known-space (c .space) (fine-space (c .space) (t .0 .1));
-  four = t .1 .0;
-  fit = all-map (λ k v. (v < 256 ^ 2) × (sample (c .space) k v ≡ fine)) (Sample (uses (c .space)))
-      (λ k v h. (omega (arith, h .0), λ l. allowed-unused (c .space) k v (fine-sample (c .space) k v (h .1)) l)) 0 (c .samples) (t .1 .1);
-}
+tested-painted c t =
+    let x = known-space (c .space) (fine-space (c .space) (t .0 .1)) in record {
+      scales = x .0;
+      of = x .1;
+      four = t .1 .0;
+      fit = all-map (λ k v. (v < 256 ^ 2) × (sample (c .space) k v ≡ fine)) (Sample (x .0)) (λ k v h. allowed-sample (x .1) k v (fine-sample (c .space) k v (h .1))) 0 (c .samples) (t .1 .1);
+    }
 
 -- a swatch and a record by their parts
 abbrev pub label : Colour → List ℕ → Swatch

@@ -14,69 +14,67 @@ use Rattle.algebra.proofs.Places.{length-be}
 use Rattle.algebra.proofs.Exact.{all-from}
 use Rattle.algebra.proofs.Begins.{First, fewer, number, first}
 use Rattle.algebra.proofs.Names.{NameFirst, count-short, count-zero, units-short, units-open, name-whole, name-first}
-use Rattle.colour.specs.Spaces.{known, uses}
-use Rattle.aco.specs.Grammar.{Swatch, Space, Sample, Allowed, Palette, colourBytes, entryBytes, listOne, listTwo, twoLists, File, plain, named}
+use Rattle.colour.specs.Spaces.{known, allowed}
+use Rattle.aco.specs.Grammar.{Swatch, Scale, Space, Sample, Allowed, Palette, colourBytes, entryBytes, listOne, listTwo, twoLists, File, plain, named}
 use Rattle.aco.specs.Damaged.{version-cut, wrong-version, colours-cut, DamagedColour, space-cut, wrong-space, sample-cut, wrong-sample, count-cut, no-units, units-cut, unclosed, fieldsOf, DamagedRecord, field-cut, difference, wrong-name, colouring, counting, recording, behind, swatchAt, Repeating, Damaged, first-heading, too-many, wrong-colour, second-heading, other-count, wrong-record, left-over}
-use Rattle.aco.proofs.Laws.{space-known, known-space}
+use Rattle.aco.proofs.Laws.{space-known, known-space, allowed-sample, sample-allowed}
 
 -- ---- a colour of list 1
 
--- sample k of a space that uses so many
-sample-or : (used k v : ℕ) → v < 256 ^ 2 → Sample used k v ⊎ (Sample used k v → ⊥)
-sample-or used k v small = elim (decLe used k) [
-  | yes h ↦ elim (ℕ-discrete v 0) [
-    | yes e ↦ inl (omega arith, λ l. e)
-    | no e ↦ inr (λ x. let f = x .1 in e (f h))
-  ]
-  | no h ↦ inl (omega arith, λ l. absurd (h l))
-]
+-- sample k of a space
+sample-or : {x : ℕ} {scales : List Scale} → Space x scales → (k v : ℕ) → Sample scales k v ⊎ (Sample scales k v → ⊥)
+sample-or {x} {scales} of k v = go (allowed x k v) refl
+  where
+    go : (b : Bool) → allowed x k v ≡ b → Sample scales k v ⊎ (Sample scales k v → ⊥)
+    go true e = inl (allowed-sample of k v e)
+    go false e = inr (λ h. true≢false (sym (sample-allowed of k v h) ∙ e))
 
 -- n samples from sample i
-data SamplesOr (used n i : ℕ) : List ℕ → Type 0 where
-  some-cut : (vs l : List ℕ) → length vs < n → All (Sample used) i vs → length l < 2 → SamplesOr used n i (joined (be 2) vs ++ l)
-  some-wrong : (vs : List ℕ) (v : ℕ) (l : List ℕ) → length vs < n → All (Sample used) i vs → v < 256 ^ 2 → (Sample used (i + length vs) v → ⊥) → SamplesOr used n i (joined (be 2) vs ++ (be 2 v ++ l))
-  all-there : (vs l : List ℕ) → length vs ≡ n → All (Sample used) i vs → Bytes l → SamplesOr used n i (joined (be 2) vs ++ l)
+data SamplesOr (scales : List Scale) (n i : ℕ) : List ℕ → Type 0 where
+  some-cut : (vs l : List ℕ) → length vs < n → All (Sample scales) i vs → length l < 2 → SamplesOr scales n i (joined (be 2) vs ++ l)
+  some-wrong : (vs : List ℕ) (v : ℕ) (l : List ℕ) → length vs < n → All (Sample scales) i vs → v < 256 ^ 2 → (Sample scales (i + length vs) v → ⊥) → SamplesOr scales n i (joined (be 2) vs ++ (be 2 v ++ l))
+  all-there : (vs l : List ℕ) → length vs ≡ n → All (Sample scales) i vs → Bytes l → SamplesOr scales n i (joined (be 2) vs ++ l)
 
-one-more : (used n i v : ℕ) {l : List ℕ} → Sample used i v → SamplesOr used n (i + 1) l → SamplesOr used (suc n) i (be 2 v ++ l)
+one-more : (scales : List Scale) (n i v : ℕ) {l : List ℕ} → Sample scales i v → SamplesOr scales n (i + 1) l → SamplesOr scales (suc n) i (be 2 v ++ l)
 unfolding joined
-one-more used n i v c (some-cut vs l h a few) = subst (SamplesOr used (suc n) i) (append-assoc (be 2 v) (joined (be 2) vs) l) (some-cut (v ∷ vs) l (omega arith) (c, a) few)
-one-more used n i v c (some-wrong vs u l h a small w) =
+one-more scales n i v c (some-cut vs l h a few) = subst (SamplesOr scales (suc n) i) (append-assoc (be 2 v) (joined (be 2) vs) l) (some-cut (v ∷ vs) l (omega arith) (c, a) few)
+one-more scales n i v c (some-wrong vs u l h a small w) =
     let e : i + suc (length vs) ≡ i + 1 + length vs = omega arith in
-    subst (SamplesOr used (suc n) i) (append-assoc (be 2 v) (joined (be 2) vs) (be 2 u ++ l)) (some-wrong (v ∷ vs) u l (omega arith) (c, a) small (λ x. w (subst (λ (k : ℕ). Sample used k u) e x)))
-one-more used n i v c (all-there vs l e a b) = subst (SamplesOr used (suc n) i) (append-assoc (be 2 v) (joined (be 2) vs) l) (all-there (v ∷ vs) l (ap suc e) (c, a) b)
+    subst (SamplesOr scales (suc n) i) (append-assoc (be 2 v) (joined (be 2) vs) (be 2 u ++ l)) (some-wrong (v ∷ vs) u l (omega arith) (c, a) small (λ x. w (subst (λ (k : ℕ). Sample scales k u) e x)))
+one-more scales n i v c (all-there vs l e a b) = subst (SamplesOr scales (suc n) i) (append-assoc (be 2 v) (joined (be 2) vs) l) (all-there (v ∷ vs) l (ap suc e) (c, a) b)
 
-samples-or : (used n i : ℕ) (l : List ℕ) → Bytes l → SamplesOr used n i l
+samples-or : {x : ℕ} (scales : List Scale) → Space x scales → (n i : ℕ) (l : List ℕ) → Bytes l → SamplesOr scales n i l
 unfolding joined
-samples-or used zero i l b = all-there [] l refl tt b
-samples-or used (suc n) i l b = go (λ k x. samples-or used n (i + 1) k x) (first 2 l b)
+samples-or scales of zero i l b = all-there [] l refl tt b
+samples-or scales of (suc n) i l b = go (λ k x. samples-or scales of n (i + 1) k x) (first 2 l b)
   where
-    go : ((l : List ℕ) → Bytes l → SamplesOr used n (i + 1) l) → {l : List ℕ} → First 2 l → SamplesOr used (suc n) i l
+    go : ((l : List ℕ) → Bytes l → SamplesOr scales n (i + 1) l) → {l : List ℕ} → First 2 l → SamplesOr scales (suc n) i l
     go more (fewer l h) = some-cut [] l (omega arith) tt h
-    go more (number v l small b) = elim (sample-or used i v small) [
-      | inl c ↦ one-more used n i v c (more l b)
-      | inr w ↦ let e : i + 0 ≡ i = omega arith in some-wrong [] v l (omega arith) tt small (λ x. w (subst (λ (k : ℕ). Sample used k v) e x))
+    go more (number v l small b) = elim (sample-or of i v) [
+      | inl c ↦ one-more scales n i v c (more l b)
+      | inr w ↦ let e : i + 0 ≡ i = omega arith in some-wrong [] v l (omega arith) tt small (λ x. w (subst (λ (k : ℕ). Sample scales k v) e x))
     ]
 
 data ColourOr : List ℕ → Type 0 where
   bad-colour : {l : List ℕ} (z p : ℕ) → DamagedColour l z p → ColourOr l
   good-colour : (w : Swatch) (l : List ℕ) → Allowed w → w .name ≡ [] → Bytes l → ColourOr (colourBytes w ++ l)
 
-samples-by : (x used : ℕ) → Space x used → {l : List ℕ} → SamplesOr used 4 0 l → ColourOr (be 2 x ++ l)
+samples-by : (x : ℕ) (scales : List Scale) → Space x scales → {l : List ℕ} → SamplesOr scales 4 0 l → ColourOr (be 2 x ++ l)
 unfolding colourBytes
-samples-by x used sp (some-cut vs l h a few) = bad-colour 2 (2 + 2 * length vs) (sample-cut x used vs l (record { space = sp; samples = a; more = h }) few)
-samples-by x used sp (some-wrong vs v l h a small w) =
-    bad-colour 5 (2 + 2 * length vs) (wrong-sample x used vs v l (record { space = sp; samples = a; more = h }) small (λ k. w (subst (λ (n : ℕ). Sample used n v) (sym (zero-add (length vs))) k)))
-samples-by x used sp (all-there vs l e a b) =
+samples-by x scales sp (some-cut vs l h a few) = bad-colour 2 (2 + 2 * length vs) (sample-cut x scales vs l (record { space = sp; samples = a; more = h }) few)
+samples-by x scales sp (some-wrong vs v l h a small w) =
+    bad-colour 5 (2 + 2 * length vs) (wrong-sample x scales vs v l (record { space = sp; samples = a; more = h }) small (λ k. w (subst (λ (n : ℕ). Sample scales n v) (sym (zero-add (length vs))) k)))
+samples-by x scales sp (all-there vs l e a b) =
     subst ColourOr (append-assoc (be 2 x) (joined (be 2) vs) l)
-    (good-colour (record { space = x; samples = vs; name = [] }) l (record { used = used; space = sp; four = e; samples = a; name = record { counted = omega arith; units = tt } }) refl b)
+    (good-colour (record { space = x; samples = vs; name = [] }) l (record { scales = scales; space = sp; four = e; samples = a; name = record { counted = omega arith; units = tt } }) refl b)
 
 colour-by : {l : List ℕ} → First 2 l → ColourOr l
 colour-by (fewer l h) = bad-colour 2 0 (space-cut l h)
 colour-by (number x l small b) = go (known x) refl
   where
     go : (k : Bool) → known x ≡ k → ColourOr (be 2 x ++ l)
-    go true e = samples-by x (uses x) (known-space x e) (samples-or (uses x) 4 0 l b)
-    go false e = bad-colour 4 0 (wrong-space x l small (λ used sp. true≢false (sym (space-known sp) ∙ e)))
+    go true e = let y = known-space x e in samples-by x (y .0) (y .1) (samples-or (y .0) (y .1) 4 0 l b)
+    go false e = bad-colour 4 0 (wrong-space x l small (λ scales sp. true≢false (sym (space-known sp) ∙ e)))
 
 -- ---- n colours, without names
 
@@ -172,7 +170,7 @@ record-more i w ws a us nm (bad-records before l z p r f rep d) =
 record-more i w ws a us nm (good-records rs l all ok same b) =
     let v : Swatch = renamed w us in
     subst (RecordsOr i (w ∷ ws)) (append-assoc (entryBytes v) (joined entryBytes rs) l)
-    (good-records (v ∷ rs) l (ap suc all) (record { used = a .used; space = a .space; four = a .four; samples = a .samples; name = nm }, all-from Allowed 0 1 rs ok) (ap (λ (y : List ℕ). colourBytes w ++ y) same) b)
+    (good-records (v ∷ rs) l (ap suc all) (record { scales = a .scales; space = a .space; four = a .four; samples = a .samples; name = nm }, all-from Allowed 0 1 rs ok) (ap (λ (y : List ℕ). colourBytes w ++ y) same) b)
 
 records-or : (i : ℕ) (ws : List Swatch) → All (λ k w. Allowed w) 0 ws → (l : List ℕ) → Bytes l → RecordsOr i ws l
 unfolding joined

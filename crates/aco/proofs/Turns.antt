@@ -16,12 +16,12 @@ use Rattle.algebra.proofs.Exact.{all-map, all-from, all-at, all-by, judged-exac
 use Rattle.algebra.proofs.Stops.{judged-refuses, each-stops}
 use Rattle.algebra.proofs.Tails.{Tail, tail-left, tail-after, judged-there, judged-wrong, judged-cut, name-cut, name-none, name-units-cut, name-open}
 use Rattle.colour.specs.declared.space.Colour.{Colour}
-use Rattle.colour.specs.Spaces.{known, uses, allowed}
-use Rattle.aco.specs.Grammar.{Swatch, Space, Sample, colourBytes}
+use Rattle.colour.specs.Spaces.{known, allowed}
+use Rattle.aco.specs.Grammar.{Swatch, Scale, Space, Sample, colourBytes}
 use Rattle.aco.specs.Reading.{space, sample, samples, colour, version, heading, fieldOf, twin, entry, compared}
 use Rattle.aco.specs.Damaged.{DamagedHeading, version-cut, wrong-version, colours-cut, Begun, DamagedColour, space-cut, wrong-space, sample-cut, wrong-sample, DamagedName, count-cut, no-units, units-cut, unclosed, fieldsOf, DamagedRecord, field-cut, difference, wrong-name}
 use Rattle.aco.proofs.Fine.{space-fine, sample-fine, version-fine, compared-fine}
-use Rattle.aco.proofs.Laws.{hue, paint, Sized, space-known, space-uses, space-small, known-space, allowed-unused, unused-allowed, twins-exact}
+use Rattle.aco.proofs.Laws.{hue, paint, Sized, space-known, space-small, known-space, allowed-sample, sample-allowed, sample-small, twins-exact}
 use Rattle.aco.proofs.Whole.{length-colour}
 
 -- ---- a heading
@@ -43,33 +43,33 @@ module _ (s : List ℕ) (v : ℕ) (small : v < 256 ^ 2) (count : ℕ → Judged)
 
 -- ---- a colour of list 1
 
-no-space : (v : ℕ) → ((used : ℕ) → Space v used → ⊥) → known v ≡ false
+no-space : (v : ℕ) → ((scales : List Scale) → Space v scales → ⊥) → known v ≡ false
 no-space v h = go (known v) refl
   where
     go : (b : Bool) → known v ≡ b → b ≡ false
-    go true e = absurd (h (uses v) (known-space v e))
+    go true e = let x = known-space v e in absurd (h (x .0) (x .1))
     go false e = refl
 
-no-sample : (x used k v : ℕ) → Space x used → v < 256 ^ 2 → (Sample used k v → ⊥) → allowed x k v ≡ false
-no-sample x used k v of small h = go (allowed x k v) refl
+no-sample : (x : ℕ) (scales : List Scale) (k v : ℕ) → Space x scales → (Sample scales k v → ⊥) → allowed x k v ≡ false
+no-sample x scales k v of h = go (allowed x k v) refl
   where
     go : (b : Bool) → allowed x k v ≡ b → b ≡ false
-    go true e = absurd (h (omega arith, λ l. allowed-unused x k v e (subst (λ (u : ℕ). u ≤ k) (sym (space-uses of)) l)))
+    go true e = absurd (h (allowed-sample of k v e))
     go false e = refl
 
 module _ (s : List ℕ) (bytes : Bytes s) (at : ℕ) where
   -- a right space and right samples, and then one that is refused
-  samples-stop : (x used : ℕ) (vs l : List ℕ) → Begun x used vs → Tail s at (be 2 x ++ (joined (be 2) vs ++ l)) → (z : ℕ)
+  samples-stop : (x : ℕ) (scales : List Scale) (vs l : List ℕ) → Begun x scales vs → Tail s at (be 2 x ++ (joined (be 2) vs ++ l)) → (z : ℕ)
       → (Tail s (at + (2 + 2 * length vs)) l → judged 2 (sample x (length vs)) s (at + (2 + 2 * length vs)) ≡ refuse z (at + (2 + 2 * length vs)) 0 0) → colour s at ≡ refuse z (at + (2 + 2 * length vs)) 0 0
   unfolding colour samples
-  samples-stop x used vs l b t z stop =
+  samples-stop x scales vs l b t z stop =
       let y : List ℕ = joined (be 2) vs in
       let q : ℕ = at + (2 + 2 * length vs) in
       let one : judged 2 space s at ≡ ok x (at + 2) = judged-there s 2 at space x (space-small (b .space)) (space-fine x (space-known (b .space))) (tail-left s at (be 2 x) (y ++ l) t) in
       let t2 : Tail s (at + 2) (y ++ l) = tail-after s at (be 2 x) (y ++ l) (at + 2) (ap (λ (k : ℕ). at + k) (length-be 2 x)) t in
       let e : at + 2 + length y ≡ q = omega (arith, length-bes 2 vs) in
       let Ok : ℕ → ℕ → Type 0 = λ k v. (v < 256 ^ 2) × (sample x k v ≡ fine) in
-      let good : All Ok 0 vs = all-map (Sample used) Ok (λ k v h. let f = h .1 in (omega (arith, h .0), sample-fine x k v (unused-allowed x k v (h .0) (λ l. f (subst (λ (u : ℕ). u ≤ k) (space-uses (b .space)) l))))) 0 vs (b .samples) in
+      let good : All Ok 0 vs = all-map (Sample scales) Ok (λ k v h. (sample-small (b .space) k v h, sample-fine x k v (sample-allowed (b .space) k v h))) 0 vs (b .samples) in
       let two : each 4 0 (λ k. judged 2 (sample x k)) s (at + 2) ≡ refuse z q 0 0 =
       each-stops {p = λ k. judged 2 (sample x k)} {Ok = Ok} (λ k. judged-exact s bytes 2 (sample x k)) 4 0 (at + 2) vs (b .more) good (tail-left s (at + 2) y l t2)
       (subst₂ (λ (m n : ℕ). judged 2 (sample x m) s n ≡ refuse z q 0 0) (sym (zero-add (length vs))) (sym e) (stop (tail-after s (at + 2) y l q e t2))) in
@@ -79,9 +79,9 @@ module _ (s : List ℕ) (bytes : Bytes s) (at : ℕ) where
   unfolding colour
   colour-stops (space-cut l few) t = rw (judged-cut s 2 at space few t) (ap (λ (k : ℕ). refuse 2 k 0 0) (sym (add-zero at)))
   colour-stops (wrong-space x l small none) t = rw (judged-wrong s 2 at space 4 x small (rw (no-space x none)) (tail-left s at (be 2 x) l t)) (ap (λ (k : ℕ). refuse 4 k 0 0) (sym (add-zero at)))
-  colour-stops (sample-cut x used vs l b few) t = samples-stop x used vs l b t 2 (judged-cut s 2 (at + (2 + 2 * length vs)) (sample x (length vs)) few)
-  colour-stops (wrong-sample x used vs v l b small bad) t =
-      samples-stop x used vs (be 2 v ++ l) b t 5 (λ u. judged-wrong s 2 (at + (2 + 2 * length vs)) (sample x (length vs)) 5 v small (rw (no-sample x used (length vs) v (b .space) small bad)) (tail-left s (at + (2 + 2 * length vs)) (be 2 v) l u))
+  colour-stops (sample-cut x scales vs l b few) t = samples-stop x scales vs l b t 2 (judged-cut s 2 (at + (2 + 2 * length vs)) (sample x (length vs)) few)
+  colour-stops (wrong-sample x scales vs v l b small bad) t =
+      samples-stop x scales vs (be 2 v ++ l) b t 5 (λ u. judged-wrong s 2 (at + (2 + 2 * length vs)) (sample x (length vs)) 5 v small (rw (no-sample x scales (length vs) v (b .space) bad)) (tail-left s (at + (2 + 2 * length vs)) (be 2 v) l u))
 
 -- ---- a record of list 2
 

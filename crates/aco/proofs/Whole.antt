@@ -35,7 +35,7 @@ all-allowed i [] h g = tt
 all-allowed i (w ∷ ws) h g = (painted-allowed w (h .0) (g .0), all-allowed (i + 1) ws (h .1) (g .1))
 
 black-painted : Painted black
-black-painted = record { used = 3; of = rgb; four = refl; fit = ((omega arith, λ l. refl), ((omega arith, λ l. refl), ((omega arith, λ l. refl), ((omega arith, λ l. refl), tt)))) }
+black-painted = record { scales = _; of = rgb; four = refl; fit = (omega arith, (omega arith, (omega arith, (refl, tt)))) }
 
 pub painted-at : (i : ℕ) (cs : List Colour) → All (λ k c. Painted c) i cs → (k : ℕ) → Painted (getD cs k black)
 painted-at i [] h k = black-painted

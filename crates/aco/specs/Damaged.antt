@@ -7,7 +7,7 @@ use lib.ListN.{length, getD, take}
 use Rattle.algebra.specs.Numbers.{be, joined, All}
 use Rattle.algebra.specs.Text.{Named}
 use Rattle.algebra.specs.Closing.{Open}
-use Rattle.aco.specs.Grammar.{Swatch, Space, Sample, Allowed, Palette, colourBytes, entryBytes, listOne, twoLists}
+use Rattle.aco.specs.Grammar.{Swatch, Scale, Space, Sample, Allowed, Palette, colourBytes, entryBytes, listOne, twoLists}
 
 -- ---- parts of a file: the bytes from the part to the file's end, the number, the place counted from the part
 
@@ -17,18 +17,18 @@ pub data DamagedHeading (v : ℕ) : List ℕ → ℕ → ℕ → Type 0 where
   wrong-version : (x : ℕ) (l : List ℕ) → x < 256 ^ 2 → (x ≡ v → ⊥) → DamagedHeading v (be 2 x ++ l) 3 0
   colours-cut : (l : List ℕ) → length l < 2 → DamagedHeading v (be 2 v ++ l) 2 2
 
--- what stands before a wrong sample: a space of the table, and samples that it may have, not all four
-pub record Begun (x used : ℕ) (vs : List ℕ) : Type 0 where
-  pub space : Space x used
-  pub samples : All (Sample used) 0 vs
+-- what stands before a wrong sample: a space of the table, and samples that are on its scales, not all four
+pub record Begun (x : ℕ) (scales : List Scale) (vs : List ℕ) : Type 0 where
+  pub space : Space x scales
+  pub samples : All (Sample scales) 0 vs
   pub more : length vs < 4
 
 -- a colour of list 1: its space, then its samples
 pub data DamagedColour : List ℕ → ℕ → ℕ → Type 0 where
   space-cut : (l : List ℕ) → length l < 2 → DamagedColour l 2 0
-  wrong-space : (x : ℕ) (l : List ℕ) → x < 256 ^ 2 → ((used : ℕ) → Space x used → ⊥) → DamagedColour (be 2 x ++ l) 4 0
-  sample-cut : (x used : ℕ) (vs l : List ℕ) → Begun x used vs → length l < 2 → DamagedColour (be 2 x ++ (joined (be 2) vs ++ l)) 2 (2 + 2 * length vs)
-  wrong-sample : (x used : ℕ) (vs : List ℕ) (v : ℕ) (l : List ℕ) → Begun x used vs → v < 256 ^ 2 → (Sample used (length vs) v → ⊥) → DamagedColour (be 2 x ++ (joined (be 2) vs ++ (be 2 v ++ l))) 5 (2 + 2 * length vs)
+  wrong-space : (x : ℕ) (l : List ℕ) → x < 256 ^ 2 → ((scales : List Scale) → Space x scales → ⊥) → DamagedColour (be 2 x ++ l) 4 0
+  sample-cut : (x : ℕ) (scales : List Scale) (vs l : List ℕ) → Begun x scales vs → length l < 2 → DamagedColour (be 2 x ++ (joined (be 2) vs ++ l)) 2 (2 + 2 * length vs)
+  wrong-sample : (x : ℕ) (scales : List Scale) (vs : List ℕ) (v : ℕ) (l : List ℕ) → Begun x scales vs → v < 256 ^ 2 → (Sample scales (length vs) v → ⊥) → DamagedColour (be 2 x ++ (joined (be 2) vs ++ (be 2 v ++ l))) 5 (2 + 2 * length vs)
 
 -- a name: 8 is placed at its count, 2 at the field that is cut
 pub data DamagedName : List ℕ → ℕ → ℕ → Type 0 where

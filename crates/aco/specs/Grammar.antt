@@ -1,9 +1,9 @@
 -- ACO files as byte strings, joined from swatches: what may stand in a file. Nothing here reads.
 -- The spaces and the limits are written here by themselves, from docs/RULES.md, and not taken from the reader's.
-use Prim.Native.Nat.{ℕ, _+_, _≤_}
+use Prim.Native.Nat.{ℕ, _+_, _-_, _≤_, _<_}
 use mathlib.Core.Path.{_≡_}
-use mathlib.Core.List.{List, [], _++_}
-use lib.ListN.{length}
+use mathlib.Core.List.{List, [], _∷_, _++_}
+use lib.ListN.{length, getD}
 use Rattle.algebra.specs.Numbers.{be, joined, All}
 use Rattle.algebra.specs.Text.{nameBytes, Named}
 
@@ -37,23 +37,40 @@ twoLists ws = listOne ws ++ listTwo ws
 
 -- ---- which swatches are allowed
 
--- a space by its number, and how many samples it uses
-pub data Space : ℕ → ℕ → Type 0 where
-  rgb : Space 0 3
-  hsb : Space 1 3
-  cmyk : Space 2 4
-  lab : Space 7 3
-  gray : Space 8 1
+-- what a sample counts: from 0 to a largest number; a chrominance, which has a sign; or nothing, where it is not used
+pub data Scale : Type 0 where
+  upTo : ℕ → Scale
+  chrominance : Scale
+  unused : Scale
 
--- sample k of a space that uses so many: from 0 to 65,535, and 0 where it is not used
-abbrev pub Sample : ℕ → ℕ → ℕ → Type 0
-Sample used k v = (v ≤ 65535) × (used ≤ k → v ≡ 0)
+-- a chrominance from -12,800 to 12,700, and its 16 bits: those of a number below zero are 65,536 less it
+pub data Chrominance : ℕ → Type 0 where
+  plus : (n : ℕ) → n ≤ 12700 → Chrominance n
+  minus : (n : ℕ) → 0 < n → n ≤ 12800 → Chrominance (65536 - n)
+
+-- a sample that is on a scale
+abbrev pub On : Scale → ℕ → Type 0
+On (upTo n) v = v ≤ n
+On chrominance v = Chrominance v
+On unused v = v ≡ 0
+
+-- a space by its number, and the scales of its four samples: gray and the lightness of Lab count to 10,000
+pub data Space : ℕ → List Scale → Type 0 where
+  rgb : Space 0 (upTo 65535 ∷ upTo 65535 ∷ upTo 65535 ∷ unused ∷ [])
+  hsb : Space 1 (upTo 65535 ∷ upTo 65535 ∷ upTo 65535 ∷ unused ∷ [])
+  cmyk : Space 2 (upTo 65535 ∷ upTo 65535 ∷ upTo 65535 ∷ upTo 65535 ∷ [])
+  lab : Space 7 (upTo 10000 ∷ chrominance ∷ chrominance ∷ unused ∷ [])
+  gray : Space 8 (upTo 10000 ∷ unused ∷ unused ∷ unused ∷ [])
+
+-- sample k of a space with these scales
+abbrev pub Sample : List Scale → ℕ → ℕ → Type 0
+Sample scales k v = On (getD scales k unused) v
 
 pub record Allowed (w : Swatch) : Type 0 where
-  pub used : ℕ
-  pub space : Space (w .space) used
+  pub scales : List Scale
+  pub space : Space (w .space) scales
   pub four : length (w .samples) ≡ 4
-  pub samples : All (Sample used) 0 (w .samples)
+  pub samples : All (Sample scales) 0 (w .samples)
   -- no unit is zero
   pub name : Named 4 (w .name)
 

@@ -19,7 +19,7 @@ most = 4096
 abbrev pub space : ℕ → Judged
 space x = unless (known x) 4
 
--- sample k of a colour of the space x: unused ones are 0, else 5
+-- sample k of a colour of the space x: in its range, and 0 where it is not used, else 5
 abbrev pub sample : ℕ → ℕ → ℕ → Judged
 sample x k v = unless (allowed x k v) 5
 

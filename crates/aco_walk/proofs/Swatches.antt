@@ -2,7 +2,7 @@
 use Prim.Native.Nat.{ℕ, zero, suc, _+_, _*_, _≤_, _<_}
 use mathlib.Core.Path.{_≡_, refl, sym, ap, ap₂, _∙_, subst}
 use mathlib.Core.List.{List, [], _∷_}
-use mathlib.Core.Bool.{Bool, true, false}
+use mathlib.Core.Bool.{Bool, true, false, _&&_}
 use lib.Dec.{leb, ltb, eqb}
 use lib.ListN.{length, getD, List·getD-eq-default}
 use lib.Seq.{ext-getD}
@@ -16,7 +16,7 @@ use Rattle.algebra.proofs.Laws.{field-in}
 use Rattle.algebra.proofs.Places.{length-nums, getD-nums}
 use Rattle.algebra.proofs.Inverse.{then-inv, done-inv, fields-inv}
 use Rattle.colour.specs.declared.space.Colour.{Colour}
-use Rattle.colour.specs.Spaces.{uses, full, known, allowed, allAllowed, sound}
+use Rattle.colour.specs.Spaces.{uses, full, known, chrominance, ranged, allowed, allAllowed, sound}
 use Rattle.aco.specs.Reading.{colour, fieldOf, twin, Entry, entry, black, unnamed, compared}
 use Rattle.aco.specs.Raw.{rawColour}
 use Rattle.aco.proofs.Raw.{Good, colour-inv, colours-good, getD-raw, field-raw}
@@ -46,12 +46,13 @@ good-fine s at g = record {
 }
 
 zero-allowed : (x k : ℕ) → allowed x k 0 ≡ true
-unfolding allowed
-zero-allowed x k = go (ltb k (uses x))
+unfolding allowed ranged chrominance
+zero-allowed x k = go (ltb k (uses x)) (eqb x 7 && ltb 0 k)
   where
-    go : (b : Bool) → pick b (leb 0 (full x)) (eqb 0 0) ≡ true
-    go true = le-leb 0 (full x) (omega arith)
-    go false = refl
+    go : (b p : Bool) → pick b (pick p (chrominance 0) (leb 0 (full x))) (eqb 0 0) ≡ true
+    go true true = refl
+    go true false = le-leb 0 (full x) (omega arith)
+    go false p = refl
 
 fine-black : Fine black
 unfolding known uses

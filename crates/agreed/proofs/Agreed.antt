@@ -7,7 +7,7 @@ use lib.IntN.{ℤ, pos, negsuc}
 use Rattle.algebra.specs.Numbers.{num, nums, be}
 use Rattle.algebra.specs.Reader.{Res, ok, refuse, field, body, each, stateAfter, chain, ended}
 use Rattle.algebra.specs.Text.{anyZero, closed, front, name}
-use Rattle.colour.specs.Spaces.{uses, full, known, allowed}
+use Rattle.colour.specs.Spaces.{uses, full, known, ranged, allowed}
 use Rattle.colour.specs.Models.{modelOf, isModel, channelsOf}
 use Rattle.colour.specs.Channels.{inUnit, allowsBits}
 use lib.Ieee.{ofBits, le, lt, eq}
@@ -116,7 +116,7 @@ pub agreed : map reading (
     ∷ asDescriptor (ok (row 0x4F62_6A63 0 0 40 0 4 ∷ row 0x566C_4C73 0 17 23 1 26 ∷ row 0x626F_6F6C 1 30 5 2 34 ∷ row 0x626F_6F6C 1 35 5 2 39 ∷ []) 40)
     ∷ lengths (17 ∷ 13 ∷ 5 ∷ 5 ∷ [])
     ∷ []
-unfolding p2 p3 a23 p5 p6 p11 p12 num nums field body be each chain stateAfter ended anyZero closed front name uses full known allowed samples colour heading entry second after lists aco modelOf isModel channelsOf inUnit allowsBits ofBits le lt eq ase.group ase.shade ase.content ase.block ase.heading ase.blocks ase.palette ase.ase acb.opening acb.header acb.book acb.acb percent shownComponent shown numbered sampleOf descriptor.descriptor descriptor.whole descriptor.root descriptor.objectOf descriptor.children descriptor.siblings descriptor.class descriptor.unicode descriptor.shut descriptor.id descriptor.keyed descriptor.item descriptor.sortOf descriptor.flag fileHeads memberHeads rootHead
+unfolding p2 p3 a23 p5 p6 p11 p12 num nums field body be each chain stateAfter ended anyZero closed front name uses full known ranged allowed samples colour heading entry second after lists aco modelOf isModel channelsOf inUnit allowsBits ofBits le lt eq ase.group ase.shade ase.content ase.block ase.heading ase.blocks ase.palette ase.ase acb.opening acb.header acb.book acb.acb percent shownComponent shown numbered sampleOf descriptor.descriptor descriptor.whole descriptor.root descriptor.objectOf descriptor.children descriptor.siblings descriptor.class descriptor.unicode descriptor.shut descriptor.id descriptor.keyed descriptor.item descriptor.sortOf descriptor.flag fileHeads memberHeads rootHead
 agreed = refl
 
 -- the tree whose heads these are has the bytes of P12

@@ -1,7 +1,8 @@
 -- What `nearest` works out, over whole numbers. Assumes nothing.
 use mathlib.Core.Path.{_≡_, refl, sym, ap, _∙_, subst}
-use Prim.Native.Nat.{ℕ, zero, suc, _+_, _-_, _*_, _/_, _%_, _^_, _≤_, _<_}
-use native.Mathlib.Nat.{le-trans, le-of-eq, le-of-lt, lt-of-lt-of-le, lt-of-le-of-lt, div-eq-of-lt, mul-assoc, mul-le-mul-left, le-of-suc-le-suc, mul-le-mul-right, mul-lt-mul-of-pos-right}
+use Prim.Native.Nat.{ℕ, zero, suc, _+_, _-_, _*_, _/_, _%_, _^_, _≤_, _<_, zero-le}
+use native.Mathlib.Decide.{decLe}
+use native.Mathlib.Nat.{lt-of-not-le, le-trans, le-of-eq, le-of-lt, lt-of-lt-of-le, lt-of-le-of-lt, div-eq-of-lt, mul-assoc, mul-le-mul-left, le-of-suc-le-suc, mul-le-mul-right, mul-lt-mul-of-pos-right}
 use native.Mathlib.Omega.{arith}
 use mathlib.Core.Logic.{_⊎_, inl, inr}
 use mathlib.Core.Bool.{Bool}
@@ -10,7 +11,7 @@ use lib.Ieee.{Float, binary32, ofBits}
 use lib.Ieee.Exact.{HasValue}
 use lib.Ieee.Positive.{num, den}
 use Rattle.colour.specs.Channels.{nearestUp, sampleOf}
-use Rattle.colour.proofs.Return.{nearestUp-same, sample-of-value}
+use Rattle.colour.proofs.Return.{nearestUp-same, sample-of-value, nearest-most}
 use Rattle.algebra.proofs.Floats.{lead, value, bits-value}
 
 -- size, exponent and digits of the bits b, as the function names them
@@ -116,8 +117,11 @@ module _ (n b : ℕ) (N : n < 2 ^ 16) (h : U b ≤ 0x3f80_0000) (g : 110 ≤ E b
           less : (e : ℕ) → e < 127 → 24 + (e - 110) ≤ 40
           less e k = omega arith
 
+  pub p-scale : P n b ≤ n * 2 ^ 40
+  p-scale = le-trans (le-of-eq (p-is ∙ mul-assoc n (M b) (2 ^ (E b - 110)))) (mul-le-mul-left n m-le)
+
   pub p-most : P n b ≤ 65535 * 2 ^ 40
-  p-most = le-trans (le-of-eq (p-is ∙ mul-assoc n (M b) (2 ^ (E b - 110)))) (le-trans (mul-le-mul-left n m-le) (mul-le-mul-right (2 ^ 40) (le-of-suc-le-suc N)))
+  p-most = le-trans p-scale (mul-le-mul-right (2 ^ 40) (le-of-suc-le-suc N))
 
   value-is : value binary32 b ≡ M b * 2 ^ (E b - 1)
   value-is = ap (λ (x : ℕ). x * 2 ^ (E b - 1)) (lead-is (E b) (b % 8388608) g ∙ ap (λ (x : ℕ). 8388608 + x) (sym (same-digits b)))
@@ -135,3 +139,10 @@ module _ (n b : ℕ) (N : n < 2 ^ 16) (h : U b ≤ 0x3f80_0000) (g : 110 ≤ E b
       same =
           ap (λ (x : ℕ). x * 2 ^ 40) (sym (mul-assoc n (M b) (2 ^ (E b - 1))) ∙ ap (λ (x : ℕ). n * M b * x) powers ∙ sym (mul-assoc (n * M b) (2 ^ (E b - 110)) (2 ^ 109)))
           ∙ mul-assoc (n * M b * 2 ^ (E b - 110)) (2 ^ 109) (2 ^ 40)
+
+-- no float from 0 to 1 gives a sample past the scale
+pub sample-most : (n b : ℕ) → n < 2 ^ 16 → U b ≤ 0x3f80_0000 → sampleOf n (ofBits binary32 b) ≤ n
+sample-most n b N h = elim (decLe 110 (E b)) [
+  | yes g ↦ subst (λ (x : ℕ). x ≤ n) (nearest-is n b N h g) (nearest-most (P n b) (2 ^ 40) n (pow-pos 40) (p-scale n b N h g))
+  | no g ↦ subst (λ (x : ℕ). x ≤ n) (small n b N h (lt-of-not-le g)) zero-le
+]

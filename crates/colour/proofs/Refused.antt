@@ -1,5 +1,5 @@
 -- Which refusal a conversion gives, by the account of specs/Refusals. Assumes nothing.
-use Prim.Native.Nat.{ℕ, _%_, _^_, _≤_, _<_}
+use Prim.Native.Nat.{ℕ, _-_, _%_, _^_, _≤_, _<_}
 use mathlib.Core.Path.{_≡_, refl, sym, ap, _∙_, subst}
 use mathlib.Core.Logic.{_⊎_, inl, inr}
 use mathlib.Core.Bool.{Bool, true, false}
@@ -12,27 +12,28 @@ use lib.Ieee.Scale.{finite}
 use Rattle.algebra.proofs.Floats.{finite-bits}
 use Rattle.colour.specs.declared.model.Model.the-variants as model
 use Rattle.colour.specs.Models.{modelOf}
-use Rattle.colour.specs.Spaces.{uses, known}
-use Rattle.colour.specs.Channels.{inUnit}
+use Rattle.colour.specs.Spaces.{uses, full, known, ranged, allowed}
+use Rattle.colour.specs.Channels.{inUnit, channelOf}
 use Rattle.colour.specs.Convert.{gives, refused, toChannel, toSample, sampleBy}
-use Rattle.colour.specs.Refusals.{Matched, rgb, cmyk, gray, SampleRefused, unknown, hsb, lab, Tagged, ChannelRefused, outside, endless, ChannelGiven, unit, minus}
+use Rattle.colour.specs.Refusals.{SampleGiven, rgb, cmyk, gray, SampleRefused, unknown, above, hsb, lab, Tagged, ChannelRefused, outside, endless, ChannelGiven, unit, minus}
 use Rattle.colour.proofs.Unit.{unit-minus, unit-leb}
 
 -- ---- samples
 
--- every sample of RGB, CMYK and gray has a channel
-pub sample-given : {x : ℕ} → Matched x → (v : ℕ) → (c : Float) × (toChannel x v ≡ gives c)
-unfolding toChannel
-sample-given rgb v = (_, refl)
-sample-given cmyk v = (_, refl)
-sample-given gray v = (_, refl)
+-- every sample of RGB and CMYK, and one of gray up to 10,000, has a channel
+pub sample-given : {x v : ℕ} → SampleGiven x v → (c : Float) × (toChannel x v ≡ gives c)
+unfolding toChannel allowed ranged uses full
+sample-given (rgb {v} h) = (channelOf 65535 v, rw (le-leb v 65535 h))
+sample-given (cmyk {v} h) = (channelOf 65535 (65535 - v), rw (le-leb v 65535 h))
+sample-given (gray {v} h) = (channelOf 10000 v, rw (le-leb v 10000 h))
 
--- every sample of HSB and of Lab is 14, and of any other space 4, at place 0
-pub sample-refused : {x n : ℕ} → SampleRefused x n → (v : ℕ) → toChannel x v ≡ refused n 0
-unfolding toChannel known uses
-sample-refused hsb v = refl
-sample-refused lab v = refl
-sample-refused (unknown {x} u) v =
+-- one of gray above 10,000 is 5, every sample of HSB and of Lab is 14, and of any other space 4, at place 0
+pub sample-refused : {x v n : ℕ} → SampleRefused x v n → toChannel x v ≡ refused n 0
+unfolding toChannel allowed ranged known uses full
+sample-refused hsb = refl
+sample-refused lab = refl
+sample-refused (above {v} h) = rw (lt-leb v 10000 h)
+sample-refused (unknown {x} {v} u) =
     rw (ne-eqb x 0 (u .no-rgb), ne-eqb x 1 (u .no-hsb), ne-eqb x 2 (u .no-cmyk), ne-eqb x 7 (u .no-lab), ne-eqb x 8 (u .no-gray)) refl
 
 -- ---- channels
@@ -75,17 +76,24 @@ channel-refused small (lab {b} h) = lab-by b true (finite-bits binary32 b ∙ lt
 
 -- ---- the account leaves nothing out
 
-pub every-space : (x : ℕ) → Matched x ⊎ ((n : ℕ) × SampleRefused x n)
-every-space x = elim (ℕ-discrete x 0) [
-  | yes e ↦ inl (subst Matched (sym e) rgb)
+-- a sample has a channel or a refusal
+abbrev Told : ℕ → ℕ → Type 0
+Told x v = SampleGiven x v ⊎ ((n : ℕ) × SampleRefused x v n)
+
+gray-told : (v : ℕ) → Told 8 v
+gray-told v = elim (decLe v 10000) [ yes h ↦ inl (gray h) | no h ↦ inr (5, above (lt-of-not-le h)) ]
+
+pub every-sample : (x v : ℕ) → v < 2 ^ 16 → SampleGiven x v ⊎ ((n : ℕ) × SampleRefused x v n)
+every-sample x v small = elim (ℕ-discrete x 0) [
+  | yes e ↦ subst (λ (z : ℕ). Told z v) (sym e) (inl (rgb (omega arith)))
   | no a ↦ elim (ℕ-discrete x 1) [
-    | yes e ↦ inr (14, subst (λ (z : ℕ). SampleRefused z 14) (sym e) hsb)
+    | yes e ↦ subst (λ (z : ℕ). Told z v) (sym e) (inr (14, hsb))
     | no b ↦ elim (ℕ-discrete x 2) [
-      | yes e ↦ inl (subst Matched (sym e) cmyk)
+      | yes e ↦ subst (λ (z : ℕ). Told z v) (sym e) (inl (cmyk (omega arith)))
       | no c ↦ elim (ℕ-discrete x 7) [
-        | yes e ↦ inr (14, subst (λ (z : ℕ). SampleRefused z 14) (sym e) lab)
+        | yes e ↦ subst (λ (z : ℕ). Told z v) (sym e) (inr (14, lab))
         | no d ↦ elim (ℕ-discrete x 8) [
-          | yes e ↦ inl (subst Matched (sym e) gray)
+          | yes e ↦ subst (λ (z : ℕ). Told z v) (sym e) (gray-told v)
           | no f ↦ inr (4, unknown (record { no-rgb = a; no-hsb = b; no-cmyk = c; no-lab = d; no-gray = f }))
         ]
       ]

@@ -42,6 +42,14 @@ between x l q P h g = le-antisymm
     hi : (y : ℕ) → 2 * x < 2 * y + l → 2 * x + l < 2 * y + 2 * l
     hi y e = omega arith
 
+-- the whole number nearest to a fraction of at most n is at most n
+pub nearest-most : (a c n : ℕ) → 0 < c → a ≤ n * c → nearestUp a c ≤ n
+nearest-most a c n C h = le-of-suc-le-suc (div-lt-iff-lt-mul (mul-pos (pow-pos 1) C) .1
+    (subst (λ (y : ℕ). 2 * a + c < y) (sym (suc-mul n (2 * c) ∙ ap (λ (y : ℕ). y + 2 * c) (mul-left-comm n 2 c))) (below (n * c) h)))
+  where
+    below : (y : ℕ) → a ≤ y → 2 * a + c < 2 * y + 2 * c
+    below y e = omega arith
+
 -- for either format, a scale n of fewer digits than the format keeps, and each s up to n
 pub rounded-back : (f : Format) (n s : ℕ) → 0 < n → n < 2 ^ (prec f - 1) → s ≤ n → sampleOf n (round f false s n) ≡ s
 rounded-back f n s N few most =

@@ -5,7 +5,7 @@ use lib.Dec.{eqb}
 use lib.Ieee.{Float, binary32, ofBits, toBits}
 use Rattle.algebra.specs.Reader.{pick}
 use Rattle.colour.specs.Models.{traitsOf, modelOf}
-use Rattle.colour.specs.Spaces.{rgb, cmyk, gray, full, known}
+use Rattle.colour.specs.Spaces.{rgb, cmyk, gray, full, known, allowed}
 use Rattle.colour.specs.Channels.{allows, channelOf, sampleOf}
 use Rattle.colour.specs.declared.model.Model.{Model}
 use Rattle.colour.specs.declared.model.Model.the-variants.{Rgb, Cmyk, Lab, Gray}
@@ -25,12 +25,16 @@ pub data Converted (A : Type 0) : Type 0 where
 abbrev pub unmatched : Bool → ℕ
 unmatched isKnown = pick isKnown 14 4
 
+-- the sample v of a space with a model, of which n is divided by the full scale: 5 where the space does not allow v
+abbrev pub channelBy : ℕ → ℕ → ℕ → Converted Float
+channelBy x v n = pick (allowed x 0 v) (gives (channelOf (full x) n)) (refused 5 0)
+
 -- RGB and gray: the sample as a channel. CMYK: what is left of the full scale, since ACO counts 0 as full ink.
 unfoldable pub toChannel : ℕ → ℕ → Converted Float
 toChannel x v =
-    pick (eqb x rgb) (gives (channelOf (full x) v))
-    (pick (eqb x cmyk) (gives (channelOf (full x) (full x - v)))
-    (pick (eqb x gray) (gives (channelOf (full x) v))
+    pick (eqb x rgb) (channelBy x v v)
+    (pick (eqb x cmyk) (channelBy x v (full x - v))
+    (pick (eqb x gray) (channelBy x v v)
     (refused (unmatched (known x)) 0)))
 
 -- a channel that the model allows: the nearest sample, in CMYK then taken from the full scale; Lab has no counterpart, 14

@@ -9,12 +9,12 @@ use Rattle.colour.specs.declared.model.Model.the-variants.{Rgb, Cmyk, La
 use Rattle.colour.specs.declared.model.Known.{Known}
 use Rattle.colour.specs.declared.model.Known.the-variants.{Is, Unknown}
 
--- each model has its tag, its channel count and its full scale: `RGB `, `CMYK`, `LAB `, `Gray`
+-- each model has its tag, its channel count and its full scale: `RGB `, `CMYK`, `LAB `, `Gray`. Lab's is that of the lightness
 abbrev pub traitsOf : Model → Traits
 traitsOf Rgb = record { tag = 0x5247_4220; channels = 3; full = 65535 }
 traitsOf Cmyk = record { tag = 0x434d_594b; channels = 4; full = 65535 }
-traitsOf Lab = record { tag = 0x4c41_4220; channels = 3; full = 65535 }
-traitsOf Gray = record { tag = 0x4772_6179; channels = 1; full = 65535 }
+traitsOf Lab = record { tag = 0x4c41_4220; channels = 3; full = 10000 }
+traitsOf Gray = record { tag = 0x4772_6179; channels = 1; full = 10000 }
 
 -- the model with a tag
 unfoldable pub modelOf : ℕ → Known

@@ -4,11 +4,11 @@ use mathlib.Core.Path.{_≡_}
 
 -- ---- a sample of a space
 
--- the spaces that have a model: RGB, CMYK, gray
-pub data Matched : ℕ → Type 0 where
-  rgb : Matched 0
-  cmyk : Matched 2
-  gray : Matched 8
+-- a space with a model, and a sample of it that has a channel: RGB and CMYK to 65,535, gray to 10,000
+pub data SampleGiven : ℕ → ℕ → Type 0 where
+  rgb : {v : ℕ} → v ≤ 65535 → SampleGiven 0 v
+  cmyk : {v : ℕ} → v ≤ 65535 → SampleGiven 2 v
+  gray : {v : ℕ} → v ≤ 10000 → SampleGiven 8 v
 
 -- a space that is none of the five
 pub record UnknownSpace (x : ℕ) : Type 0 where
@@ -18,11 +18,12 @@ pub record UnknownSpace (x : ℕ) : Type 0 where
   pub no-lab : x ≡ 7 → ⊥
   pub no-gray : x ≡ 8 → ⊥
 
--- a space and the refusal of each of its samples
-pub data SampleRefused : ℕ → ℕ → Type 0 where
-  unknown : {x : ℕ} → UnknownSpace x → SampleRefused x 4
-  hsb : SampleRefused 1 14
-  lab : SampleRefused 7 14
+-- a space, a sample and its refusal; in HSB and Lab whatever the sample
+pub data SampleRefused : ℕ → ℕ → ℕ → Type 0 where
+  unknown : {x v : ℕ} → UnknownSpace x → SampleRefused x v 4
+  above : {v : ℕ} → 10000 < v → SampleRefused 8 v 5
+  hsb : {v : ℕ} → SampleRefused 1 v 14
+  lab : {v : ℕ} → SampleRefused 7 v 14
 
 -- ---- a channel of a model, by its bits
 

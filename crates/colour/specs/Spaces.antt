@@ -1,6 +1,6 @@
 -- The colour spaces of ACO files.
 use Prim.Native.Nat.{ℕ, _+_}
-use mathlib.Core.Bool.{Bool, true, false}
+use mathlib.Core.Bool.{Bool, true, false, _&&_}
 use mathlib.Core.List.{List, [], _∷_}
 use lib.Dec.{leb, ltb, eqb}
 use Rattle.algebra.specs.Reader.{pick}
@@ -26,7 +26,7 @@ gray = 8
 unfoldable pub uses : ℕ → ℕ
 uses x = pick (eqb x rgb) 3 (pick (eqb x hsb) 3 (pick (eqb x cmyk) 4 (pick (eqb x lab) 3 (pick (eqb x gray) 1 0))))
 
--- the largest sample of a space: that of its model, where it has one
+-- the largest sample of a space, in Lab of its lightness: that of its model, where it has one
 unfoldable pub full : ℕ → ℕ
 full x =
     pick (eqb x rgb) (traitsOf Rgb .full)
@@ -38,9 +38,17 @@ full x =
 unfoldable pub known : ℕ → Bool
 known x = ltb 0 (uses x)
 
+-- a chrominance of Lab is signed, from -12,800 to 12,700, and kept as an unsigned number of 16 bits
+unfoldable pub chrominance : ℕ → Bool
+chrominance v = pick (leb v 12700) true (pick (leb 52736 v) (leb v 65535) false)
+
+-- the range of the sample at a position that a colour of a space uses: 0 to the largest, but for the two chrominances of Lab
+unfoldable pub ranged : ℕ → ℕ → ℕ → Bool
+ranged x k v = pick (eqb x lab && ltb 0 k) (chrominance v) (leb v (full x))
+
 -- whether the sample at a position of a colour of a space may have a value: one that the space does not use is 0
 unfoldable pub allowed : ℕ → ℕ → ℕ → Bool
-allowed x k v = pick (ltb k (uses x)) (leb v (full x)) (eqb v 0)
+allowed x k v = pick (ltb k (uses x)) (ranged x k v) (eqb v 0)
 
 -- the samples of a colour of a space, from position k, are all allowed
 unfoldable pub allAllowed : ℕ → ℕ → List ℕ → Bool

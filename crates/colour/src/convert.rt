@@ -10,6 +10,7 @@ use crate::space::CMYK;
 use crate::space::GRAY;
 use crate::space::RGB;
 use crate::space::full_sample;
+use crate::space::is_allowed;
 use crate::space::is_known;
 
 // A channel, or the number of a refusal.
@@ -24,7 +25,8 @@ pub enum Sample {
     Refused(u32),
 }
 
-// The channel of a sample. ACO counts 0 as full ink, so CMYK is turned round.
+// The channel of a sample. ACO counts 0 as full ink, so CMYK is turned round. Of these spaces only
+// gray's scale ends before 16 bits do.
 pub fn to_channel(space: u16, sample: u16) -> Channel
     ensures { λ r. ⌜ toldChannel r ≡ toChannel space sample ⌝ }
 {
@@ -32,7 +34,12 @@ pub fn to_channel(space: u16, sample: u16) -> Channel
     match space {
         RGB => Channel::Is(quotient(full, sample)),
         CMYK => Channel::Is(quotient(full, full - sample)),
-        GRAY => Channel::Is(quotient(full, sample)),
+        GRAY => {
+            if !is_allowed(space, 0, sample) {
+                return Channel::Refused(5);
+            }
+            Channel::Is(quotient(full, sample))
+        }
         _ => Channel::Refused(if is_known(space) { 14 } else { 4 }),
     }
 }

@@ -5,7 +5,8 @@ ghost use Rattle.colour.specs.Models.{traitsOf, modelOf};
 ghost use Rattle.colour.specs.Channels.{wide, allows, allowsAll};
 use crate::channel::is_channel;
 
-// What a model has: its four characters as a number, its channels, and the sample that is 1.
+// What a model has: its four characters as a number, its channels, and its largest sample (in Lab
+// that of the lightness), which is the channel 1 where samples are converted.
 pub struct Traits {
     pub tag: u32,
     pub channels: u16,
@@ -40,13 +41,13 @@ impl Model {
     pub const LAB: Traits = Traits {
         tag: 0x4c41_4220,
         channels: 3,
-        full: 65535,
+        full: 10000,
     };
 
     pub const GRAY: Traits = Traits {
         tag: 0x4772_6179,
         channels: 1,
-        full: 65535,
+        full: 10000,
     };
 
     pub fn from_tag(tag: u32) -> Known

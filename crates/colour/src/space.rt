@@ -1,10 +1,7 @@
 // Colour spaces: their numbers, the samples that they use, and the values that those may have.
 ghost use mathlib.Core.Path.{_≡_};
-ghost use mathlib.Core.Bool.{true};
 ghost use mathlib.Core.List.{_∷_, []};
-ghost use lib.Dec.{ltb, eqb};
-ghost use Rattle.algebra.specs.Reader.{pick};
-ghost use Rattle.colour.specs.Spaces.{uses, full, known, allowed, sound};
+ghost use Rattle.colour.specs.Spaces.{uses, full, known, chrominance, ranged, allowed, sound};
 use crate::model::Model;
 
 pub const RGB: u16 = 0;
@@ -16,6 +13,11 @@ pub const CMYK: u16 = 2;
 pub const LAB: u16 = 7;
 
 pub const GRAY: u16 = 8;
+
+// A chrominance is signed and kept as its 16 bits: 12,700 is the largest, and -12,800 is 65,536 less it.
+const CHROMINANCE_MOST: u16 = 12700;
+
+const CHROMINANCE_LEAST: u16 = 52736;
 
 // A colour: the number of its space, and its four samples.
 pub struct Colour {
@@ -37,7 +39,7 @@ pub fn samples_used(space: u16) -> u16
     }
 }
 
-// The largest sample of a space; 0 for an unknown space.
+// The largest sample of a space, in Lab of its lightness; 0 for an unknown space.
 pub fn full_sample(space: u16) -> u16
     ensures { λ r. ⌜ r ≡ full space ⌝ }
 {
@@ -57,36 +59,49 @@ pub fn is_known(space: u16) -> bool
     0 < samples_used(space)
 }
 
-// Whether the sample at a position may have this value, where a colour uses this many.
-fn is_free(used: u16, position: u16, sample: u16) -> bool
-    ensures { λ r. ⌜ r ≡ pick (ltb position used) true (eqb sample 0) ⌝ }
+// Whether a number of 16 bits is, as a signed one, from -12,800 to 12,700.
+fn is_chrominance(sample: u16) -> bool
+    ensures { λ r. ⌜ r ≡ chrominance sample ⌝ }
 {
-    if position < used {
-        return true;
+    (sample <= CHROMINANCE_MOST) | (CHROMINANCE_LEAST <= sample)
+}
+
+// Whether a sample that the space uses is in its range.
+fn is_ranged(space: u16, position: u16, sample: u16) -> bool
+    ensures { λ r. ⌜ r ≡ ranged space position sample ⌝ }
+{
+    if space != LAB {
+        return sample <= full_sample(space);
     }
-    sample == 0
+    if position == 0 {
+        return sample <= full_sample(space);
+    }
+    is_chrominance(sample)
 }
 
 // Whether the sample at a position may have this value.
 pub fn is_allowed(space: u16, position: u16, sample: u16) -> bool
     ensures { λ r. ⌜ r ≡ allowed space position sample ⌝ }
 {
-    is_free(samples_used(space), position, sample)
+    if samples_used(space) <= position {
+        return sample == 0;
+    }
+    is_ranged(space, position, sample)
 }
 
-// Whether a colour has no fault. Its space is looked up once.
+// Whether a colour has no fault. RGB, HSB and CMYK are told by one comparison: a jump by the space
+// would be harder to foresee.
 pub fn is_sound(space: u16, a: u16, b: u16, c: u16, d: u16) -> bool
     ensures { λ r. ⌜ r ≡ sound space (a ∷ b ∷ c ∷ d ∷ []) ⌝ }
 {
-    let used = samples_used(space);
-    if used == 0 {
-        return false;
+    if space <= CMYK {
+        return (d == 0) | (space == CMYK);
     }
-    if !is_free(used, 1, b) {
-        return false;
+    if space == GRAY {
+        return (a <= Model::GRAY.full) & (b == 0) & (c == 0) & (d == 0);
     }
-    if !is_free(used, 2, c) {
-        return false;
+    if space == LAB {
+        return (a <= Model::LAB.full) & is_chrominance(b) & is_chrominance(c) & (d == 0);
     }
-    is_free(used, 3, d)
+    false
 }

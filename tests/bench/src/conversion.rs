@@ -60,7 +60,7 @@ fn patterns(any: impl FnMut() -> u32) -> Vec<u32> {
 /// Channels come out as their bits, as the library gives them.
 fn there(samples: &[u16]) -> Vec<Way<'_, u32>> {
     // Hidden, or the reference would be compiled for this space alone.
-    let (space, _) = black_box(PAIRS[0]);
+    let (space, ..) = black_box(PAIRS[0]);
     vec![
         Way::new("library", samples, move |sample| {
             let answer = proved::to_channel(space, sample);
@@ -86,7 +86,7 @@ fn there(samples: &[u16]) -> Vec<Way<'_, u32>> {
 }
 
 fn back(patterns: &[u32]) -> Vec<Way<'_, u16>> {
-    let (_, model) = black_box(PAIRS[0]);
+    let (_, model, _) = black_box(PAIRS[0]);
     vec![
         Way::new("library", patterns, move |bits| {
             let answer = proved::to_sample(model, bits);

@@ -5,7 +5,7 @@ use crate::expected;
 use crate::tally::Conversions;
 use generate::{any_pattern, neighbourhoods, tags, Random, EACH_CLASS, PAIRS, SPACES, TAGS};
 
-const FEW_SAMPLES: [u16; 6] = [0, 1, 0x7FFF, 0x8000, 0xFFFE, 0xFFFF];
+const FEW_SAMPLES: [u16; 8] = [0, 1, 10_000, 10_001, 0x7FFF, 0x8000, 0xFFFE, 0xFFFF];
 /// Beside the known ones, or like them in one of the two bytes.
 const UNKNOWN_SPACES: [u16; 9] = [3, 6, 9, 0x0010, 0x0100, 0x0200, 0x0802, 0x8000, 0xFFFF];
 
@@ -58,10 +58,10 @@ fn every_sample(tally: &mut Conversions) -> Checked {
     Ok(())
 }
 
-/// Each sample comes back through the library alone.
+/// Each sample up to its full scale comes back through the library alone.
 fn there_and_back() -> Checked {
-    for (space, tag) in PAIRS {
-        for sample in 0..=u16::MAX {
+    for (space, tag, full) in PAIRS {
+        for sample in 0..=full {
             let channel = proved::to_channel(space, sample);
             let wanted = proved::Sample { number: 0, sample };
             agree(

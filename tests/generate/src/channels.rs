@@ -11,14 +11,19 @@ pub const GRAY_TAG: u32 = u32::from_be_bytes(*b"Gray");
 
 pub const TAGS: [u32; 4] = [RGB_TAG, CMYK_TAG, LAB_TAG, GRAY_TAG];
 
-/// The spaces that have a counterpart, each with its model's tag.
-pub const PAIRS: [(u16, u32); 3] = [(0, RGB_TAG), (2, CMYK_TAG), (8, GRAY_TAG)];
+/// The spaces that have a counterpart, each with its model's tag and its
+/// largest sample.
+pub const PAIRS: [(u16, u32, u16); 3] = [
+    (0, RGB_TAG, 65_535),
+    (2, CMYK_TAG, 65_535),
+    (8, GRAY_TAG, 10_000),
+];
 
 /// The bits of the channel 1.
 pub const ONE: u32 = 0x3F80_0000;
 /// The bits of 2^-17: below it every channel is nearest to the sample 0.
 const LEAST_HALF: u32 = 0x3700_0000;
-const FULL: u32 = 65_535;
+const SCALES: [u32; 2] = [65_535, 10_000];
 
 const ANY_TAGS: usize = 4_000;
 
@@ -128,13 +133,16 @@ fn in_other_orders(tag: u32) -> [u32; 5] {
 }
 
 /// The patterns about each turn, about the first one of each sign and exponent,
-/// and about the channel of each sample and each half between two samples.
-/// They are in order and none comes twice.
+/// and about the channel of each sample and each half between two samples of
+/// either scale. They are in order and none comes twice.
 pub fn neighbourhoods() -> Vec<RangeInclusive<u32>> {
     let mut found = vec![about(u32::MAX, ABOUT_AN_EXPONENT)];
     found.extend(TURNS.map(|bits| about(bits, ABOUT_A_TURN)));
     found.extend((0..1 << 9).map(|exponent| about(exponent << 23, ABOUT_AN_EXPONENT)));
-    found.extend((0..=2 * FULL + 1).map(|halves| about(channel(halves), ABOUT_A_SAMPLE)));
+    for full in SCALES {
+        let halves = 0..=2 * full + 1;
+        found.extend(halves.map(|halves| about(channel(halves, full), ABOUT_A_SAMPLE)));
+    }
     merged(found)
 }
 
@@ -143,8 +151,8 @@ fn about(bits: u32, reach: u32) -> RangeInclusive<u32> {
 }
 
 /// The bits of the channel of so many half samples, or of a float beside it.
-fn channel(halves: u32) -> u32 {
-    ((f64::from(halves) / f64::from(2 * FULL)) as f32).to_bits()
+fn channel(halves: u32, full: u32) -> u32 {
+    ((f64::from(halves) / f64::from(2 * full)) as f32).to_bits()
 }
 
 fn merged(mut ranges: Vec<RangeInclusive<u32>>) -> Vec<RangeInclusive<u32>> {

@@ -1,7 +1,9 @@
 //! Damage done to sound files.
 
 use crate::bytes::{self, one_off};
-use crate::palette::{Colour, Layout, Palette, COLOUR_LEN, HEAD_LEN, NAME_COUNT_LEN, SPACES};
+use crate::palette::{
+    Colour, Layout, Palette, COLOUR_LEN, HEAD_LEN, NAME_COUNT_LEN, OUTSIDE, SPACES,
+};
 use crate::random::Random;
 
 /// Spaces that are not known, near to and far from those that are.
@@ -39,6 +41,8 @@ pub enum Damage {
     SpaceOther,
     UnusedSampleSet,
     UnusedSampleSetInBoth,
+    SampleOutside,
+    SampleOutsideInBoth,
     ListsDiffer,
     LastRecordDiffers,
     NameCountZero,
@@ -56,7 +60,7 @@ pub enum Damage {
 }
 
 impl Damage {
-    pub const ALL: [Damage; 32] = [
+    pub const ALL: [Damage; 34] = [
         Damage::Cut,
         Damage::CutInListTwo,
         Damage::FlipBit,
@@ -75,6 +79,8 @@ impl Damage {
         Damage::SpaceOther,
         Damage::UnusedSampleSet,
         Damage::UnusedSampleSetInBoth,
+        Damage::SampleOutside,
+        Damage::SampleOutsideInBoth,
         Damage::ListsDiffer,
         Damage::LastRecordDiffers,
         Damage::NameCountZero,
@@ -138,6 +144,8 @@ impl Damaging<'_> {
             Damage::SpaceOther => self.other_space(),
             Damage::UnusedSampleSet => self.set_unused(false),
             Damage::UnusedSampleSetInBoth => self.set_unused(true),
+            Damage::SampleOutside => self.set_outside(false),
+            Damage::SampleOutsideInBoth => self.set_outside(true),
             Damage::ListsDiffer => self.differ_in_any(),
             Damage::LastRecordDiffers => self.differ_in_last(),
             Damage::NameCountZero => self.set_name_count(|_, _| 0),
@@ -246,6 +254,16 @@ impl Damaging<'_> {
         if used < 4 {
             let field = 1 + used + self.random.below(4 - used);
             let value = self.random.pick(&[1, 0x0100, 0x8000, 0xFFFF]);
+            self.put_field(index, field, value, in_both);
+        }
+    }
+
+    /// A sample of any colour, at a position in use or not: in gray and Lab,
+    /// and where it is not used, it is out of range.
+    fn set_outside(&mut self, in_both: bool) {
+        if let Some(index) = self.any_colour() {
+            let field = 1 + self.random.below(3);
+            let value = self.random.pick(&OUTSIDE);
             self.put_field(index, field, value, in_both);
         }
     }

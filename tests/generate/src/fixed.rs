@@ -169,6 +169,22 @@ const EVERY_SPACE: &[u8] = b"\0\x01\0\x05\
 /// Its list 1 alone.
 const EVERY_SPACE_PLAIN: &[u8] = EVERY_SPACE.split_at(54).0;
 
+/// Gray 10,000 and 0, and Lab at both ends of its three samples.
+const ENDS_OF_SCALES: &[u8] = b"\0\x01\0\x04\
+    \0\x08\x27\x10\0\0\0\0\0\0\
+    \0\x08\0\0\0\0\0\0\0\0\
+    \0\x07\x27\x10\x31\x9C\xCE\0\0\0\
+    \0\x07\0\0\xCE\0\x31\x9C\0\0";
+
+/// Gray is 10,000 in list 1 and 10,001 in list 2, which is compared alone.
+const GRAY_ABOVE_IN_LIST_TWO: &[u8] = &[
+    0x00, 0x01, 0x00, 0x01, //
+    0x00, 0x08, 0x27, 0x10, 0x00, 0x00, 0x00, 0x00, 0x00, 0x00, //
+    0x00, 0x02, 0x00, 0x01, //
+    0x00, 0x08, 0x27, 0x11, 0x00, 0x00, 0x00, 0x00, 0x00, 0x00, //
+    0x00, 0x00, 0x00, 0x01, 0x00, 0x00,
+];
+
 /// What P3 has before the count of its name, which begins at 28.
 const UNNAMED: &[u8] = P3.split_at(28).0;
 
@@ -278,7 +294,7 @@ fn orders() -> Vec<Fixed> {
 
 fn spaces() -> Vec<Fixed> {
     let one = |bytes: &[u8; 10]| [&[0, 1, 0, 1], &bytes[..]].concat();
-    let unused = |title, bytes, place| fixed(title, &one(bytes), refused(5, place));
+    let wrong = |title, bytes, place| fixed(title, &one(bytes), refused(5, place));
     vec![
         fixed("every space", EVERY_SPACE, accepted(5, 2)),
         fixed("every space, one list", EVERY_SPACE_PLAIN, accepted(5, 1)),
@@ -292,12 +308,24 @@ fn spaces() -> Vec<Fixed> {
             &one(b"\x02\0\0\0\0\0\0\0\0\0"),
             refused(4, 4),
         ),
-        unused("fourth sample of RGB", b"\0\0\0\0\0\0\0\0\0\x01", 12),
-        unused("fourth sample of HSB", b"\0\x01\0\0\0\0\0\0\x01\0", 12),
-        unused("fourth sample of Lab", b"\0\x07\0\0\0\0\0\0\xFF\xFF", 12),
-        unused("second sample of gray", b"\0\x08\0\0\0\x01\0\0\0\0", 8),
-        unused("third sample of gray", b"\0\x08\0\0\0\0\0\x01\0\0", 10),
-        unused("fourth sample of gray", b"\0\x08\0\0\0\0\0\0\0\x01", 12),
+        wrong("fourth sample of RGB", b"\0\0\0\0\0\0\0\0\0\x01", 12),
+        wrong("fourth sample of HSB", b"\0\x01\0\0\0\0\0\0\x01\0", 12),
+        wrong("fourth sample of Lab", b"\0\x07\0\0\0\0\0\0\xFF\xFF", 12),
+        wrong("second sample of gray", b"\0\x08\0\0\0\x01\0\0\0\0", 8),
+        wrong("third sample of gray", b"\0\x08\0\0\0\0\0\x01\0\0", 10),
+        wrong("fourth sample of gray", b"\0\x08\0\0\0\0\0\0\0\x01", 12),
+        fixed("ends of the short scales", ENDS_OF_SCALES, accepted(4, 1)),
+        wrong("gray 10001", b"\0\x08\x27\x11\0\0\0\0\0\0", 6),
+        wrong("lightness 10001", b"\0\x07\x27\x11\0\0\0\0\0\0", 6),
+        wrong("a 12701", b"\0\x07\0\0\x31\x9D\0\0\0\0", 8),
+        wrong("a 52735", b"\0\x07\0\0\xCD\xFF\0\0\0\0", 8),
+        wrong("b 12701", b"\0\x07\0\0\0\0\x31\x9D\0\0", 10),
+        wrong("b 52735", b"\0\x07\0\0\0\0\xCD\xFF\0\0", 10),
+        fixed(
+            "gray 10001 in list 2",
+            GRAY_ABOVE_IN_LIST_TWO,
+            differing(20, 0, 1),
+        ),
     ]
 }
 

@@ -2,8 +2,14 @@
 
 use crate::random::Random;
 
+const LAB: u16 = 7;
+const GRAY: u16 = 8;
+
 /// The known spaces, each with the number of samples it uses.
-pub const SPACES: [(u16, usize); 5] = [(0, 3), (1, 3), (2, 4), (7, 3), (8, 1)];
+pub const SPACES: [(u16, usize); 5] = [(0, 3), (1, 3), (2, 4), (LAB, 3), (GRAY, 1)];
+/// Samples that are out of range in gray and as Lab's lightness, and those of
+/// them that are no chrominance either; each is just outside, or far.
+pub(crate) const OUTSIDE: [u16; 6] = [10_001, 12_701, 0x7FFF, 0x8000, 52_735, 0xFFFF];
 
 pub(crate) const HEAD_LEN: usize = 4;
 pub(crate) const COLOUR_LEN: usize = 10;
@@ -12,6 +18,13 @@ const MAX_COLOURS: usize = 4096;
 
 /// Samples at the ends of their range and with a byte of their own at zero.
 const EDGE_SAMPLES: [u16; 6] = [0, 1, 0x00FF, 0x0100, 0x8080, 0xFFFF];
+/// The same of gray and of Lab's lightness.
+const SHORT_EDGES: [u16; 6] = [0, 1, 0x00FF, 0x0100, 9_999, 10_000];
+const SHORT_SCALE: usize = 10_000;
+/// The same of Lab's chrominances: 12,700, -1, -12,799 and -12,800 among them.
+const SIGNED_EDGES: [u16; 6] = [0, 1, 12_700, 0xFFFF, 52_737, 52_736];
+const LOWEST: u16 = 52_736;
+const SIGNED_NUMBERS: usize = 25_501;
 /// Units that look like a closing zero when read a byte off, surrogates that
 /// pair with nothing, and the plainest letter.
 const EDGE_UNITS: [u16; 6] = [0x0041, 0x0100, 0x0001, 0xD800, 0xDFFF, 0xFFFF];
@@ -36,12 +49,8 @@ impl Colour {
 
     fn of_space(random: &mut Random, (space, used): (u16, usize)) -> Self {
         let mut samples = [0; 4];
-        for sample in &mut samples[..used] {
-            *sample = if random.one_in(3) {
-                random.pick(&EDGE_SAMPLES)
-            } else {
-                random.u16()
-            };
+        for (index, sample) in samples[..used].iter_mut().enumerate() {
+            *sample = any_sample(random, space, index);
         }
         Colour { space, samples }
     }
@@ -198,6 +207,18 @@ impl Palette {
         put_head(&mut file, 1, self.colours.len());
         self.colours.iter().for_each(|colour| colour.put(&mut file));
         file
+    }
+}
+
+fn any_sample(random: &mut Random, space: u16, index: usize) -> u16 {
+    let edge = random.one_in(3);
+    match (space, index) {
+        (LAB | GRAY, 0) if edge => random.pick(&SHORT_EDGES),
+        (LAB | GRAY, 0) => random.below(SHORT_SCALE + 1) as u16,
+        (LAB, _) if edge => random.pick(&SIGNED_EDGES),
+        (LAB, _) => LOWEST.wrapping_add(random.below(SIGNED_NUMBERS) as u16),
+        _ if edge => random.pick(&EDGE_SAMPLES),
+        _ => random.u16(),
     }
 }
 

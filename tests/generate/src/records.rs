@@ -1,7 +1,7 @@
 //! Records for a writer, with the text in which their names lie.
 
 use crate::names::{any_name, any_text, empty_anywhere, far_past, just_past, zero_unit};
-use crate::palette::{Colour, SPACES};
+use crate::palette::{Colour, OUTSIDE, SPACES};
 use crate::random::Random;
 
 const ROW_LEN: usize = 7;
@@ -29,6 +29,7 @@ pub enum LotDamage {
     SpaceWrong,
     SampleLarge,
     UnusedSampleSet,
+    SampleOutside,
     NamePastText,
     NameFarPastText,
     TextShort,
@@ -43,10 +44,11 @@ pub enum LotDamage {
 }
 
 impl LotDamage {
-    pub const ALL: [LotDamage; 12] = [
+    pub const ALL: [LotDamage; 13] = [
         LotDamage::SpaceWrong,
         LotDamage::SampleLarge,
         LotDamage::UnusedSampleSet,
+        LotDamage::SampleOutside,
         LotDamage::NamePastText,
         LotDamage::NameFarPastText,
         LotDamage::TextShort,
@@ -140,6 +142,9 @@ impl Lot {
             LotDamage::SpaceWrong => row[0] = random.pick(&WRONG_SPACES),
             LotDamage::SampleLarge => row[1 + random.below(4)] = random.pick(&LARGE_SAMPLES),
             LotDamage::UnusedSampleSet => set_unused(row, random),
+            LotDamage::SampleOutside => {
+                row[1 + random.below(3)] = u32::from(random.pick(&OUTSIDE));
+            }
             LotDamage::NamePastText => just_past(&mut row[NAME..], self.text.len(), random),
             LotDamage::NameFarPastText => far_past(&mut row[NAME..], random),
             LotDamage::ZeroUnit => zero_unit(&mut row[NAME..], &mut self.text, random),

@@ -2,7 +2,7 @@
 
 use crate::{raw, Model, Refusal, Space};
 
-/// The channel of a sample, from 0 to 1: 14 for HSB and Lab.
+/// The channel of a sample, from 0 to 1: 5 for gray above 10,000, 14 for HSB and Lab.
 pub fn to_channel(space: Space, sample: u16) -> Result<f32, Refusal> {
     let channel = raw::to_channel(space.number(), sample);
     Refusal::unless(channel.number, 0)?;

@@ -436,19 +436,22 @@ fn damaged_files_are_refused_or_read() {
 
 #[test]
 fn samples_come_back() {
-    for (space, model) in [
-        (Space::Rgb, Model::Rgb),
-        (Space::Cmyk, Model::Cmyk),
-        (Space::Gray, Model::Gray),
+    for (space, model, full) in [
+        (Space::Rgb, Model::Rgb, u16::MAX),
+        (Space::Cmyk, Model::Cmyk, u16::MAX),
+        (Space::Gray, Model::Gray, 10_000),
     ] {
-        for sample in 0..=u16::MAX {
+        for sample in 0..=full {
             let channel = to_channel(space, sample).unwrap();
             assert_eq!(to_sample(model, channel), Ok(sample));
         }
     }
     assert_eq!(to_sample(Model::Rgb, 0.5), Ok(32768));
     assert_eq!(to_sample(Model::Cmyk, 0.5), Ok(32767));
+    assert_eq!(to_sample(Model::Gray, 0.5), Ok(5000));
     assert_eq!(to_channel(Space::Hsb, 0), Err(refusal(14, 0)));
+    assert_eq!(to_channel(Space::Lab, u16::MAX), Err(refusal(14, 0)));
+    assert_eq!(to_channel(Space::Gray, 10_001), Err(refusal(5, 0)));
     assert_eq!(to_sample(Model::Lab, 2.0), Err(refusal(14, 0)));
     assert_eq!(to_sample(Model::Gray, 2.0), Err(refusal(5, 0)));
 }

@@ -1,6 +1,7 @@
 //! The fixed measures of the layout, and a colour's five fields.
 
 use crate::refusal::number;
+use std::ops::RangeInclusive;
 
 /// A list begins with its version and its count, 16 bits each.
 pub const HEAD_LEN: usize = 4;
@@ -21,13 +22,22 @@ pub const CMYK: u16 = 2;
 pub const LAB: u16 = 7;
 pub const GRAY: u16 = 8;
 
-/// How many samples a space uses, the first ones; no answer for an unknown space.
-pub const fn used_samples(space: u16) -> Option<usize> {
-    match space {
-        RGB | HSB | LAB => Some(3),
-        CMYK => Some(4),
-        GRAY => Some(1),
-        _ => None,
+pub const fn is_known(space: u16) -> bool {
+    matches!(space, RGB | HSB | CMYK | LAB | GRAY)
+}
+
+/// The largest sample of gray, and of Lab's lightness.
+pub const SHORT_SCALE: u16 = 10_000;
+/// Lab's two chrominances have a sign; a file has their 16 bits.
+const CHROMINANCES: RangeInclusive<i16> = -12_800..=12_700;
+
+/// Whether a sample of a known space may have this value, by its position from 0.
+pub fn is_in_range(space: u16, index: usize, sample: u16) -> bool {
+    match (space, index) {
+        (GRAY | LAB, 0) => sample <= SHORT_SCALE,
+        (LAB, 1 | 2) => CHROMINANCES.contains(&(sample as i16)),
+        (RGB | HSB, 0..=2) | (CMYK, 0..=3) => true,
+        _ => sample == 0,
     }
 }
 
@@ -51,14 +61,14 @@ pub fn judge_colour(bytes: &[u8]) -> Result<(), ColourFault> {
     let Some(space) = field_at(bytes, 0) else {
         return fault(number::CUT, 0);
     };
-    let Some(used) = used_samples(space) else {
+    if !is_known(space) {
         return fault(number::UNKNOWN_SPACE, 0);
-    };
+    }
     for index in 0..SAMPLES {
         let offset = (1 + index) * FIELD_LEN;
         match field_at(bytes, offset) {
             None => return fault(number::CUT, offset),
-            Some(sample) if index >= used && sample != 0 => {
+            Some(sample) if !is_in_range(space, index, sample) => {
                 return fault(number::OUT_OF_RANGE, offset)
             }
             Some(_) => {}
@@ -70,31 +80,45 @@ pub fn judge_colour(bytes: &[u8]) -> Result<(), ColourFault> {
 /// The spaces below this number are looked up; all from there on are unknown.
 const LOOKED_UP: usize = 16;
 
+/// For each sample what is added to it, round 16 bits, and the most that it may
+/// then be.
 #[derive(Clone, Copy)]
 struct Space {
+    added: [u16; SAMPLES],
+    most: [u16; SAMPLES],
     known: bool,
-    /// The bits, of all four samples together, that have to be 0.
-    unused: u64,
+}
+
+impl Space {
+    const UNKNOWN: Space = Space {
+        added: [0; SAMPLES],
+        most: [0; SAMPLES],
+        known: false,
+    };
+
+    const fn of(added: [u16; SAMPLES], most: [u16; SAMPLES]) -> Space {
+        Space {
+            added,
+            most,
+            known: true,
+        }
+    }
 }
 
 const SPACES: [Space; LOOKED_UP] = looked_up();
 
 const fn looked_up() -> [Space; LOOKED_UP] {
-    let mut spaces = [Space {
-        known: false,
-        unused: 0,
-    }; LOOKED_UP];
-    let mut space = 0;
-    while space < LOOKED_UP {
-        if let Some(used) = used_samples(space as u16) {
-            let unused = (SAMPLES - used) as u32 * u16::BITS;
-            spaces[space] = Space {
-                known: true,
-                unused: (1 << unused) - 1,
-            };
-        }
-        space += 1;
-    }
+    const ALL: u16 = u16::MAX;
+    const FULL: u16 = SHORT_SCALE;
+    // With 12,800 added, chrominances count from 0.
+    const LOW: u16 = 12_800;
+    const HIGH: u16 = 12_700 + LOW;
+    let mut spaces = [Space::UNKNOWN; LOOKED_UP];
+    spaces[RGB as usize] = Space::of([0; SAMPLES], [ALL, ALL, ALL, 0]);
+    spaces[HSB as usize] = Space::of([0; SAMPLES], [ALL, ALL, ALL, 0]);
+    spaces[CMYK as usize] = Space::of([0; SAMPLES], [ALL; SAMPLES]);
+    spaces[LAB as usize] = Space::of([0, LOW, LOW, 0], [FULL, HIGH, HIGH, 0]);
+    spaces[GRAY as usize] = Space::of([0; SAMPLES], [FULL, 0, 0, 0]);
     spaces
 }
 
@@ -102,8 +126,18 @@ const fn looked_up() -> [Space; LOOKED_UP] {
 /// branch that depends on the space.
 #[inline(always)]
 pub fn is_sound(colour: &[u8; COLOUR_LEN]) -> bool {
-    let [high, low, samples @ ..] = *colour;
-    let space = usize::from(u16::from_be_bytes([high, low]));
-    let looked_up = SPACES[space.min(LOOKED_UP - 1)];
-    looked_up.known & (u64::from_be_bytes(samples) & looked_up.unused == 0)
+    let [space, samples @ ..] = fields(colour);
+    let space = usize::from(space);
+    let looked_up = &SPACES[space.min(LOOKED_UP - 1)];
+    let mut sound = looked_up.known;
+    for (index, sample) in samples.into_iter().enumerate() {
+        sound &= sample.wrapping_add(looked_up.added[index]) <= looked_up.most[index];
+    }
+    sound
+}
+
+#[inline(always)]
+fn fields(colour: &[u8; COLOUR_LEN]) -> [u16; FIELDS] {
+    let (fields, _) = colour.as_chunks::<FIELD_LEN>();
+    [0, 1, 2, 3, 4].map(|index| u16::from_be_bytes(fields[index]))
 }

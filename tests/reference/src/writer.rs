@@ -1,7 +1,7 @@
 //! Writing records as a file of two lists.
 
 use crate::colour::{
-    used_samples, COLOUR_LEN, FIELD_LEN, HEAD_LEN, MAX_COLOURS, NAME_COUNT_LEN, SAMPLES,
+    is_in_range, is_known, COLOUR_LEN, FIELD_LEN, HEAD_LEN, MAX_COLOURS, NAME_COUNT_LEN, SAMPLES,
     VERSION_ONE, VERSION_TWO,
 };
 use crate::name::{bytes_of, holds_zero_unit, units_in, UNIT_LEN};
@@ -63,10 +63,12 @@ fn output_len(rows: &[Row]) -> Option<usize> {
 fn judge_colour(row: &Row) -> Result<(), u32> {
     let [space, samples @ .., _, _] = row;
     let space = u16::try_from(*space).map_err(|_| number::UNKNOWN_SPACE)?;
-    let used = used_samples(space).ok_or(number::UNKNOWN_SPACE)?;
+    if !is_known(space) {
+        return Err(number::UNKNOWN_SPACE);
+    }
     for (index, &sample) in samples.iter().enumerate() {
-        let highest = if index < used { u32::from(u16::MAX) } else { 0 };
-        if sample > highest {
+        let sample = u16::try_from(sample).map_err(|_| number::OUT_OF_RANGE)?;
+        if !is_in_range(space, index, sample) {
             return Err(number::OUT_OF_RANGE);
         }
     }

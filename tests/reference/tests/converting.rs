@@ -4,6 +4,7 @@ use generate::{CMYK_TAG, GRAY_TAG, LAB_TAG, ONE, PAIRS, RGB_TAG, TAGS};
 use reference::{to_channel, to_sample};
 
 const FULL: u32 = 65_535;
+const GRAY_FULL: u32 = 10_000;
 const HALF: u32 = 0x3F00_0000;
 const MINUS_ZERO: u32 = 0x8000_0000;
 const INFINITIES: [u32; 2] = [0x7F80_0000, 0xFF80_0000];
@@ -20,7 +21,9 @@ const NANS: [u32; 6] = [
 #[test]
 fn halves_go_up_before_cmyk_is_taken_away() {
     assert_eq!(to_sample(RGB_TAG, HALF), Ok(32_768));
-    assert_eq!(to_sample(GRAY_TAG, HALF), Ok(32_768));
+    assert_eq!(to_sample(GRAY_TAG, HALF), Ok(5_000));
+    // 2^-5 is 312.5 of 10,000.
+    assert_eq!(to_sample(GRAY_TAG, 0x3D00_0000), Ok(313));
     assert_eq!(to_sample(CMYK_TAG, HALF), Ok(32_767));
 }
 
@@ -33,7 +36,7 @@ fn minus_zero_is_zero() {
 
 #[test]
 fn the_ends_of_the_samples_are_zero_and_one() {
-    for (space, none, full) in [(0, 0, 65_535), (8, 0, 65_535), (2, 65_535, 0)] {
+    for (space, none, full) in [(0, 0, 65_535), (8, 0, 10_000), (2, 65_535, 0)] {
         assert_eq!(to_channel(space, none).map(f32::to_bits), Ok(0));
         assert_eq!(to_channel(space, full).map(f32::to_bits), Ok(ONE));
     }
@@ -41,7 +44,7 @@ fn the_ends_of_the_samples_are_zero_and_one() {
 
 #[test]
 fn the_ends_of_the_range_go_by_bits() {
-    for (_, tag) in PAIRS {
+    for (_, tag, _) in PAIRS {
         for bits in [0, 1, 0x007F_FFFF, 0x0080_0000, ONE - 1, ONE, MINUS_ZERO] {
             assert!(to_sample(tag, bits).is_ok(), "{bits:08X}");
         }
@@ -91,9 +94,20 @@ fn each_space_has_its_answer() {
 }
 
 #[test]
+fn gray_above_its_scale_is_out_of_range_and_lab_has_no_counterpart() {
+    for sample in 10_001..=u16::MAX {
+        assert_eq!(to_channel(8, sample), Err(5), "sample {sample}");
+    }
+    for sample in 0..=u16::MAX {
+        assert_eq!(to_channel(7, sample), Err(14), "sample {sample}");
+        assert_eq!(to_channel(1, sample), Err(14), "sample {sample}");
+    }
+}
+
+#[test]
 fn every_sample_comes_back() {
-    for (space, tag) in PAIRS {
-        for sample in 0..=u16::MAX {
+    for (space, tag, full) in PAIRS {
+        for sample in 0..=full {
             let channel = to_channel(space, sample).unwrap();
             assert_eq!(to_sample(tag, channel.to_bits()), Ok(sample));
         }
@@ -123,13 +137,13 @@ fn every_channel_is_the_nearest_float() {
     }
 }
 
-/// Twice 65,535 times the channel is from twice the sample less 1 up to, and
-/// without, twice the sample and 1. Over whole numbers.
-fn is_nearest(bits: u32, sample: u16) -> bool {
+/// Twice the full scale times the channel is from twice the sample less 1 up
+/// to, and without, twice the sample and 1. Over whole numbers.
+fn is_nearest(bits: u32, full: u32, sample: u16) -> bool {
     let (over, exponent) = fraction(bits);
-    let doubled = over * 2 * u128::from(FULL);
+    let doubled = over * 2 * u128::from(full);
     if exponent > 64 {
-        // Twice 65,535 times the channel is below 1, for `doubled` is below 2^41.
+        // Twice the scale times the channel is below 1, for `doubled` is below 2^41.
         return sample == 0;
     }
     let sample = u128::from(sample);
@@ -138,16 +152,19 @@ fn is_nearest(bits: u32, sample: u16) -> bool {
 
 fn check_nearest(bits: u32) {
     let sample = to_sample(RGB_TAG, bits).unwrap();
-    assert!(is_nearest(bits, sample), "{bits:08X} gives {sample}");
-    assert_eq!(to_sample(GRAY_TAG, bits), Ok(sample));
+    assert!(is_nearest(bits, FULL, sample), "{bits:08X} gives {sample}");
     assert_eq!(to_sample(CMYK_TAG, bits), Ok(65_535 - sample));
+    let gray = to_sample(GRAY_TAG, bits).unwrap();
+    assert!(is_nearest(bits, GRAY_FULL, gray), "{bits:08X} gives {gray}");
 }
 
 #[test]
 fn about_every_half_the_sample_is_the_nearest() {
-    for sample in 0..FULL {
-        let half = (f64::from(2 * sample + 1) / f64::from(2 * FULL)) as f32;
-        (half.to_bits() - 3..=half.to_bits() + 3).for_each(check_nearest);
+    for full in [FULL, GRAY_FULL] {
+        for sample in 0..full {
+            let half = (f64::from(2 * sample + 1) / f64::from(2 * full)) as f32;
+            (half.to_bits() - 3..=half.to_bits() + 3).for_each(check_nearest);
+        }
     }
 }
 

@@ -99,6 +99,35 @@ fn unused_samples_are_judged_by_space() {
 }
 
 #[test]
+fn gray_and_lab_have_scales_of_their_own() {
+    let short = |sample: u16| sample <= 10_000;
+    let signed = |sample: u16| sample <= 12_700 || sample >= 52_736;
+    let ranges: [(u16, usize, &dyn Fn(u16) -> bool); 4] = [
+        (8, 0, &short),
+        (7, 0, &short),
+        (7, 1, &signed),
+        (7, 2, &signed),
+    ];
+    for (space, index, is_in_range) in ranges {
+        for sample in 0..=u16::MAX {
+            let mut file = [0, 1, 0, 1, 0, 0, 0, 0, 0, 0, 0, 0, 0, 0];
+            file[4..6].copy_from_slice(&space.to_be_bytes());
+            let place = 6 + 2 * index;
+            file[place..place + 2].copy_from_slice(&sample.to_be_bytes());
+            let accepted = Accepted {
+                colours: 1,
+                lists: 1,
+            };
+            let expected = match is_in_range(sample) {
+                true => Ok(accepted),
+                false => Err(refused(5, place)),
+            };
+            assert_eq!(judge(&file), expected, "space {space}, sample {sample}");
+        }
+    }
+}
+
+#[test]
 fn names_badly_closed_are_placed_at_the_count() {
     let with_name = |name: &[u8]| [&P3[..28], name].concat();
     for name in [
