@@ -2,11 +2,11 @@
 use Rattle.algebra.proofs.Counted.{counted-end, counted-start, counted-turn, length-counted, faults-clear}
 use Rattle.algebra.specs.Numbers.{counted}
 use Prim.Native.Nat.{ℕ, zero, suc, _+_, _*_, _-_, _≤_, _<_}
-use mathlib.Core.Path.{_≡_, sym, ap, subst}
+use mathlib.Core.Path.{_≡_, refl, sym, ap, subst}
 use mathlib.Core.List.{List, [], _∷_}
-use mathlib.Core.Bool.{Bool, true}
+use mathlib.Core.Bool.{Bool, true, false}
 use lib.ListN.{length}
-use borrow.Author.Tests.{eq-eqb, ne-eqb, le-leb, lt-leb}
+use borrow.Author.Tests.{eq-eqb, ne-eqb}
 use native.Mathlib.Omega.{arith}
 use native.Mathlib.Nat.{lt-of-not-le}
 use native.Mathlib.Decide.{ℕ-discrete, decLe}
@@ -16,24 +16,22 @@ use Rattle.algebra.specs.Faults.{firstOf, faults, faultsFrom}
 use Rattle.algebra.proofs.Tells.{first-zero}
 use Rattle.algebra.proofs.Texts.{text-short}
 use Rattle.colour.specs.Spaces.{uses, known, allowed, sound}
-use Rattle.colour.proofs.Laws.{sound-inv}
+use Rattle.colour.proofs.Laws.{allowed-small, sound-inv}
 use Rattle.algebra.specs.Table.{rowAt, rows}
+use Rattle.aco.specs.Faults.{spaceFault, sampleFault, fieldsFault}
 use Rattle.aco.specs.Row.{Given, width, taken}
-use Rattle.aco_records.specs.Writing.{sizes, spaceFault, sampleFault, nameFault}
+use Rattle.aco_records.specs.Writing.{sizes, nameFault}
 use Rattle.aco_records.specs.Parts.{start, EntryFits, EntriesFit}
 use Rattle.algebra.proofs.Firsts.{name-number}
-
--- ---- the first of two faults
 
 -- ---- a colour
 
 pub space-is : (x : ℕ) (b : Bool) → b ≡ known x → spaceFault x ≡ pick b 0 4
-unfolding spaceFault
 space-is x b e = ap (λ (t : Bool). pick t 0 4) (sym e)
 
 -- no large number is a space
 pub space-large : (x : ℕ) → 65535 < x → spaceFault x ≡ 4
-unfolding spaceFault known uses
+unfolding known uses
 space-large x h = simp (ne-eqb x 0 (omega arith), ne-eqb x 1 (omega arith), ne-eqb x 2 (omega arith), ne-eqb x 7 (omega arith), ne-eqb x 8 (omega arith))
 
 pub space-small : (x z : ℕ) → z ≡ spaceFault x → z ≡ 0 → x ≤ 65535
@@ -42,30 +40,26 @@ space-small x z e h = elim (decLe x 65535) [
   | no k ↦ absurd (omega (arith, space-large x (lt-of-not-le k)))
 ]
 
+pub sample-is : (x k v : ℕ) (b : Bool) → b ≡ allowed x k v → sampleFault x k v ≡ pick b 0 5
+sample-is x k v b e = ap (λ (t : Bool). pick t 0 5) (sym e)
+
+-- no large number is a sample
 pub sample-large : (x k v : ℕ) → 65535 < v → sampleFault x k v ≡ 5
-unfolding sampleFault
-sample-large x k v h = simp (lt-leb _ _ h)
+sample-large x k v h = go (allowed x k v) refl
+  where
+    go : (b : Bool) → allowed x k v ≡ b → _≡_ {A = ℕ} (pick b 0 5) 5
+    go true e = absurd (omega (arith, allowed-small x k v e))
+    go false e = refl
 
-pub sample-is : (x k v : ℕ) (b : Bool) → v ≤ 65535 → b ≡ allowed x k v → sampleFault x k v ≡ pick b 0 5
-unfolding sampleFault
-sample-is x k v b h e = simp (le-leb _ _ h) (ap (λ (t : Bool). pick t 0 5) (sym e))
-
--- a sound colour whose numbers fit their fields
-sample-none : (x k v : ℕ) → v ≤ 65535 → allowed x k v ≡ true → sampleFault x k v ≡ 0
-sample-none x k v h e = sample-is x k v true h (sym e)
-
-pub colour-none : (x a b c d : ℕ) → a ≤ 65535 → b ≤ 65535 → c ≤ 65535 → d ≤ 65535 → sound x (a ∷ b ∷ c ∷ d ∷ []) ≡ true
-    → firstOf (spaceFault x) (faultsFrom (sampleFault x) 0 (a ∷ b ∷ c ∷ d ∷ [])) ≡ 0
-unfolding faultsFrom
-colour-none x a b c d ha hb hc hd e =
-    let g = sound-inv x a b c d e in
-    rw (space-is x true (sym (g .is-known)), sample-none x 0 a ha (g .first), sample-none x 1 b hb (g .second), sample-none x 2 c hc (g .third), sample-none x 3 d hd (g .fourth))
+-- a sound colour
+pub colour-none : (x a b c d : ℕ) → sound x (a ∷ b ∷ c ∷ d ∷ []) ≡ true → fieldsFault x (a ∷ b ∷ c ∷ d ∷ []) ≡ 0
+unfolding fieldsFault faultsFrom
+colour-none x a b c d e = let g = sound-inv x a b c d e in rw (g .is-known, g .first, g .second, g .third, g .fourth)
 
 -- a colour's faults in order
 pub colour-faults : (x a b c d : ℕ)
-    → firstOf (spaceFault x) (firstOf (sampleFault x 0 a) (firstOf (sampleFault x 1 b) (firstOf (sampleFault x 2 c) (sampleFault x 3 d))))
-    ≡ firstOf (spaceFault x) (faultsFrom (sampleFault x) 0 (a ∷ b ∷ c ∷ d ∷ []))
-unfolding faultsFrom
+    → firstOf (spaceFault x) (firstOf (sampleFault x 0 a) (firstOf (sampleFault x 1 b) (firstOf (sampleFault x 2 c) (sampleFault x 3 d)))) ≡ fieldsFault x (a ∷ b ∷ c ∷ d ∷ [])
+unfolding fieldsFault faultsFrom
 colour-faults x a b c d = ap (λ (k : ℕ). firstOf (spaceFault x) (firstOf (sampleFault x 0 a) (firstOf (sampleFault x 1 b) (firstOf (sampleFault x 2 c) k)))) (sym (first-zero (sampleFault x 3 d)))
 
 -- ---- a name

@@ -13,14 +13,15 @@ use Rattle.colour.specs.Spaces.{known, allowed}
 use Rattle.aco.specs.Grammar.{twoLists}
 use Rattle.aco.specs.Reading.{most}
 use Rattle.aco_records.specs.Refusals.{refusals}
+use Rattle.aco.specs.Faults.{spaceFault, sampleFault, fieldsFault}
 use Rattle.aco.specs.Row.{Given}
-use Rattle.aco_records.specs.Writing.{swatchIn, size, spaceFault, sampleFault, colourFault, nameFault, fault, needed, written}
+use Rattle.aco_records.specs.Writing.{swatchIn, size, colourFault, nameFault, fault, needed, written}
 
 colour-numbered : (g : Given) → Fault refusals (colourFault g)
-unfolding spaceFault sampleFault
+unfolding fieldsFault
 colour-numbered g =
     first-fault (spaceFault (g .space)) _ (pick-fault (known (g .space)) no-fault (among refl))
-    (from-fault (sampleFault (g .space)) (λ k v. pick-fault (leb v 65535) (pick-fault (allowed (g .space) k v) no-fault (among refl)) (among refl)) 0 (g .samples))
+    (from-fault (sampleFault (g .space)) (λ k v. pick-fault (allowed (g .space) k v) no-fault (among refl)) 0 (g .samples))
 
 fault-numbered : (text : List ℕ) (gs : List Given) → Fault refusals (fault text gs)
 unfolding fault

@@ -7,9 +7,9 @@ use Rattle.algebra.specs.Numbers.{nums}
 use Rattle.algebra.specs.Reader.{pick, numberOf, limit}
 use Rattle.algebra.specs.Text.{text}
 use Rattle.algebra.specs.Writing.{Outcome, needs, writes}
-use Rattle.algebra.specs.Faults.{firstOf, faults, faultsFrom}
-use Rattle.colour.specs.Spaces.{known, allowed}
+use Rattle.algebra.specs.Faults.{firstOf, faults}
 use Rattle.aco.specs.Grammar.{Swatch, twoLists}
+use Rattle.aco.specs.Faults.{fieldsFault}
 use Rattle.aco.specs.Reading.{most}
 use Rattle.aco.specs.Row.{Given}
 
@@ -30,16 +30,9 @@ size gs = 8 + sizes gs
 
 -- ---- which fault comes first: a number of the refusal table, 0 where there is none
 
--- a space that its field cannot hold is unknown too
-unfoldable pub spaceFault : ℕ → ℕ
-spaceFault x = pick (known x) 0 4
-
--- sample k of a colour of the space x
-unfoldable pub sampleFault : ℕ → ℕ → ℕ → ℕ
-sampleFault x k v = pick (leb v 65535) (pick (allowed x k v) 0 5) 5
-
+-- a colour's fields in their order: a number that its field cannot hold is no space and no sample
 abbrev pub colourFault : Given → ℕ
-colourFault g = firstOf (spaceFault (g .space)) (faultsFrom (sampleFault (g .space)) 0 (g .samples))
+colourFault g = fieldsFault (g .space) (g .samples)
 
 -- a name that runs past the lent bytes is 2, one with a zero unit 8
 abbrev pub nameFault : List ℕ → Given → ℕ

@@ -17,16 +17,15 @@ use Rattle.algebra.proofs.Places.{length-nums, nums-lt}
 use Rattle.algebra.proofs.Exact.{all-map, all-both, length-map}
 use Rattle.algebra.proofs.Tells.{first-inv, faults-inv, faults-map, faults-from}
 use Rattle.algebra.proofs.Texts.{text-zero, text-fine}
-use Rattle.colour.specs.Spaces.{known, allowed}
 use Rattle.aco.specs.Grammar.{Swatch, entryBytes, listOne, listTwo, twoLists}
 use Rattle.aco.specs.Reading.{most}
-use Rattle.aco.specs.Faults.{fieldsFault, paletteFault, Fits}
+use Rattle.aco.specs.Faults.{spaceFault, sampleFault, fieldsFault, paletteFault, Fits}
 use Rattle.aco.specs.Faults as a
 use Rattle.aco.proofs.Whole.{length-one, length-two}
 use Rattle.algebra.specs.Table.{rows}
 use Rattle.aco.specs.Row.{Given, width, taken}
-use Rattle.aco_records.specs.Writing.{swatchIn, sizes, size, spaceFault, sampleFault, colourFault, nameFault, fault}
-use Rattle.aco_records.proofs.Judging.{space-is, space-small, sample-large, sample-is, name-inside}
+use Rattle.aco_records.specs.Writing.{swatchIn, sizes, size, colourFault, nameFault, fault}
+use Rattle.aco_records.proofs.Judging.{space-small, sample-large, name-inside}
 use Rattle.aco_write.proofs.Puts.{length-entry}
 use Rattle.aco_roundtrip.specs.Tie.{made, Fitting}
 use Rattle.algebra.proofs.Firsts.{all-image, test-holds, name-number}
@@ -34,13 +33,10 @@ use Rattle.algebra.proofs.Firsts.{all-image, test-holds, name-number}
 -- ---- values of a list
 
 -- values that have the same faults have the same first fault
-faults-from-same : {A : Type 0} (f g : ℕ → A → ℕ) (i : ℕ) (l : List A) → All (λ k a. f k a ≡ g k a) i l → faultsFrom f i l ≡ faultsFrom g i l
-unfolding faultsFrom
-faults-from-same f g i [] h = refl
-faults-from-same f g i (a ∷ l) h = ap₂ (λ (x y : ℕ). firstOf x y) (h .0) (faults-from-same f g (i + 1) l (h .1))
-
-faults-same : {A : Type 0} (f g : A → ℕ) (l : List A) → All (λ k a. f a ≡ g a) 0 l → faults f l ≡ faults g l
-faults-same f g l h = sym (faults-from f 0 l) ∙ faults-from-same (λ k. f) (λ k. g) 0 l h ∙ faults-from g 0 l
+faults-same : {A : Type 0} (f g : A → ℕ) (i : ℕ) (l : List A) → All (λ k a. f a ≡ g a) i l → faults f l ≡ faults g l
+unfolding faults
+faults-same f g i [] h = refl
+faults-same f g i (a ∷ l) h = ap₂ (λ (x y : ℕ). firstOf x y) (h .0) (faults-same f g (i + 1) l (h .1))
 
 -- ---- how long the file is
 
@@ -61,14 +57,6 @@ module _ (names : List ℕ) where
   -- ---- a record that fits has the faults of its swatch
 
   module _ (g : Given) (f : Fitting names g) where
-    colour-same : colourFault g ≡ a.colourFault (swatchIn names g)
-    unfolding fieldsFault
-    colour-same =
-        let x : ℕ = g .space in
-        ap₂ (λ (m n : ℕ). firstOf m n) (space-is x (known x) refl)
-        (faults-from-same (sampleFault x) (a.sampleFault x) 0 (g .samples)
-        (all-map (λ k v. v < 65536) (λ k v. sampleFault x k v ≡ a.sampleFault x k v) (λ k v h. sample-is x k v (allowed x k v) (omega arith) refl) 0 (g .samples) (f .each-small)))
-
     room : g .units * 2 ≤ length names - g .first
     room = elim (ℕ-discrete (g .units) 0) [
       | yes z ↦ omega arith
@@ -104,11 +92,9 @@ module _ (names : List ℕ) where
     unfolding fault paletteFault
     fault-same =
         let ws : List Swatch = map (swatchIn names) gs in
-        let cs : faults colourFault gs ≡ faults a.colourFault ws =
-        faults-same colourFault (λ g. a.colourFault (swatchIn names g)) gs (all-map (λ k g. Fitting names g) (λ k g. colourFault g ≡ a.colourFault (swatchIn names g)) (λ k g f. colour-same g f) 0 gs fit)
-        ∙ sym (faults-map a.colourFault (swatchIn names) gs) in
+        let cs : faults colourFault gs ≡ faults a.colourFault ws = sym (faults-map a.colourFault (swatchIn names) gs) in
         let ns : faults (nameFault names) gs ≡ faults a.nameFault ws =
-        faults-same (nameFault names) (λ g. a.nameFault (swatchIn names g)) gs (all-map (λ k g. Fitting names g) (λ k g. nameFault names g ≡ a.nameFault (swatchIn names g)) (λ k g f. name-same g f) 0 gs fit)
+        faults-same (nameFault names) (λ g. a.nameFault (swatchIn names g)) 0 gs (all-map (λ k g. Fitting names g) (λ k g. nameFault names g ≡ a.nameFault (swatchIn names g)) (λ k g f. name-same g f) 0 gs fit)
         ∙ sym (faults-map a.nameFault (swatchIn names) gs) in
         ap₂ (λ (m n : ℕ). pick (leb m limit) n 1) (sym (length-made gs all-four))
         (ap₂ (λ (m n : ℕ). firstOf (pick (leb m 4096) 0 5) n) (sym (length-map (swatchIn names) gs)) (ap₂ (λ (m n : ℕ). firstOf m n) cs ns))
@@ -122,6 +108,7 @@ module _ (names : List ℕ) where
   ]
 
   faultless-fits : (g : Given) → length (g .samples) ≡ 4 → 2 * g .units ≤ limit → colourFault g ≡ 0 → nameFault names g ≡ 0 → Fitting names g
+  unfolding fieldsFault
   faultless-fits g four short cf nf =
       let x : ℕ = g .space in
       let i = first-inv (spaceFault x) (faultsFrom (sampleFault x) 0 (g .samples)) cf in record {

@@ -39,9 +39,7 @@ is-sound-requires : tie.Need-is-sound-requires
 is-sound-requires c κs = search needs
 
 returns-6 : tie.Need-returns-6
-returns-6 c =
-    let t = c .before .before .before .before .before .before in
-    λ e. colour-none (t .before .before .before .before .before .before .before .before .before .before .args .given .space) _ _ _ _ (t .before .before .before .before .before .before .if2 .left) (t .before .before .before .before .if3 .left) (t .before .before .if4 .left) (t .if5 .left) (sym (c .is-sound .ensures) ∙ e)
+returns-6 c = λ e. colour-none (c .before .before .before .before .before .before .before .before .before .before .before .before .before .before .before .before .args .given .space) _ _ _ _ (sym (c .is-sound .ensures) ∙ e)
 
 pub is-sound-spec : {M : Type 1} → statement M
 is-sound-spec =

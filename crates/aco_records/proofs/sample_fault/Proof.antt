@@ -18,10 +18,10 @@ is-allowed-requires : tie.Need-is-allowed-requires
 is-allowed-requires c κs = search needs
 
 returns-2 : tie.Need-returns-2
-returns-2 c = sym (sample-is _ _ _ _ (c .before .before .if1 .left) (sym (c .if2 .taken) ∙ c .before .is-allowed .ensures))
+returns-2 c = sym (sample-is _ _ _ _ (sym (c .if2 .taken) ∙ c .before .is-allowed .ensures))
 
 returns-3 : tie.Need-returns-3
-returns-3 c = sym (sample-is _ _ _ _ (c .before .before .if1 .left) (sym (c .if2 .left) ∙ c .before .is-allowed .ensures))
+returns-3 c = sym (sample-is _ _ _ _ (sym (c .if2 .left) ∙ c .before .is-allowed .ensures))
 
 pub sample-fault-spec : {M : Type 1} → statement M
 sample-fault-spec =
