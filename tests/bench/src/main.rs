@@ -8,6 +8,7 @@ mod conversion;
 mod descriptor;
 mod plain;
 mod report;
+mod resource;
 mod size;
 mod stack;
 mod timing;
@@ -29,6 +30,7 @@ enum Part {
     Ase,
     Acb,
     Descriptors,
+    Resources,
     Conversions,
 }
 
@@ -39,6 +41,7 @@ fn main() -> ExitCode {
         Some("ase") => (Some(Part::Ase), &args[1..]),
         Some("acb") => (Some(Part::Acb), &args[1..]),
         Some("descriptor") => (Some(Part::Descriptors), &args[1..]),
+        Some("resource") => (Some(Part::Resources), &args[1..]),
         Some("stack-of") => return stack::try_one(&args[1..]),
         Some("convert") => (Some(Part::Conversions), &args[1..]),
         _ => (None, &args[..]),
@@ -47,7 +50,7 @@ fn main() -> ExitCode {
         None => DEFAULT_ROUNDS,
         Some(Ok(rounds)) if rounds > 0 => rounds,
         Some(_) => {
-            eprintln!("usage: bench [aco|ase|acb|descriptor|convert] [ROUNDS]");
+            eprintln!("usage: bench [aco|ase|acb|descriptor|resource|convert] [ROUNDS]");
             return ExitCode::FAILURE;
         }
     };
@@ -70,6 +73,9 @@ fn main() -> ExitCode {
             eprintln!("the stack was not measured: {error}");
             return ExitCode::FAILURE;
         }
+    }
+    if wanted(Part::Resources) {
+        resource::compare(&mut report, rounds);
     }
     if wanted(Part::Conversions) {
         conversion::compare(&mut report, rounds);

@@ -12,6 +12,7 @@ mod listing;
 mod program;
 mod reading;
 mod real;
+mod resource;
 mod tally;
 mod walk;
 mod writing;
@@ -26,6 +27,7 @@ const USAGE: &str = "usage: compare [SEED [FILES]]
        compare walk [SEED [FILES]]
        compare acb [SEED [FILES]]
        compare descriptor [SEED [FILES]]
+       compare resource [SEED [SECTIONS]]
        compare convert [SEED [PATTERNS]]
        compare list [PROGRAM [FILES [SEED]]]
        compare list-ase [PROGRAM [FILES [SEED]]]
@@ -52,6 +54,12 @@ fn main() -> ExitCode {
             rest,
             descriptor::campaign::run,
             descriptor::Tally::all_reached,
+        ),
+        Some("resource") => compare_library(
+            "resources",
+            rest,
+            resource::campaign::run,
+            resource::Tally::all_reached,
         ),
         Some("convert") => compare_conversions(rest),
         Some("list") => compare_listings(rest, "aco_list", listing::run),

@@ -1,5 +1,5 @@
-//! The proved library's calls, through its C interface. Those for ACB, ASE and
-//! descriptors are in their own modules.
+//! The proved library's calls, through its C interface. Those for ACB, ASE,
+//! descriptors and resources are in their own modules.
 //!
 //! This crate has the only declarations of the C functions in Rust, and all
 //! `unsafe` code over them. What makes it sound:

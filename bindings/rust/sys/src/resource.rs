@@ -120,7 +120,7 @@ pub fn write(records: &[u32], text: &[u8], out: &mut [u8]) -> Written {
     }
 }
 
-pub fn document(document: &[u8]) -> Section {
+pub fn section_of(document: &[u8]) -> Section {
     // SAFETY: see above.
     unsafe { khuyurek_document_resources(document.as_ptr(), document.len()) }
 }
