@@ -28,10 +28,6 @@ taken-back g e = ap (λ (bs : List ℕ). record { block = g .block; first = g .f
 pub row-back : (g : Given) → length (g .channels) ≡ 4 → getD (whole width taken (numbers g)) 0 noRecord ≡ g
 row-back g e = whole-in width taken (numbers g) noRecord 0 (omega arith) ∙ taken-back g e
 
--- with the place of its name by another term
-pub placed : (g : Given) {p : ℕ} → p ≡ g .first → record { block = g .block; first = p; units = g .units; model = g .model; channels = g .channels; type = g .type } ≡ g
-placed g e = ap (λ (p : ℕ). record { block = g .block; first = p; units = g .units; model = g .model; channels = g .channels; type = g .type }) e
-
 -- as a record that was read is
 pub given-back : (e : Entry) → taken (numbers (givenOf e)) ≡ givenOf e
 given-back (started nm) = refl

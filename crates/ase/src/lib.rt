@@ -19,7 +19,7 @@ pub const SIGNATURE: u32 = 0x4153_4546;
 // the tag of its model, the bits of its channels, and its type.
 pub struct Numbers {
     pub block: u32,
-    pub first: usize,
+    pub first: u32,
     pub units: u32,
     pub model: u32,
     pub a: u32,

@@ -2,7 +2,6 @@
 use Prim.Native.Nat.{ℕ, zero, suc, _+_, _*_, _-_, _≤_, _<_}
 use mathlib.Core.Path.{_≡_, refl, sym, ap, ap₂, _∙_, subst}
 use mathlib.Core.List.{List, [], _∷_}
-use mathlib.Core.Bool.{Bool, true, false}
 use lib.ListN.{length, getD, take}
 use lib.Seq.{length-take-le}
 use lib.Dec.{leb, eqb}
@@ -16,7 +15,7 @@ use Rattle.algebra.proofs.Chain.{chain-inv, chain-length}
 use Rattle.ase.proofs.Whole.{heading-inv}
 use Rattle.ase.specs.Reading.{Entry, stopped, block, standingAfter, heading, blocks, palette, ase}
 use Rattle.ase.specs.Row.{givenOf}
-use Rattle.ase_read.specs.Raw.{load, countAt, firstAt, modelAt, loaded, nextBlock, blockPlace, entriesOf, Accepted}
+use Rattle.ase_read.specs.Raw.{load, countAt, modelAt, loaded, nextBlock, blockPlace, entriesOf, Accepted}
 use Rattle.ase_read.proofs.Blocks.{same, Sound, NameIn, Blocked, blocked}
 
 -- ---- a block's numbers as they are loaded
@@ -27,13 +26,6 @@ pub numbers-loaded : (u : List ℕ) (p kind count place units tag a b c d last :
 numbers-loaded u p kind count place units tag a b c d last ek en ep eu et ea eb ec ed el =
     let four : (k v : ℕ) → v ≡ load 4 u (p + 8 + 2 * count + k) → v ≡ load 4 u (modelAt u p + k) = λ k v e. e ∙ ap (λ (n : ℕ). load 4 u (p + 8 + 2 * n + k)) en in
     same ek (ep ∙ ap (λ (n : ℕ). pick (eqb n 0) 0 (p + 8)) en) (eu ∙ ap (λ (n : ℕ). n - 1) en) (et ∙ ap (λ (n : ℕ). load 4 u (p + 8 + 2 * n)) en) (four 4 a ea) (four 8 b eb) (four 12 c ec) (four 16 d ed) el
-
-pub first-few : (u : List ℕ) (p : ℕ) → firstAt u p ≤ p + 8
-first-few u p = go (eqb (countAt u p) 0)
-  where
-    go : (b : Bool) → pick b 0 (p + 8) ≤ p + 8
-    go true = omega arith
-    go false = omega arith
 
 -- ---- places of blocks
 

@@ -1,7 +1,7 @@
 // ASE palettes: a file's records into a lent table, and a record by its number.
 ghost use mathlib.Core.Path.{_≡_};
 ghost use mathlib.Core.List.{_∷_, []};
-ghost use Prim.Native.Nat.{_+_, _-_, _*_, _^_, _≤_, _<_};
+ghost use Prim.Native.Nat.{_+_, _-_, _*_, _≤_, _<_};
 ghost use lib.Dec.{eqb};
 ghost use lib.ListN.{length};
 ghost use lib.Seq.{sets};
@@ -58,14 +58,14 @@ fn block_end(file: &[u8], at: usize) -> usize
 }
 
 // The place of the name of the block at `at`; 0 where the block has no name.
-fn first_at(count: u16, at: usize) -> usize
-    requires { ⌜ at + 8 < 2 ^ 64 ⌝ }
+fn first_at(count: u16, at: usize) -> u32
+    requires { ⌜ at ≤ limit ⌝ }
     ensures { λ r. ⌜ r ≡ pick (eqb count 0) 0 (at + 8) ⌝ }
 {
     if count == 0 {
         return 0;
     }
-    at + 8
+    (at + 8) as u32
 }
 
 // The units of a name without its closing zero.
@@ -80,7 +80,7 @@ fn units_of(count: u16) -> u32
 
 // The block from `at` to the end of `part`: what a shorter payload does not have is 0.
 fn numbers_in(part: &[u8], at: usize) -> Numbers
-    requires { ⌜ at + 6 ≤ length (now part) ⌝ }
+    requires { ⌜ (at + 6 ≤ length (now part)) × (length (now part) ≤ limit) ⌝ }
     ensures { λ r. ⌜ givenIn r ≡ loaded (now (part .entry)) at ⌝ }
 {
     let block = fields::u16_or_zero(part, at);
@@ -102,11 +102,11 @@ fn numbers_in(part: &[u8], at: usize) -> Numbers
 // Stores a row; nothing else knows its order. The stores stand by themselves, so that their proof
 // knows of nothing else.
 fn put_numbers(table: &mut [u32], to: usize, row: Numbers)
-    requires { ⌜ (to + width ≤ length (now table)) × (row .first < 2 ^ 32) ⌝ }
+    requires { ⌜ to + width ≤ length (now table) ⌝ }
     ensures { λ _. ⌜ now (table .exit) ≡ sets (now (table .entry)) to (numbers (givenIn row)) ⌝ }
 {
     table[to] = row.block;
-    table[to + 1] = row.first as u32;
+    table[to + 1] = row.first;
     table[to + 2] = row.units;
     table[to + 3] = row.model;
     table[to + 4] = row.a;
@@ -162,7 +162,7 @@ fn coloured(row: Numbers) -> Record
 {
     match Channels::from_tag(row.model, row.a, row.b, row.c, row.d) {
         Made::Is(colour) => Record::Colour {
-            place: row.first,
+            place: fields::wide(row.first),
             units: row.units,
             colour,
             kind: row.kind as u16,
@@ -184,7 +184,7 @@ fn found(file: &[u8], n: usize, i: usize) -> Record
     let block = row.block;
     match block {
         START => Record::Group {
-            place: row.first,
+            place: fields::wide(row.first),
             units: row.units,
         },
         STOP => Record::Close,

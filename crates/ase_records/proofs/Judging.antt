@@ -76,8 +76,10 @@ module _ (names : List ℕ) (g : Given) where
   pub name-large : 65534 < g .units → nameFault names g ≡ 5
   name-large h = simp (lt-leb (g .units + 1) 65535 (omega arith))
 
-  pub name-is : g .units ≤ 65534 → (r : Res Unit) → r ≡ done (text (g .units) names (g .first)) → numberOf r ≡ nameFault names g
-  name-is h r e = name-number (text (g .units) names (g .first)) r e ∙ sym (simp (le-leb (g .units + 1) 65535 (omega arith)))
+  pub name-is : g .units ≤ 65534 → (at : ℕ) (r : Res Unit) → at ≡ g .first → r ≡ done (text (g .units) names at) → numberOf r ≡ nameFault names g
+  name-is h at r a e =
+      name-number (text (g .units) names (g .first)) r (e ∙ ap (λ (k : ℕ). done (text (g .units) names k)) a)
+      ∙ sym (simp (le-leb (g .units + 1) 65535 (omega arith)))
 
   -- a name without a fault fits its count
   pub name-short : nameFault names g ≡ 0 → g .units ≤ 65534

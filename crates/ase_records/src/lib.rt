@@ -36,7 +36,7 @@ fn taken_from(row: &[u32]) -> Numbers
 {
     Numbers {
         block: row[0],
-        first: fields::wide(row[1]),
+        first: row[1],
         units: row[2],
         model: row[3],
         a: row[4],
@@ -133,7 +133,7 @@ fn name_fault(text: &[u8], given: Numbers) -> u32
     if 65534 < given.units {
         return 5;
     }
-    match names::text_at(text, given.first, given.units) {
+    match names::text_at(text, fields::wide(given.first), given.units) {
         Step::Next(_) => 0,
         Step::Refused(x, _) => x,
     }

@@ -33,7 +33,7 @@ fn name_start(given: Numbers) -> usize
     if given.units == 0 {
         return 0;
     }
-    given.first
+    fields::wide(given.first)
 }
 
 // The name of a record.

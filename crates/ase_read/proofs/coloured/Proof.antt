@@ -1,6 +1,8 @@
+use Prim.Native.Nat.{ℕ}
+use mathlib.Core.List.{[], _∷_}
 use mathlib.Core.Path.{sym, ap, _∙_}
 use Rattle.algebra.specs.Table.{accepted}
-use Rattle.ase.specs.Row.{Given}
+use Rattle.ase.specs.Row.{Given, colour}
 use native.Mathlib.Omega.{arith}
 use Rattle.ase_read.proofs.Answers.{is-made, colour-is}
 use borrow.Author.Needs.{needs}
@@ -16,14 +18,18 @@ enum-known-colour c = search needs
 enum-known-number : tie.Need-enum-known-number
 enum-known-number c = search needs
 
-cast-t6 : tie.Need-cast-t6
-cast-t6 c = omega (arith, c .before .before .before .before .before .pre .1)
+wide-requires : tie.Need-wide-requires
+wide-requires c κs = search needs
+
+cast-t7 : tie.Need-cast-t7
+cast-t7 c = omega (arith, c .before .before .before .before .before .before .pre .1)
 
 returns : tie.Need-returns
 returns c =
-    let f = c .before .before .before .before in
+    let f = c .before .before .before .before .before in
     let r = f .before .args .row in
-    ap (λ (g : Given). accepted g) (colour-is (r .model) (r .a) (r .b) (r .c) (r .d) (f .before .pre .0) _ (sym (f .from-tag .ensures) ∙ c .before .before .colour .given .1) (omega arith) (omega arith) (omega arith) (omega arith) _ _ _)
+    ap (λ (g : Given). accepted g) (colour-is (r .model) (r .a) (r .b) (r .c) (r .d) (f .before .pre .0) _ (sym (f .from-tag .ensures) ∙ c .before .before .before .colour .given .1) (omega arith) (omega arith) (omega arith) (omega arith) _ _ _)
+    ∙ ap (λ (p : ℕ). accepted (colour p (r .units) (r .model) (r .a ∷ r .b ∷ r .c ∷ r .d ∷ []) (r .kind))) (c .before .wide .ensures .0)
 
 returns-2 : tie.Need-returns-2
 returns-2 c =
@@ -34,4 +40,4 @@ returns-2 c =
 pub coloured-spec : {M : Type 1} → statement M
 coloured-spec =
     tie.close
-    (tie.spec from-tag-requires enum-known-colour cast-t6 enum-known-number returns returns-2)
+    (tie.spec from-tag-requires enum-known-colour wide-requires cast-t7 enum-known-number returns returns-2)

@@ -13,8 +13,11 @@ returns c = sym (ap (λ (b : Bool). pick b 0 (c .before .args .at + 8)) (eq-eqb 
 add-result : tie.Need-add-result
 add-result c = search needs
 
+cast-result : tie.Need-cast-result
+cast-result c = search needs
+
 returns-2 : tie.Need-returns-2
 returns-2 c = sym (ap (λ (b : Bool). pick b 0 (c .before .args .at + 8)) (ne-eqb _ _ (c .if1 .left)))
 
 pub first-at-spec : {M : Type 1} → statement M
-first-at-spec = tie.close (tie.spec returns add-result returns-2)
+first-at-spec = tie.close (tie.spec returns add-result cast-result returns-2)

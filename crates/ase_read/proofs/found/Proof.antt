@@ -4,7 +4,7 @@ use mathlib.Core.List.{List}
 use lib.ListN.{getD, take}
 use native.Mathlib.Omega.{arith}
 use Rattle.algebra.specs.Table.{accepted, whole}
-use Rattle.ase.specs.Row.{Given, width, taken, noRecord, givenIn, givenOf}
+use Rattle.ase.specs.Row.{Given, width, taken, noRecord, group, givenIn, givenOf}
 use Rattle.ase.proofs.Row.{row-back}
 use Rattle.ase_read.specs.Raw.{nextBlock, loaded, rawRow}
 use Rattle.ase_read.proofs.Filling.{entryAt, Here, here}
@@ -51,14 +51,18 @@ slice-aggregate-record-at c = search needs
 record-at-requires : tie.Need-record-at-requires
 record-at-requires c κs = search needs
 
+wide-requires : tie.Need-wide-requires
+wide-requires c κs = search needs
+
 coloured-requires : tie.Need-coloured-requires
 coloured-requires c κs = let h = hue c in (h .is, h .type)
 
 returns : tie.Need-returns
 returns c =
-    let r = c .before in
+    let r = c .before .before in
     let st = r .before .before .before .before .before .before .before .before in
-    record-is _ _ (st .args .i) (st .pre .0) (st .pre .1) _ (is-group _ (entryAt (st .args .file .now) (st .args .i)) (stored r) (c .match .keys1))
+    record-is _ _ (st .args .i) (st .pre .0) (st .pre .1) _
+    (ap (λ (p : ℕ). group p (r .record-at .result .units)) (c .wide .ensures .0) ∙ is-group (r .record-at .result) (entryAt (st .args .file .now) (st .args .i)) (stored r) (c .before .match .keys1))
 
 returns-2 : tie.Need-returns-2
 returns-2 c =
@@ -81,6 +85,7 @@ found-spec =
     put-row-requires
     slice-aggregate-record-at
     record-at-requires
+    wide-requires
     coloured-requires
     returns
     returns-2

@@ -11,9 +11,6 @@ mul-table c = search needs
 slice-write-table : tie.Need-slice-write-table
 slice-write-table c = search needs
 
-cast-table : tie.Need-cast-table
-cast-table c = search needs
-
 add-table : tie.Need-add-table
 add-table c = search needs
 
@@ -98,7 +95,6 @@ put-numbers-spec =
     (tie.spec
     mul-table
     slice-write-table
-    cast-table
     add-table
     mul-table-2
     slice-write-table-2

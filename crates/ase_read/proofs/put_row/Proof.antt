@@ -1,9 +1,7 @@
 use mathlib.Core.Path.{sym, ap, _∙_}
-use lib.ListN.{take}
 use lib.Seq.{sets, length-take-le}
 use native.Mathlib.Omega.{arith}
 use Rattle.ase.specs.Row.{Given, numbers}
-use Rattle.ase_read.proofs.Filling.{first-few}
 use borrow.Author.Needs.{needs}
 use Rattle.ase_read.proofs.put_row.Statement.{statement}
 use Rattle.ase_read.proofs.put_row.Tie as tie
@@ -12,13 +10,13 @@ slice-aggregate-numbers-in : tie.Need-slice-aggregate-numbers-in
 slice-aggregate-numbers-in c = let st = c .before .before .before in sym (length-take-le (st .args .end) (st .args .file .now) (st .pre .1))
 
 numbers-in-requires : tie.Need-numbers-in-requires
-numbers-in-requires c κs = let st = c .before .before .before in omega (arith, st .pre .0, length-take-le (st .args .end) (st .args .file .now) (st .pre .1))
+numbers-in-requires c κs =
+    let st = c .before .before .before in
+    let l = length-take-le (st .args .end) (st .args .file .now) (st .pre .1) in
+    (omega (arith, st .pre .0, l), omega (arith, st .pre .1, st .pre .2, l))
 
 put-numbers-requires : tie.Need-put-numbers-requires
-put-numbers-requires c κs =
-    let st = c .before .before .before .before .before in
-    let e = ap (λ (g : Given). g .first) (c .before .numbers-in .ensures) in
-    (st .pre .3, omega (arith, e, st .pre .0, st .pre .1, st .pre .2, first-few (take (st .args .end) (st .args .file .now)) (st .args .at)))
+put-numbers-requires c κs = search needs
 
 same-length : tie.Need-same-length
 same-length c = search needs
