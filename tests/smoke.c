@@ -1,7 +1,7 @@
 /* The header and the archive from C: P3, P6 and a book of one Lab colour are read, listed by their
  * record and written back; P4 is refused with its record and field, P7 with its place, a group left
  * open and a tag that is none by the writer; the book's colour, full name and page are shown; P12 is
- * read into its rows; P3 and P6 are walked; a few samples and channels are converted, and those that
+ * read into its rows; a document's resource section is found, read and written back; P3 and P6 are walked; a few samples and channels are converted, and those that
  * are refused are refused by their numbers. */
 #include <stdio.h>
 #include <string.h>
@@ -216,6 +216,35 @@ static int descriptor(void) {
     return 0;
 }
 
+/* A block of the ID 1000 with no name and the data `abc`, inside a document without colour mode data. */
+static const uint8_t DOCUMENT[50] = {
+    0x38, 0x42, 0x50, 0x53, 0x00, 0x01, 0x00, 0x00, 0x00, 0x00, 0x00, 0x00, 0x00, 0x00, 0x00, 0x00, 0x00,
+    0x00, 0x00, 0x00, 0x00, 0x00, 0x00, 0x00, 0x00, 0x00, 0x00, 0x00, 0x00, 0x00, 0x00, 0x00, 0x00, 0x10,
+    0x38, 0x42, 0x49, 0x4D, 0x03, 0xE8, 0x00, 0x00, 0x00, 0x00, 0x00, 0x03, 0x61, 0x62, 0x63, 0x00,
+};
+
+static int resources(void) {
+    khuyurek_section lies = khuyurek_document_resources(DOCUMENT, sizeof DOCUMENT);
+    CHECK(lies.number == 0 && lies.place == 0 && lies.first == 34 && lies.length == 16);
+    const uint8_t *section = DOCUMENT + lies.first;
+    CHECK(khuyurek_resource_judge(section, lies.length).blocks == 1);
+    uint32_t table[KHUYUREK_RESOURCE_WIDTH] = {0};
+    CHECK(khuyurek_resource_read(section, lies.length, table, 4).number == KHUYUREK_NO_ROOM);
+    CHECK(khuyurek_resource_read(section, lies.length, table, 5).number == 0);
+    CHECK(table[0] == 1000 && table[1] == 7 && table[2] == 0 && table[3] == 12 && table[4] == 3);
+    khuyurek_resource_record block = khuyurek_resource_record_at(section, lies.length, 0);
+    CHECK(block.number == 0 && block.id == 1000 && block.data == 12 && block.data_length == 3);
+    CHECK(khuyurek_resource_find(section, lies.length, 1000).number == 0);
+    CHECK(khuyurek_resource_find(section, lies.length, 7).number == KHUYUREK_NO_RECORD);
+    uint8_t out[16];
+    CHECK(khuyurek_resource_length(table, 5, section, lies.length).length == sizeof out);
+    CHECK(khuyurek_resource_write(table, 5, section, lies.length, out, sizeof out).number == 0);
+    CHECK(memcmp(out, section, sizeof out) == 0);
+    khuyurek_section cut = khuyurek_document_resources(DOCUMENT, sizeof DOCUMENT - 1);
+    CHECK(cut.number == KHUYUREK_CUT && cut.place == 34 && cut.first == 0 && cut.length == 0);
+    return 0;
+}
+
 static int walks(void) {
     khuyurek_aco_start aco = khuyurek_aco_walk_start(P3, sizeof P3);
     CHECK(aco.number == 0 && aco.place == 0 && aco.at == 18);
@@ -261,7 +290,7 @@ static int conversions(void) {
 }
 
 int main(void) {
-    if (aco() || ase() || acb() || descriptor() || walks() || conversions()) {
+    if (aco() || ase() || acb() || descriptor() || resources() || walks() || conversions()) {
         return 1;
     }
     puts("C agrees");

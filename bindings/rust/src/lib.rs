@@ -47,6 +47,7 @@ pub mod ase;
 mod convert;
 pub mod descriptor;
 mod refusal;
+pub mod resource;
 mod space;
 mod text;
 mod units;

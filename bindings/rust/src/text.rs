@@ -18,7 +18,8 @@ impl Text {
     }
 }
 
-fn held(number: usize) -> u32 {
+/// A number in 32 bits, the largest where they cannot hold it.
+pub fn held(number: usize) -> u32 {
     u32::try_from(number).unwrap_or(u32::MAX)
 }
 

@@ -481,3 +481,43 @@ fn sentences_are_those_of_the_rules() {
         assert!(rules.contains(&line), "the rules have no line {line}");
     }
 }
+
+#[test]
+fn resources_of_a_document() {
+    let blocks = [
+        khuyurek::resource::Block {
+            id: 1000,
+            name: b"",
+            data: b"abc",
+        },
+        khuyurek::resource::Block {
+            id: 1005,
+            name: b"ink",
+            data: b"",
+        },
+    ];
+    let section = khuyurek::resource::write(&blocks).unwrap();
+    assert_eq!(khuyurek::resource::write_length(&blocks), Ok(section.len()));
+    let read = khuyurek::resource::read(&section).unwrap();
+    assert_eq!(read.len(), 2);
+    assert!(read.iter().eq(blocks.iter().copied()));
+    assert_eq!(read.get(1), Some(blocks[1]));
+    assert_eq!(read.get(2), None);
+    assert_eq!(read.write().unwrap(), section);
+    assert_eq!(khuyurek::resource::record_at(&section, 0), Ok(blocks[0]));
+    assert_eq!(khuyurek::resource::find(&section, 1005), Ok(1));
+    assert_eq!(
+        khuyurek::resource::find(&section, 7).unwrap_err().number,
+        12
+    );
+    // A document: its header, no colour mode data, the section, and what follows it.
+    let mut document = b"8BPS\0\x01\0\0\0\0\0\0".to_vec();
+    document.extend([0; 14]);
+    document.extend([0; 4]);
+    document.extend((section.len() as u32).to_be_bytes());
+    document.extend(&section);
+    document.extend(b"layers");
+    assert_eq!(khuyurek::resource::section_of(&document), Ok(&section[..]));
+    let cut = khuyurek::resource::section_of(&document[..30]).unwrap_err();
+    assert_eq!((cut.number, cut.place), (2, 30));
+}

@@ -55,6 +55,7 @@ fn widths_and_limit_are_the_librarys() {
         ("ASE", "ase", khuyurek::ase::WIDTH),
         ("ACB", "acb", khuyurek::acb::WIDTH),
         ("DESCRIPTOR", "descriptor_read", khuyurek::descriptor::WIDTH),
+        ("RESOURCE", "resource", khuyurek::resource::WIDTH),
     ] {
         let library = source(&format!("crates/{library}/src/lib.rt"));
         let limit = khuyurek::LIMIT;

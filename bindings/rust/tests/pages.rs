@@ -30,5 +30,5 @@ fn signatures_of_the_page_stand_in_the_source() {
     assert_eq!(given.len() + INSIDE, calls);
 }
 
-/// `length` and `exact` of the module `text`, which is private.
-const INSIDE: usize = 2;
+/// `held`, `length` and `exact` of the module `text`, which is private.
+const INSIDE: usize = 3;
