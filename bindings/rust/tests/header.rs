@@ -50,20 +50,36 @@ fn rust_declares_what_is_exported() {
 #[test]
 fn widths_and_limit_are_the_librarys() {
     let header = source("include/khuyurek.h");
-    for (name, library, width) in [
-        ("ACO", "aco", khuyurek::aco::WIDTH),
-        ("ASE", "ase", khuyurek::ase::WIDTH),
-        ("ACB", "acb", khuyurek::acb::WIDTH),
-        ("DESCRIPTOR", "descriptor_read", khuyurek::descriptor::WIDTH),
-        ("RESOURCE", "resource", khuyurek::resource::WIDTH),
+    let library = |name: &str| source(&format!("crates/{name}/src/lib.rt"));
+    for (name, layout, judging, width) in [
+        ("ACO", "aco", "aco", khuyurek::aco::WIDTH),
+        ("ASE", "ase", "ase", khuyurek::ase::WIDTH),
+        ("ACB", "acb", "acb", khuyurek::acb::WIDTH),
+        (
+            "DESCRIPTOR",
+            "descriptor_read",
+            "descriptor_judge",
+            khuyurek::descriptor::WIDTH,
+        ),
+        (
+            "RESOURCE",
+            "resource",
+            "resource",
+            khuyurek::resource::WIDTH,
+        ),
     ] {
-        let library = source(&format!("crates/{library}/src/lib.rt"));
         let limit = khuyurek::LIMIT;
         for (text, line) in [
             (&header, format!("#define KHUYUREK_LIMIT {limit}u")),
-            (&library, format!("pub const LIMIT: usize = {limit};")),
+            (
+                &library(judging),
+                format!("pub const LIMIT: usize = {limit};"),
+            ),
             (&header, format!("#define KHUYUREK_{name}_WIDTH {width}")),
-            (&library, format!("pub const WIDTH: usize = {width};")),
+            (
+                &library(layout),
+                format!("pub const WIDTH: usize = {width};"),
+            ),
         ] {
             assert!(text.lines().any(|found| found == line), "{name}: {line}");
         }
