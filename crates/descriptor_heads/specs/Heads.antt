@@ -1,5 +1,5 @@
--- A descriptor file as heads one after the other, nested by the counts that they carry. A head (document 01's word) is the fields that a row has besides
--- its children, which in every kind stand before the first child.
+-- A descriptor file as heads one after the other, nested by the counts that they carry. A head is the fields that a row has besides its children,
+-- which in every kind stand before the first child.
 use Prim.Native.Nat.{ℕ, zero, suc, _-_}
 use mathlib.Core.List.{List, [], _∷_}
 use mathlib.Core.Bool.{true, false}

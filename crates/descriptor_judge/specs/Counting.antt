@@ -38,7 +38,7 @@ packed next refused n = pick (ltb n 0x8000_0000_0000_0000) (next (n % 0x1_0000_0
 abbrev pub carried : ℕ → Walk
 carried n = packed vw.Next vw.Refused n
 
--- ---- where a member may be looked for: in a file within the limit, its key at `first` or before
+-- ---- where an item may be looked for: in a file within the limit; `first` is the row's first byte, its key's where it has one, and `at` where the item begins
 pub record Within (s : List ℕ) (left first at : ℕ) : Type 0 where
   pub size : length s ≤ 16777216
   pub levels : left ≤ 32
