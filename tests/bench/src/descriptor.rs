@@ -3,22 +3,24 @@
 use crate::report::{Report, SIZES};
 use crate::timing::{alternate, alternate_judges, Times};
 use crate::SEED;
-use generate::descriptor::{deep, flat, wide, Long};
+use generate::descriptor::{deep, flat, lists, wide, Long};
 use generate::Random;
 use reference::descriptor::{self, ROW_LEN};
 use std::hint::black_box;
 
 type Shape = fn(usize) -> Long;
 
-const SHAPES: [(&str, Shape); 3] = [
+const SHAPES: [(&str, Shape); 4] = [
     ("flat", flat),
     ("wide", |len| wide(&mut Random::new(SEED), len)),
+    ("lists", lists),
     ("deep", deep),
 ];
 
 pub fn compare(report: &mut Report, rounds: usize) {
     println!("\ndescriptors");
-    println!("flat: a list of booleans; wide: pairs of every type; deep: lists 31 in each other");
+    println!("flat: a list of booleans; wide: pairs of every type; lists: lists of four booleans;");
+    println!("deep: lists 31 in each other");
     let mut table = report.table("descriptors", "rows");
     for (shape, make) in SHAPES {
         let files = SIZES.map(make);

@@ -48,6 +48,13 @@ pub fn wide(random: &mut Random, len: usize) -> Long {
     }
 }
 
+/// Pairs directly below the root, each a list of four booleans.
+pub fn lists(len: usize) -> Long {
+    let pair = [KEY, b"VlLs\0\0\0\x04", &BOOL.repeat(4)].concat();
+    let pairs = (len - ROOT_LEN - RAW_PAIR_LEN) / pair.len();
+    filled(pairs, pair.repeat(pairs), pairs * 5, len)
+}
+
 /// Lists in lists down to the greatest depth, many times over.
 pub fn deep(len: usize) -> Long {
     let lists = MAX_DEPTH - 1;

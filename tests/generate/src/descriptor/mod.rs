@@ -13,7 +13,7 @@ pub use fixed::{
     P12_LISTING, P12_ROWS,
 };
 pub use laid::{Field, Laid};
-pub use long::{deep, flat, wide, Long};
+pub use long::{deep, flat, lists, wide, Long};
 pub use tags::{ARRAY_UNITS, FORMS, TYPES, UNITS};
 pub use tree::{Array, Class, Form, Id, Object, Rest, Value};
 
