@@ -1,12 +1,12 @@
 -- What reading answers in single turns, whatever stands behind them: a number and a place. Assumes nothing.
 -- Few imports, and first by its name: a turn that is changed in the reading is refused here, and by nothing before it.
 use Prim.Native.Nat.{ℕ, _+_, _*_, _^_, _<_}
-use mathlib.Core.Path.{_≡_, sym, ap, _∙_, subst, subst₂}
-use mathlib.Core.List.{List, [], _∷_, _++_}
+use mathlib.Core.Path.{_≡_, refl, sym, ap, _∙_, subst, subst₂}
+use mathlib.Core.List.{List, [], _∷_, _++_, map}
 use mathlib.Core.Bool.{false}
 use lib.ListN.{length, getD, take}
 use lib.Seq.{length-take-le, getD-take}
-use borrow.Author.Tests.{ne-eqb}
+use borrow.Author.Tests.{eq-eqb, ne-eqb}
 use native.Mathlib.Omega.{arith}
 use native.Mathlib.Nat.{zero-add}
 use Rattle.algebra.specs.Numbers.{be, joined, At, Bytes, All}
@@ -20,7 +20,7 @@ use Rattle.algebra.proofs.Stops.{judged-refuses, each-stops}
 use Rattle.algebra.proofs.Tails.{Tail, tail-left, tail-after, judged-wrong, judged-cut}
 use Rattle.colour.specs.declared.space.Colour.{Colour}
 use Rattle.colour.specs.Spaces.{known}
-use Rattle.aco.specs.Reading.{space, colour, version, heading, fieldOf, compared, twin, Entry, entry, black, secondCount, second}
+use Rattle.aco.specs.Reading.{space, colour, version, heading, fieldOf, compared, twin, Entry, entry, black, secondCount, second, unnamed, after}
 use Rattle.aco.proofs.Fine.{version-fine, compared-fine}
 
 -- a heading that is cut: 2 at the version, or at the count
@@ -64,6 +64,11 @@ module _ (s : List ℕ) (bytes : Bytes s) (i : ℕ) (c : Colour) (five : length 
   pub difference-first : (f v : ℕ) (l : List ℕ) → f < 5 → v < 256 ^ 2 → (v ≡ fieldOf c f → ⊥) → Tail s at (joined (be 2) (take f fields) ++ (be 2 v ++ l)) → entry i c s at ≡ refuse 7 (at + 2 * f) i f
   difference-first f v l h fits ne t =
       fields-stop f (be 2 v ++ l) h t 7 i f (λ u. judged-refuses s bytes 2 (compared i c f) (at + 2 * f) v 7 i f fits (tail-left s (at + 2 * f) (be 2 v) l u) (rw (ne-eqb v (fieldOf c f) ne)))
+
+-- a file that ends behind list 1: one list, whose colours have no names
+pub one-list-ends : (s : List ℕ) (cs : List Colour) → after cs s (length s) ≡ ok (record { lists = 1; records = map unnamed cs }) (length s)
+unfolding after
+one-list-ends s cs = simp (eq-eqb (length s) (length s) refl)
 
 -- list 2 behind its heading
 module _ (s : List ℕ) (cs : List Colour) (at n r : ℕ) (head : heading 2 (secondCount (length cs)) s at ≡ ok n r) where

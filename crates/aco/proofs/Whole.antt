@@ -17,6 +17,7 @@ use Rattle.colour.specs.declared.space.Colour.{Colour}
 use Rattle.aco.specs.Grammar.{Swatch, rgb, Allowed, Palette, File, plain, named, colourBytes, entryBytes, listOne, listTwo, twoLists}
 use Rattle.aco.specs.Reading.{colour, heading, Entry, entry, Contents, black, second, unnamed, after, lists, aco, swatch, firstCount, secondCount}
 use Rattle.aco.proofs.Fine.{first-fine, second-fine}
+use Rattle.aco.proofs.Answers.{one-list-ends}
 use Rattle.aco.proofs.Laws.{hue, paint, label, Painted, Sized, painted-sized, allowed-painted, painted-allowed, colour-exact, heading-exact, entry-exact}
 use Rattle.aco.proofs.Inverse.{First, Then, one, two}
 
@@ -173,10 +174,10 @@ module _ (s : List ℕ) (bytes : Bytes s) (ws : List Swatch) (pal : Palette ws) 
   second-reads q h end = let x = second-passes q h in (x .0, rw (x .1) (rw (x .2 ∙ ap (λ (k : ℕ). ok (x .0) k) end) (simp (eq-eqb (length s) (length s) refl))), x .3)
 
 pub plain-reads : (ws : List Swatch) → Palette ws → length (listOne ws) ≤ 16777216 → aco (listOne ws) ≡ ok (record { lists = 1; records = map unnamed (map hue ws) }) (length (listOne ws))
-unfolding aco after
+unfolding aco
 plain-reads ws pal short =
     let s : List ℕ = listOne ws in
-    simp (le-leb (length s) 16777216 short) (rw (first-reads s (bytes-one ws) ws pal (at-whole s)) (simp (eq-eqb (length s) (length s) refl)))
+    simp (le-leb (length s) 16777216 short) (rw (first-reads s (bytes-one ws) ws pal (at-whole s)) (one-list-ends s (map hue ws)))
 
 pub named-reads : (ws : List Swatch) → Palette ws → length (twoLists ws) ≤ 16777216 → (es : List Entry) × (aco (twoLists ws) ≡ ok (record { lists = 2; records = es }) (length (twoLists ws))) × (map swatch es ≡ ws)
 unfolding aco after twoLists
