@@ -22,7 +22,7 @@ use Rattle.khuyurek.specs.declared.books.AcbShown.{AcbShown}
 use Rattle.khuyurek.specs.declared.books.AcbFull.{AcbFull}
 use Rattle.khuyurek.specs.declared.books.AcbPage.{AcbPage}
 use Rattle.khuyurek.specs.declared.Length.{Length}
-use Rattle.khuyurek.specs.Exported.{writtenOf, wroteOf as sizedOf}
+use Rattle.khuyurek.specs.Written.{writtenOf, wroteOf as sizedOf}
 
 -- ---- the header
 

@@ -9,7 +9,7 @@ ghost use Rattle.resource_read.specs.Answer.{toldShown, toldIndex};
 ghost use Rattle.resource_records.specs.Writing.{given, needed, written};
 ghost use Rattle.resource_document.specs.Reading.{document as documentIn};
 ghost use Rattle.resource_document.specs.Answer.{told as toldPlace};
-ghost use Rattle.khuyurek.specs.Exported.{writtenOf, wroteOf};
+ghost use Rattle.khuyurek.specs.Written.{writtenOf, wroteOf};
 ghost use Rattle.khuyurek.specs.Resource.{answerOf, readOf, recordOf, foundOf, sectionOf};
 use crate::Length;
 use crate::exported_length;

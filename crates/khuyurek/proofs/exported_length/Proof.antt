@@ -1,5 +1,5 @@
 use mathlib.Core.Path.{sym, ap}
-use Rattle.khuyurek.specs.Exported.{writtenOf}
+use Rattle.khuyurek.specs.Written.{writtenOf}
 use Rattle.fields.specs.Answer.{toldWritten}
 use borrow.Author.Needs.{needs}
 use Rattle.khuyurek.proofs.exported_length.Statement.{statement}

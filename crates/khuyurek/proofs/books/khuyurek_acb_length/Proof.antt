@@ -4,7 +4,7 @@ use Rattle.acb_judge.specs.Answer.{Shown}
 use Rattle.algebra.specs.Table.{whole}
 use Rattle.acb.specs.Row.{width, taken}
 use Rattle.acb_records.specs.Writing.{needed}
-use Rattle.khuyurek.specs.Exported.{writtenOf}
+use Rattle.khuyurek.specs.Written.{writtenOf}
 use borrow.Author.Needs.{needs}
 use Rattle.khuyurek.proofs.books.khuyurek_acb_length.Statement.{statement}
 use Rattle.khuyurek.proofs.books.khuyurek_acb_length.Tie as tie

@@ -4,7 +4,7 @@ use Rattle.acb_judge.specs.Answer.{Shown}
 use Rattle.algebra.specs.Table.{whole}
 use Rattle.acb.specs.Row.{width, taken}
 use Rattle.acb_records.specs.Writing.{written}
-use Rattle.khuyurek.specs.Exported.{wroteOf as sizedOf}
+use Rattle.khuyurek.specs.Written.{wroteOf as sizedOf}
 use borrow.Author.Needs.{needs}
 use Rattle.khuyurek.proofs.books.khuyurek_acb_write.Statement.{statement}
 use Rattle.khuyurek.proofs.books.khuyurek_acb_write.Tie as tie

@@ -1,5 +1,5 @@
 use mathlib.Core.Path.{ap, _∙_}
-use Rattle.khuyurek.specs.Exported.{writtenOf}
+use Rattle.khuyurek.specs.Written.{writtenOf}
 use borrow.Author.Needs.{needs}
 use Rattle.khuyurek.proofs.resources.khuyurek_resource_length.Statement.{statement}
 use Rattle.khuyurek.proofs.resources.khuyurek_resource_length.Tie as tie

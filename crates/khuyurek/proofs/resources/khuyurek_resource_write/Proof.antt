@@ -1,5 +1,5 @@
 use mathlib.Core.Path.{ap}
-use Rattle.khuyurek.specs.Exported.{wroteOf}
+use Rattle.khuyurek.specs.Written.{wroteOf}
 use borrow.Author.Needs.{needs}
 use Rattle.khuyurek.proofs.resources.khuyurek_resource_write.Statement.{statement}
 use Rattle.khuyurek.proofs.resources.khuyurek_resource_write.Tie as tie

@@ -1,0 +1,20 @@
+use mathlib.Core.Path.{ap}
+use Rattle.khuyurek.specs.Aco.{readOf}
+use borrow.Author.Needs.{needs}
+use Rattle.khuyurek.proofs.swatches.khuyurek_aco_read.Statement.{statement}
+use Rattle.khuyurek.proofs.swatches.khuyurek_aco_read.Tie as tie
+
+read-requires : tie.Need-read-requires
+read-requires c κs = search needs
+
+exported-requires : tie.Need-exported-requires
+exported-requires c κs = search needs
+
+same-length : tie.Need-same-length
+same-length c = search needs
+
+returns : tie.Need-returns
+returns c = rw (c .exported .ensures) (ap readOf (c .before .before .before .read .ensures))
+
+pub khuyurek-aco-read-spec : {M : Type 1} → statement M
+khuyurek-aco-read-spec = tie.close (tie.spec read-requires exported-requires same-length returns)
