@@ -1,3 +1,4 @@
+pub mod ByBytes
 pub mod Table
 pub mod Steps
 pub mod Going

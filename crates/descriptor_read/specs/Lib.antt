@@ -4,3 +4,4 @@ pub mod Carried
 pub mod Values
 pub mod Filled
 pub mod Typed
+pub mod Kinds

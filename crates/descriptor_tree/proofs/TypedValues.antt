@@ -14,9 +14,9 @@ use Rattle.descriptor.specs.Reading.{Row, descriptor}
 use Rattle.descriptor_read.specs.declared.Typed.the-variants as vt
 use Rattle.descriptor_read.specs.Values.{rowAt, rowIn}
 use Rattle.descriptor_read.specs.Typed.{typedIn, typedOf}
+use Rattle.descriptor_read.specs.Kinds.{Says}
 use Rattle.descriptor_tree.specs.Grammar.{Leaf, Form}
 use Rattle.descriptor_tree.specs.Tree.{Members, none, one, Descriptor, count, head, bytes, rows, memberValues, rootHead, fileRows, rowCount, fileValues, Place, Item, Member, Allowed, File}
-use Rattle.descriptor_tree.specs.Typed.{Says}
 use Rattle.descriptor_tree.proofs.Whole.{file-inv}
 use Rattle.descriptor_tree.proofs.RoundTrip.{allowed-reads}
 use Rattle.descriptor_tree.proofs.Values.{Paired, paired-append, Lies, file-values}

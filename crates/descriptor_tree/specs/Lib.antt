@@ -3,4 +3,3 @@ pub mod Tree
 pub mod Promise
 pub mod Widths
 pub mod Damaged
-pub mod Typed
