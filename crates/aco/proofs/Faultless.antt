@@ -15,12 +15,9 @@ use Rattle.algebra.proofs.Exact.{all-map, all-both, any-none, none-any}
 use Rattle.algebra.proofs.Tells.{first-none, first-inv, pick-none, pick-some, faults-inv, faults-none, faults-from}
 use Rattle.colour.specs.Spaces.{known, allowed}
 use Rattle.aco.specs.Grammar.{Swatch, Sample, Allowed, Palette}
-use Rattle.aco.specs.Faults.{spaceFault, sampleFault, fieldsFault, colourFault, nameFault, swatchesFault, paletteFault, Fits}
+use Rattle.aco.specs.Faults.{spaceFault, sampleFault, fieldsFault, colourFault, swatchesFault, paletteFault, Fits}
+use Rattle.aco.proofs.Written.{ownName}
 use Rattle.aco.proofs.Laws.{hue, Painted, painted-sized, allowed-painted, painted-allowed, space-known, known-space, allowed-sample, sample-allowed}
-
--- the fault of a swatch's name as a value
-abbrev pub ownName : Swatch → ℕ
-ownName w = nameFault 0 (w .name)
 
 -- ---- no fault, so allowed
 

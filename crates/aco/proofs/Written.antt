@@ -21,12 +21,15 @@ use Rattle.colour.specs.declared.space.Colour.{Colour}
 use Rattle.colour.specs.Spaces.{known, allowed}
 use Rattle.aco.specs.Grammar.{Swatch, colourBytes, entryBytes, listOne, listTwo, twoLists}
 use Rattle.aco.specs.Reading.{space, sample, samples, colour, heading, entry, black, second, after, lists, version, firstCount, secondCount}
-use Rattle.aco.specs.Faults.{sampleFault, fieldsFault, colourFault, swatchesFault, paletteFault, Fits}
-use Rattle.aco.proofs.Faultless.{ownName}
+use Rattle.aco.specs.Faults.{sampleFault, fieldsFault, colourFault, nameFault, swatchesFault, paletteFault, Fits}
 use Rattle.aco.proofs.Fine.{version-fine, second-fine}
 use Rattle.aco.proofs.Raw.{colour-inv}
 use Rattle.aco.proofs.Laws.{hue, paint, mix, label, titled, Sized, twins-exact}
 use Rattle.aco.proofs.Whole.{hues-bytes, hue-at, length-two}
+
+-- the fault of a swatch's name as a value
+abbrev pub ownName : Swatch → ℕ
+ownName w = nameFault 0 (w .name)
 
 -- ---- a colour
 

@@ -19,7 +19,7 @@ use Rattle.aco.specs.Grammar.{Swatch, entryBytes, listOne, listTwo, twoLists}
 use Rattle.aco.specs.Reading.{most}
 use Rattle.aco.specs.Faults.{spaceFault, sampleFault, fieldsFault, paletteFault, Fits}
 use Rattle.aco.specs.Faults as a
-use Rattle.aco.proofs.Faultless.{ownName}
+use Rattle.aco.proofs.Written.{ownName}
 use Rattle.aco.proofs.Whole.{length-one, length-two}
 use Rattle.algebra.specs.Table.{rows}
 use Rattle.aco.specs.Row.{Given, width, taken}
