@@ -3,11 +3,12 @@ use Rattle.algebra.proofs.Counted.{counted-end, counted-start, counted-turn}
 use Prim.Native.Nat.{ℕ, zero, suc, _+_, _*_, _-_, _≤_, _<_}
 use mathlib.Core.Path.{_≡_, refl, sym, ap, _∙_, subst}
 use mathlib.Core.List.{List, [], _∷_}
+use mathlib.Core.Logic.{_⊎_, inl, inr}
 use mathlib.Core.Bool.{Bool, true, false, not, _&&_}
 use lib.Dec.{leb, ltb, eqb}
 use lib.ListN.{length}
 use lib.Ieee.{binary32, ofBits}
-use borrow.Author.Tests.{eq-eqb, ne-eqb, le-leb, lt-leb, leb-true, ltb-true}
+use borrow.Author.Tests.{eq-eqb, ne-eqb, le-leb, lt-leb, leb-true, ltb-true, lt-ltb}
 use native.Mathlib.Omega.{arith}
 use native.Mathlib.Nat.{lt-of-not-le}
 use native.Mathlib.Decide.{ℕ-discrete, decLe}
@@ -15,7 +16,7 @@ use Rattle.algebra.specs.Reader.{Res, ok, refuse, then, pick, rule, unless, bod
 use Rattle.algebra.specs.Text.{anyZero, text}
 use Rattle.algebra.specs.Numbers.{counted, nums}
 use Rattle.algebra.specs.Faults.{firstOf, faults, faultsFrom, faultsIn}
-use Rattle.algebra.proofs.Tells.{first-none, first-inv, pick-none}
+use Rattle.algebra.proofs.Tells.{first-none, first-zero, first-inv, pick-none}
 use Rattle.algebra.proofs.Laws.{body-short}
 use Rattle.colour.specs.Models.{modelOf, countIn, isModel, channelsOf}
 use Rattle.colour.specs.Channels.{allows, allowsBits, allowsAll}
@@ -212,6 +213,11 @@ module _ (names : List ℕ) (d : ℕ) (g : Given) where
   pub block-other : (g .block ≡ 0xC001 → ⊥) → (g .block ≡ 0xC002 → ⊥) → (g .block ≡ 0x0001 → ⊥) → blockFault names d g ≡ 4
   unfolding f.blockFault
   block-other a b c = simp (ne-eqb (g .block) 0xC001 a, ne-eqb (g .block) 0xC002 b, ne-eqb (g .block) 0x0001 c)
+
+  -- a group that may start, or a colour: its name, and what stands behind a colour's
+  pub block-named : ((g .block ≡ 0xC001) × (d < deepest)) ⊎ (g .block ≡ 0x0001) → blockFault names d g ≡ firstOf (nameFault names g) (pick (eqb (g .block) 0xC001) 0 (shadeFault g))
+  block-named (inl x) = block-start (x .0) ∙ rw (lt-ltb d deepest (x .1), x .0) (sym (first-zero (nameFault names g)))
+  block-named (inr e) = block-colour e ∙ sym (rw e)
 
   pub sound : blockFault names d g ≡ 0 → Sound names d g
   sound e = elim (ℕ-discrete (g .block) 0xC001) [

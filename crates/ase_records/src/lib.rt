@@ -161,23 +161,23 @@ fn block_fault(text: &[u8], depth: u32, given: Numbers) -> u32
     ensures { λ r. ⌜ r ≡ blockFault (now (text .entry)) depth (givenIn given) ⌝ }
 {
     if given.block == START {
-        if depth < DEEPEST {
-            return name_fault(text, given);
+        if DEEPEST <= depth {
+            return 10;
         }
-        return 10;
-    }
-    if given.block == STOP {
+    } else if given.block == STOP {
         if 0 < depth {
             return 0;
         }
         return 9;
-    }
-    if given.block != COLOUR {
+    } else if given.block != COLOUR {
         return 4;
     }
     let x = name_fault(text, given);
     if x != 0 {
         return x;
+    }
+    if given.block == START {
+        return 0;
     }
     shade_fault(given)
 }
