@@ -5,17 +5,16 @@ use Prim.Native.Nat.{ℕ, zero, suc, _+_, _*_, _-_, _≤_, _<_}
 use mathlib.Core.Path.{_≡_, refl, sym, ap, _∙_, subst}
 use mathlib.Core.List.{List, [], _∷_}
 use mathlib.Core.Bool.{Bool, true, false, not}
-use lib.Dec.{leb}
 use lib.ListN.{length}
 use borrow.Author.Tests.{eq-eqb, ne-eqb}
 use native.Mathlib.Omega.{arith}
 use native.Mathlib.Nat.{lt-of-not-le}
 use native.Mathlib.Decide.{ℕ-discrete, decLe}
-use Rattle.algebra.specs.Reader.{Res, ok, refuse, then, pick, rule, unless, body, done, numberOf}
+use Rattle.algebra.specs.Reader.{Res, ok, pick, rule, unless, body, done, numberOf}
 use Rattle.algebra.specs.Text.{anyZero, text}
 use Rattle.algebra.specs.Faults.{firstOf, faults, faultsFrom}
 use Rattle.algebra.proofs.Tells.{first-zero, first-inv}
-use Rattle.algebra.proofs.Laws.{body-short}
+use Rattle.algebra.proofs.Laws.{body-in, body-short}
 use Rattle.colour.specs.Spaces.{uses, known, allowed, sound}
 use Rattle.colour.proofs.Laws.{allowed-small, sound-inv}
 use Rattle.algebra.specs.Table.{rowAt, rows}
@@ -68,17 +67,15 @@ colour-faults x a b c d = ap (λ (k : ℕ). firstOf (spaceFault x) (firstOf (sam
 
 -- units with no zero, by how they are found and what they are; belongs in algebra
 text-found : (n : ℕ) (s : List ℕ) (at : ℕ) → numberOf (text n s at) ≡ f.nameFault (numberOf (body 2 n s at)) (nums 2 n s at)
-unfolding text body
-text-found n s at = go (leb (n * 2) (length s - at))
+unfolding text
+text-found n s at = elim (decLe (n * 2) (length s - at)) [
+  | yes h ↦ rw (body-in 2 s at n h) (closing (anyZero (nums 2 n s at)))
+  | no h ↦ rw (body-short 2 s at n (lt-of-not-le h))
+]
   where
-    closing : (c : Bool) (us : List ℕ) (q : ℕ) → numberOf (rule (unless (not c) 8) at (ok us q)) ≡ pick c 8 0
-    closing true us q = refl
-    closing false us q = refl
-
-    go : (b : Bool) → numberOf (then (pick b (ok (nums 2 n s at) (at + n * 2)) (refuse 2 at 0 0)) (λ us end. rule (unless (not (anyZero us)) 8) at (ok us end)))
-        ≡ f.nameFault (numberOf {A = List ℕ} (pick b (ok (nums 2 n s at) (at + n * 2)) (refuse 2 at 0 0))) (nums 2 n s at)
-    go true = closing (anyZero (nums 2 n s at)) (nums 2 n s at) (at + n * 2)
-    go false = refl
+    closing : (c : Bool) → numberOf (rule (unless (not c) 8) at (ok (nums 2 n s at) (at + n * 2))) ≡ pick c 8 0
+    closing true = refl
+    closing false = refl
 
 module _ (names : List ℕ) (g : Given) where
   pub name-is : (at : ℕ) (r : Res Unit) → at ≡ g .first → r ≡ done (text (g .units) names at) → numberOf r ≡ nameFault names g
