@@ -15,7 +15,7 @@ use Rattle.algebra.proofs.Places.{length-be, length-bes}
 use Rattle.algebra.proofs.Inverse.{clash, refuse-same, ok-value}
 use Rattle.acb.specs.Grammar.{Colour, none, Ending, tagged, other, Unknown, Book, Space, Swatch, stringBytes, colourBytes, endingBytes, headBytes, fileBytes, File, file}
 use Rattle.acb.specs.Reading.{isSpace, Contents, book, acb, bookOf}
-use Rattle.acb.specs.Faults.{endingFault, EndingFits, bookFault, BookFits}
+use Rattle.acb.specs.Faults.{endingFault, headFault, EndingFits, bookFault, BookFits}
 use Rattle.acb.specs.Damaged.{DamagedNumbers, size-zero, wrong-space, wrong-tag, opened, ending, Damaged, wrong-numbers, wrong-end, untagged}
 use Rattle.acb.proofs.Laws.{space-is, space-components, components-some}
 use Rattle.acb.proofs.Whole.{bytes-file, file-reads, file-writes}
@@ -137,7 +137,7 @@ module _ (b : Book) (f : BookFits b) (short : length (fileBytes b) ≤ limit) wh
       damaged-number (file-ending b v e) (wrong-end (untagged b) (be 8 v ++ []) 3 0 (tested-allowed (untagged b) g z x none refl) (wrong-tag v [] u))
 
   -- size, space and tag in this order
-  number-is : (t u : Bool) (e : Ending) → ltb 0 (b .size) ≡ t → isSpace (b .space) ≡ u → b .tag ≡ e → EndingFits e → numberOf (acb s) ≡ firstOf (pick t 0 5) (firstOf (pick u 0 4) (endingFault e))
+  number-is : (t u : Bool) (e : Ending) → ltb 0 (b .size) ≡ t → isSpace (b .space) ≡ u → b .tag ≡ e → EndingFits e → numberOf (acb s) ≡ firstOf (firstOf (pick t 0 5) (pick u 0 4)) (endingFault e)
   number-is true true (tagged t) z x e g = ap numberOf (file-reads b (tested-allowed b f z x t e) short .1)
   number-is true true (other v) z x e g = other-number v e g z x
   number-is true false e z x i g = space-number (ltb-true 0 (b .size) z) x
@@ -145,14 +145,14 @@ module _ (b : Book) (f : BookFits b) (short : length (fileBytes b) ≤ limit) wh
 
 -- of a book that fits its fields, the reader refuses what was written by the number of its first fault, and accepts it where it has none
 pub written-number : (b : Book) → BookFits b → numberOf (acb (fileBytes b)) ≡ pick (leb (length (fileBytes b)) limit) (bookFault b) 1
-unfolding acb bookFault
+unfolding acb bookFault headFault
 written-number b fits = go (leb (length (fileBytes b)) limit) refl
   where
     s : List ℕ
     s = fileBytes b
 
-    go : (t : Bool) → leb (length s) limit ≡ t → numberOf (pick t (book s 0) (refuse 1 0 0 0)) ≡ pick t (firstOf (pick (ltb 0 (b .size)) 0 5) (firstOf (pick (isSpace (b .space)) 0 4) (endingFault (b .tag)))) 1
-    go true e = let short : length s ≤ limit = leb-true (length s) limit e in ap numberOf (whole s short) ∙ number-is b fits short (ltb 0 (b .size)) (isSpace (b .space)) (b .tag) refl refl refl (fits .tag)
+    go : (t : Bool) → leb (length s) limit ≡ t → numberOf (pick t (book s 0) (refuse 1 0 0 0)) ≡ pick t (bookFault b) 1
+    go true e = let short : length s ≤ limit = leb-true (length s) limit e in ap numberOf (whole s short) ∙ number-is b fits short (ltb 0 (b .size)) (isSpace (b .space)) (b .tag) refl refl refl (fits .tag) ∙ sym (rw (le-leb (length (b .colours)) 65535 (omega (arith, fits .count))))
     go false e = refl
 
 -- a book that fits its fields and has no fault is written as a file of the grammar, so that it reads back

@@ -1,7 +1,7 @@
 -- The first fault of a book that is written, by its number of the refusal table; 0 is none.
 use Prim.Native.Nat.{ℕ, _^_, _<_}
 use mathlib.Core.Path.{_≡_}
-use lib.Dec.{ltb}
+use lib.Dec.{leb, ltb}
 use lib.ListN.{length}
 use Rattle.algebra.specs.Numbers.{All}
 use Rattle.algebra.specs.Reader.{pick}
@@ -14,9 +14,13 @@ abbrev pub endingFault : Ending → ℕ
 endingFault (tagged t) = 0
 endingFault (other v) = 3
 
--- page size 0 is 5, an unknown space 4, and last another tag; all else that fits its field is allowed
+-- a header before n records, its strings found with the fault x, 0 where they are values: more records than 16 bits count are 5, page size 0 is 5, an unknown space 4
+unfoldable pub headFault : ℕ → ℕ → ℕ → ℕ → ℕ
+headFault x n size space = firstOf x (firstOf (pick (leb n 65535) 0 5) (firstOf (pick (ltb 0 size) 0 5) (pick (isSpace space) 0 4)))
+
+-- a book as a value: its header, and last another tag; all else that fits its field is allowed
 unfoldable pub bookFault : Book → ℕ
-bookFault b = firstOf (pick (ltb 0 (b .size)) 0 5) (firstOf (pick (isSpace (b .space)) 0 4) (endingFault (b .tag)))
+bookFault b = firstOf (headFault 0 (length (b .colours)) (b .size) (b .space)) (endingFault (b .tag))
 
 abbrev pub EndingFits : Ending → Type 0
 EndingFits (tagged t) = Unit

@@ -1,13 +1,12 @@
 -- Which fault is found first, and how long the file is, on plain values. Assumes nothing.
 use Rattle.algebra.proofs.Table.{whole-in}
 use Rattle.algebra.proofs.Counted.{counted-end, counted-start, counted-turn}
-use Prim.Native.Nat.{ℕ, zero, suc, _+_, _*_, _-_, _/_, _≤_, _<_}
-use mathlib.Core.Path.{_≡_, refl, sym, ap, _∙_, subst}
+use Prim.Native.Nat.{ℕ, zero, suc, _+_, _*_, _-_, _≤_, _<_}
+use mathlib.Core.Path.{_≡_, refl, sym, ap, ap₂, _∙_, subst}
 use mathlib.Core.List.{List, [], _∷_}
-use mathlib.Core.Bool.{Bool}
 use lib.Dec.{leb, ltb}
 use lib.ListN.{length, getD, take}
-use borrow.Author.Tests.{eq-eqb, ne-eqb, le-leb, lt-leb, leb-true, lt-ltb, le-ltb}
+use borrow.Author.Tests.{eq-eqb, ne-eqb, le-leb, lt-leb, leb-true, lt-ltb}
 use native.Mathlib.Omega.{arith}
 use native.Mathlib.Nat.{add-zero, lt-of-not-le}
 use native.Mathlib.Decide.{ℕ-discrete, decLe}
@@ -17,6 +16,8 @@ use Rattle.algebra.proofs.Laws.{body-in, body-short}
 use Rattle.algebra.proofs.Tells.{first-inv, pick-none}
 use Rattle.algebra.proofs.Firsts.{hit, pass}
 use Rattle.acb.specs.Reading.{isSpace}
+use Rattle.acb.specs.Faults as f
+use Rattle.acb.proofs.Faultless.{page-first}
 use Rattle.acb_judge.specs.Answer.{Shown}
 use Rattle.acb_records.specs.Writing.{componentsIn, sizes, stringSize, sizeIn, textFault, byteFault, headFault, colourFault}
 use Rattle.algebra.specs.Table.{rowAt, rows}
@@ -101,12 +102,12 @@ module _ (text : List ℕ) (l : ℕ × ℕ) where
 
 module _ (text : List ℕ) (h : Shown) (count x : ℕ) (e : x ≡ faults (textFault text) (h .texts)) where
   pub head-text : (x ≡ 0 → ⊥) → x ≡ headFault text h count
-  unfolding headFault
+  unfolding f.headFault
   head-text z = hit x _ _ e z
 
   module _ (z : x ≡ 0) where
     behind : (r : ℕ) → r ≡ firstOf (pick (leb count 65535) 0 5) (firstOf (pick (ltb 0 (h .size)) 0 5) (pick (isSpace (h .space)) 0 4)) → r ≡ headFault text h count
-    unfolding headFault
+    unfolding f.headFault
     behind r w = pass r (faults (textFault text) (h .texts)) _ x e z w
 
     pub head-many : 65535 < count → 5 ≡ headFault text h count
@@ -114,14 +115,14 @@ module _ (text : List ℕ) (h : Shown) (count x : ℕ) (e : x ≡ faults (textFa
 
     module _ (few : count ≤ 65535) where
       pub head-page : h .size ≡ 0 → 5 ≡ headFault text h count
-      head-page k = behind 5 (sym (rw (le-leb count 65535 few, k)))
+      head-page k = sym (ap₂ (λ (y s : ℕ). f.headFault y count s (h .space)) (sym e ∙ z) k ∙ page-first count (h .space) few)
 
       pub head-space : (h .size ≡ 0 → ⊥) → (r : ℕ) → r ≡ pick (isSpace (h .space)) 0 4 → r ≡ headFault text h count
       head-space k r w = behind r (w ∙ sym (rw (le-leb count 65535 few, lt-ltb 0 (h .size) (omega arith))))
 
 -- a header without a fault: its strings have none, and its count fits
 pub head-fine : (text : List ℕ) (h : Shown) (count : ℕ) → headFault text h count ≡ 0 → (faults (textFault text) (h .texts) ≡ 0) × (count ≤ 65535)
-unfolding headFault
+unfolding f.headFault
 head-fine text h count e =
     let a = first-inv (faults (textFault text) (h .texts)) _ e in
     let b = first-inv (pick (leb count 65535) 0 5) _ (a .1) in

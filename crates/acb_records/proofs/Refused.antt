@@ -12,6 +12,7 @@ use Rattle.algebra.proofs.Numbered.{Fault, no-fault, pick-fault, first-fault, f
 use Rattle.acb.specs.Grammar.{Ending, tagged, other, fileBytes}
 use Rattle.acb.specs.Reading.{isSpace, componentsOf}
 use Rattle.acb.specs.Faults.{endingFault}
+use Rattle.acb.specs.Faults as f
 use Rattle.acb_judge.specs.Answer.{Shown}
 use Rattle.acb_records.specs.Refusals.{refusals}
 use Rattle.acb_records.specs.Writing.{componentsIn, bookIn, size, textFault, headFault, byteFault, colourFault, fault, needed, written}
@@ -21,7 +22,7 @@ text-numbered : (text : List ℕ) (l : ℕ × ℕ) → Fault refusals (textFault
 text-numbered text l = body-fault (among refl) 2 (l .1) text (l .0)
 
 head-numbered : (text : List ℕ) (h : Shown) (count : ℕ) → Fault refusals (headFault text h count)
-unfolding headFault
+unfolding f.headFault
 head-numbered text h count =
     first-fault (faults (textFault text) (h .texts)) _ (faults-fault (textFault text) (text-numbered text) (h .texts))
     (first-fault _ _ (pick-fault (leb count 65535) no-fault (among refl))

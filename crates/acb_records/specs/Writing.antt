@@ -2,15 +2,16 @@
 use Prim.Native.Nat.{ℕ, _+_, _*_}
 use mathlib.Core.List.{List, [], _∷_, map}
 use lib.ListN.{length, take}
-use lib.Dec.{leb, ltb}
+use lib.Dec.{leb}
 use Rattle.algebra.specs.Numbers.{nums}
 use Rattle.algebra.specs.Reader.{pick, body, numberOf, limit}
 use Rattle.algebra.specs.Faults.{firstOf, faults}
 use Rattle.algebra.specs.Writing.{Outcome, needs, writes}
 use Rattle.acb.specs.Grammar.{Colour, Tag, none, spot, process, Ending, tagged, other, Book, fileBytes}
-use Rattle.acb.specs.Reading.{isSpace, componentsOf}
+use Rattle.acb.specs.Reading.{componentsOf}
 use Rattle.acb.specs.Row.{Given}
 use Rattle.acb.specs.Faults.{endingFault}
+use Rattle.acb.specs.Faults as f
 use Rattle.acb_judge.specs.Answer.{Shown}
 
 -- ---- the book that is given: a spare component is no part of it
@@ -76,13 +77,9 @@ size h t gs = headSize h + sizes (sizeIn (componentsOf (h .space))) gs + endingS
 abbrev pub textFault : List ℕ → ℕ × ℕ → ℕ
 textFault text l = numberOf (body 2 (l .1) text (l .0))
 
--- strings, number of records, page size, space
-unfoldable pub headFault : List ℕ → Shown → ℕ → ℕ
-headFault text h count =
-    firstOf (faults (textFault text) (h .texts))
-    (firstOf (pick (leb count 65535) 0 5)
-    (firstOf (pick (ltb 0 (h .size)) 0 5)
-    (pick (isSpace (h .space)) 0 4)))
+-- the header before so many records
+abbrev pub headFault : List ℕ → Shown → ℕ → ℕ
+headFault text h count = f.headFault (faults (textFault text) (h .texts)) count (h .size) (h .space)
 
 -- a number that a byte cannot hold is 5
 abbrev pub byteFault : ℕ → ℕ

@@ -1,11 +1,11 @@
 -- A given book that fits: its length and its first fault are those of the book that is written. Assumes nothing.
-use Prim.Native.Nat.{ℕ, zero, suc, _+_, _*_, _-_, _^_, _≤_, _<_}
-use mathlib.Core.Path.{_≡_, refl, sym, ap₂, _∙_, subst}
+use Prim.Native.Nat.{ℕ, _+_, _*_, _-_, _^_, _≤_, _<_}
+use mathlib.Core.Path.{_≡_, sym, ap₂, _∙_, subst}
 use mathlib.Core.List.{List, [], _∷_}
-use lib.Dec.{leb, ltb}
+use lib.Dec.{leb}
 use lib.ListN.{length}
 use lib.Seq.{length-take-le}
-use borrow.Author.Tests.{leb-true, le-leb, ne-eqb}
+use borrow.Author.Tests.{leb-true, le-leb}
 use native.Mathlib.Omega.{arith}
 use native.Mathlib.Nat.{lt-of-not-le}
 use native.Mathlib.Decide.{ℕ-discrete, decLe}
@@ -17,12 +17,13 @@ use Rattle.algebra.proofs.Exact.{all-map, all-both, length-map}
 use Rattle.algebra.proofs.Tells.{first-none, first-inv, pick-none, faults-inv, faults-none, faults-from}
 use Rattle.algebra.proofs.Firsts.{test-holds, all-image}
 use Rattle.acb.specs.Grammar.{Ending, tagged, other, String, Swatch}
-use Rattle.acb.specs.Reading.{isSpace, componentsOf}
+use Rattle.acb.specs.Reading.{componentsOf}
 use Rattle.acb_judge.specs.Answer.{Shown}
+use Rattle.acb.specs.Faults as a
 use Rattle.acb.specs.Faults.{endingFault, EndingFits, bookFault, BookFits}
 use Rattle.acb_records.specs.Writing.{unitsIn, componentsIn, colourIn, bookIn, sizes, stringSize, sizeIn, size, textFault, byteFault, headFault, colourFault, fault}
 use Rattle.acb.specs.Row.{Given}
-use Rattle.acb_records.proofs.Judging.{text-in, text-cut}
+use Rattle.acb_records.proofs.Judging.{text-in, text-cut, head-fine}
 use Rattle.acb.proofs.Laws.{components-some}
 use Rattle.acb_write.proofs.Puts.{Shaped, length-file}
 use Rattle.acb_roundtrip.specs.Tie.{Headed, made, TextFitting, Fitting, BookFitting}
@@ -53,10 +54,6 @@ none-bytes : (l : List ℕ) → faults byteFault l ≡ 0 → All (λ i b. b < 25
 none-bytes l e = all-map (λ i b. byteFault b ≡ 0) (λ i b. b < 256) (λ i b k. byte-small b k) 0 l (none-all byteFault l e)
 
 -- ---- the tag
-
-first-assoc : (a b c : ℕ) → firstOf (firstOf a b) c ≡ firstOf a (firstOf b c)
-first-assoc zero b c = refl
-first-assoc (suc a) b c = simp (ne-eqb (suc a) 0 (λ z. omega arith))
 
 ending-fits : (t : Ending) → endingFault t ≡ 0 → EndingFits t
 ending-fits (tagged t) e = tt
@@ -138,40 +135,31 @@ module _ (text : List ℕ) (h : Shown) (t : Ending) (gs : List Given) where
 
     -- the writer's first fault is that of the book
     pub fault-same : fault text h t gs ≡ pick (leb (length (made text h t gs)) limit) (bookFault (bookIn text h t gs)) 1
-    unfolding fault headFault bookFault
+    unfolding fault bookFault
     fault-same =
         let m : ℕ = componentsOf (h .space) in
-        let page : ℕ = pick (ltb 0 (h .size)) 0 5 in
-        let hue : ℕ = pick (isSpace (h .space)) 0 4 in
-        let own : ℕ = firstOf page hue in
         let ts : faults (textFault text) (h .texts) ≡ 0 = all-none (textFault text) (h .texts) (all-map (λ k l. TextFitting text l) (λ k l. textFault text l ≡ 0) (λ k l r. text-sound text l r) 0 (h .texts) (f .strings)) in
         let rs : faults (colourFault text m) gs ≡ 0 = all-none (colourFault text m) gs (all-map (λ k g. Fitting text m g) (λ k g. colourFault text m g ≡ 0) (λ k g r. record-sound text m g r) 0 gs (f .records)) in
-        let hd : firstOf (faults (textFault text) (h .texts)) (firstOf (pick (leb (length gs) 65535) 0 5) own) ≡ own = first-none (faults (textFault text) (h .texts)) (firstOf (pick (leb (length gs) 65535) 0 5) own) ts ∙ first-none (pick (leb (length gs) 65535) 0 5) own count-sound in
-        let all : firstOf (firstOf (faults (textFault text) (h .texts)) (firstOf (pick (leb (length gs) 65535) 0 5) own)) (firstOf (faults (colourFault text m) gs) (endingFault t)) ≡ firstOf page (firstOf hue (endingFault t)) =
-        ap₂ (λ (x y : ℕ). firstOf x y) hd (first-none (faults (colourFault text m) gs) (endingFault t) rs) ∙ first-assoc page hue (endingFault t) in
-        ap₂ (λ (k x : ℕ). pick (leb k limit) x 1) (sym length-made) all
-      where
-        count-sound : _≡_ {A = ℕ} (pick (leb (length gs) 65535) 0 5) 0
-        count-sound = rw (le-leb (length gs) 65535 (omega (arith, f .count)))
+        ap₂ (λ (k x : ℕ). pick (leb k limit) x 1) (sym length-made)
+        (ap₂ (λ (x y : ℕ). firstOf x y) (ap₂ (λ (x n : ℕ). a.headFault x n (h .size) (h .space)) ts (sym (length-map (colourIn text m) gs))) (first-none (faults (colourFault text m) gs) (endingFault t) rs))
 
   -- a book without a fault fits
   pub faultless-fit : Headed h → All (λ k g. Shaped g) 0 gs → fault text h t gs ≡ 0 → BookFitting text h t gs
-  unfolding fault headFault
+  unfolding fault
   faultless-fit hd s e =
       let m : ℕ = componentsOf (h .space) in
       let x = test-holds (leb (size h t gs) limit) _ 1 (omega arith) e in
       let short : size h t gs ≤ limit = leb-true (size h t gs) limit (x .0) in
       let a = first-inv _ (firstOf (faults (colourFault text m) gs) (endingFault t)) (x .1) in
       let y = first-inv (faults (colourFault text m) gs) (endingFault t) (a .1) in
-      let z = first-inv (faults (textFault text) (h .texts)) _ (a .0) in
-      let c = first-inv (pick (leb (length gs) 65535) 0 5) _ (z .1) in
+      let z = head-fine text h (length gs) (a .0) in
       let P : ℕ → ℕ × ℕ → Type 0 = λ k l. (textFault text l ≡ 0) × (stringSize l ≤ limit) in
       let Q : ℕ → Given → Type 0 = λ k g. Shaped g × ((colourFault text m g ≡ 0) × (sizeIn m g ≤ limit)) in
       record {
         headed = hd;
         strings = all-map P (λ k l. TextFitting text l) (λ k l r. sound-text text l (r .0) (r .1)) 0 (h .texts)
             (all-both (λ k l. textFault text l ≡ 0) (λ k l. stringSize l ≤ limit) 0 (h .texts) (none-all (textFault text) (h .texts) (z .0)) (sizes-each stringSize limit 0 (h .texts) (omega arith)));
-        count = omega (arith, leb-true (length gs) 65535 (pick-none (leb (length gs) 65535) 5 (omega arith) (c .0)));
+        count = omega (arith, z .1);
         records = all-map Q (λ k g. Fitting text m g) (λ k g r. sound-record text m g (r .0) (r .1 .0) (r .1 .1)) 0 gs
             (all-both (λ k g. Shaped g) (λ k g. (colourFault text m g ≡ 0) × (sizeIn m g ≤ limit)) 0 gs s
             (all-both (λ k g. colourFault text m g ≡ 0) (λ k g. sizeIn m g ≤ limit) 0 gs (none-all (colourFault text m) gs (y .0)) (sizes-each (sizeIn m) limit 0 gs (omega arith))));

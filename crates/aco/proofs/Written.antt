@@ -21,11 +21,15 @@ use Rattle.colour.specs.declared.space.Colour.{Colour}
 use Rattle.colour.specs.Spaces.{known, allowed}
 use Rattle.aco.specs.Grammar.{Swatch, colourBytes, entryBytes, listOne, listTwo, twoLists}
 use Rattle.aco.specs.Reading.{space, sample, samples, colour, heading, entry, black, second, after, lists, version, firstCount, secondCount}
-use Rattle.aco.specs.Faults.{sampleFault, fieldsFault, colourFault, nameFault, paletteFault, Fits}
+use Rattle.aco.specs.Faults.{sampleFault, fieldsFault, colourFault, nameFault, swatchesFault, paletteFault, Fits}
 use Rattle.aco.proofs.Fine.{version-fine, second-fine}
 use Rattle.aco.proofs.Raw.{colour-inv}
 use Rattle.aco.proofs.Laws.{hue, paint, mix, label, titled, Sized, twins-exact}
 use Rattle.aco.proofs.Whole.{hues-bytes, hue-at, length-two}
+
+-- the fault of a swatch's name as a value
+abbrev pub ownName : Swatch → ℕ
+ownName w = nameFault 0 (w .name)
 
 -- ---- a colour
 
@@ -62,23 +66,23 @@ module _ (s : List ℕ) where
   -- ---- a record of list 2
 
   module _ (bytes : Bytes s) where
-    named-tells : (c : Colour) → Tells s (name 4 >>= (λ nm. give (titled c nm))) (λ (w : Swatch). (length (w .name) + 1 < 256 ^ 4) × All (λ k u. u < 256 ^ 2) 0 (w .name)) (λ w. nameBytes 4 (w .name)) nameFault
+    named-tells : (c : Colour) → Tells s (name 4 >>= (λ nm. give (titled c nm))) (λ (w : Swatch). (length (w .name) + 1 < 256 ^ 4) × All (λ k u. u < 256 ^ 2) 0 (w .name)) (λ w. nameBytes 4 (w .name)) ownName
     named-tells c =
         same-tells
         (bind-tells {k = λ nm. give (titled c nm)} {FitsD = λ (w : Swatch). Unit {0}} {rest = λ w. []} {g = λ w. 0} (λ w. w .name) (name-tells s 4) (name-gives s 4)
         (λ nm. same-tells (give-tells s (titled c nm)) (λ (w : Swatch). Unit {0} × (w .name ≡ nm .units)) (λ w. []) (λ w. 0) (λ w h. tt) (λ w h. refl) (λ w h. refl)))
-        (λ w. (length (w .name) + 1 < 256 ^ 4) × All (λ k u. u < 256 ^ 2) 0 (w .name)) (λ w. nameBytes 4 (w .name)) nameFault
-        (λ w h. (h, tt)) (λ w h. append-nil (nameBytes 4 (w .name))) (λ w h. first-zero (nameFault w))
+        (λ w. (length (w .name) + 1 < 256 ^ 4) × All (λ k u. u < 256 ^ 2) 0 (w .name)) (λ w. nameBytes 4 (w .name)) ownName
+        (λ w h. (h, tt)) (λ w h. append-nil (nameBytes 4 (w .name))) (λ w h. first-zero (ownName w))
 
-    entry-tells : (i : ℕ) (c : Colour) → Sized c → Tells s (entry i c) (λ w. (hue w ≡ c) × Fits w) entryBytes nameFault
+    entry-tells : (i : ℕ) (c : Colour) → Sized c → Tells s (entry i c) (λ w. (hue w ≡ c) × Fits w) entryBytes ownName
     unfolding entry entryBytes colourBytes
     entry-tells i c fit =
         same-tells
         (bind-tells {k = λ vs. name 4 >>= (λ nm. give (titled c nm))} {FitsD = λ w. (length (w .name) + 1 < 256 ^ 4) × All (λ k u. u < 256 ^ 2) 0 (w .name)} (λ w. tt {0})
         (exact-tells (twins-exact s bytes i c fit)) (exact-gives (twins-exact s bytes i c fit))
-        (λ vs. same-tells (named-tells c) (λ w. ((length (w .name) + 1 < 256 ^ 4) × All (λ k u. u < 256 ^ 2) 0 (w .name)) × (tt {0} ≡ tt)) (λ w. nameBytes 4 (w .name)) nameFault (λ w h. h .0) (λ w h. refl) (λ w h. refl)))
-        (λ w. (hue w ≡ c) × Fits w) entryBytes nameFault (λ w h. (tt, (h .1 .counted, h .1 .units)))
-        (λ w h. ap (λ (y : Colour). paint y ++ nameBytes 4 (w .name)) (sym (h .0))) (λ w h. first-none 0 (nameFault w) refl)
+        (λ vs. same-tells (named-tells c) (λ w. ((length (w .name) + 1 < 256 ^ 4) × All (λ k u. u < 256 ^ 2) 0 (w .name)) × (tt {0} ≡ tt)) (λ w. nameBytes 4 (w .name)) ownName (λ w h. h .0) (λ w h. refl) (λ w h. refl)))
+        (λ w. (hue w ≡ c) × Fits w) entryBytes ownName (λ w h. (tt, (h .1 .counted, h .1 .units)))
+        (λ w h. ap (λ (y : Colour). paint y ++ nameBytes 4 (w .name)) (sym (h .0))) (λ w h. first-none 0 (ownName w) refl)
 
 -- ---- a whole file
 
@@ -111,7 +115,7 @@ heading-passes s v n lv ln count at more h =
     (rw x (rw (field-in 2 s (at + 2) (omega arith)) (rw (num-be s 2 (at + 2) n ln (at-left s (at + 2) (be 2 n) more h2)) (rw four))), at-after s (at + 2) (be 2 n) more (at + 4) two h2)
 
 module _ (s : List ℕ) (bytes : Bytes s) (ws : List Swatch) (few : length ws < 256 ^ 2) (fits : All (λ k w. Fits w) 0 ws) where
-  second-outcome : (q : ℕ) → At s q (listTwo ws) → q + length (listTwo ws) ≡ length s → Outcome (second (map hue ws) s q) (faults nameFault ws) (length s)
+  second-outcome : (q : ℕ) → At s q (listTwo ws) → q + length (listTwo ws) ≡ length s → Outcome (second (map hue ws) s q) (faults ownName ws) (length s)
   unfolding second listTwo ended
   second-outcome q h end =
       let n : ℕ = length ws in
@@ -125,11 +129,11 @@ module _ (s : List ℕ) (bytes : Bytes s) (ws : List Swatch) (few : length ws < 
       let fit : All Ok 0 ws =
       all-by Ok (label black []) 0 ws (λ k g. (sym (hue-at ws k) ∙ ap (λ (i : ℕ). getD cs i black) (sym (zero-add k)), all-at (λ k w. Fits w) (label black []) 0 ws fits k g)) in
       let z : q + 4 + length l ≡ length s = omega (arith, length-append (be 2 2) (be 2 n ++ l), length-append (be 2 n) l, length-be 2 2, length-be 2 n) in
-      let y = outcome (each-tells {p = λ i. entry i (getD cs i black)} {Fits = Ok} {f = λ i. nameFault} (λ i. entry-tells s bytes i (getD cs i black) (sized-at 0 ws fits i)) (length cs) 0) (q + 4) ws (sym len, fit) (x .1) in
-      let y2 : Outcome (each (length cs) 0 (λ i. entry i (getD cs i black)) s (q + 4)) (faults nameFault ws) (length s) = subst₂ (λ (a b : ℕ). Outcome (each (length cs) 0 (λ i. entry i (getD cs i black)) s (q + 4)) a b) (faults-from nameFault 0 ws) z y in
-      rw hd (outcome-fault _ _ _ (length s) (first-zero (faults nameFault ws)) (outcome-then _ _ (faults nameFault ws) 0 (length s) (length s) y2 (λ es e. rw (eq-eqb (length s) (length s) refl) (good (record { lists = 2; records = es }) refl refl))))
+      let y = outcome (each-tells {p = λ i. entry i (getD cs i black)} {Fits = Ok} {f = λ i. ownName} (λ i. entry-tells s bytes i (getD cs i black) (sized-at 0 ws fits i)) (length cs) 0) (q + 4) ws (sym len, fit) (x .1) in
+      let y2 : Outcome (each (length cs) 0 (λ i. entry i (getD cs i black)) s (q + 4)) (faults ownName ws) (length s) = subst₂ (λ (a b : ℕ). Outcome (each (length cs) 0 (λ i. entry i (getD cs i black)) s (q + 4)) a b) (faults-from ownName 0 ws) z y in
+      rw hd (outcome-fault _ _ _ (length s) (first-zero (faults ownName ws)) (outcome-then _ _ (faults ownName ws) 0 (length s) (length s) y2 (λ es e. rw (eq-eqb (length s) (length s) refl) (good (record { lists = 2; records = es }) refl refl))))
 
-  after-outcome : (q : ℕ) → At s q (listTwo ws) → q + length (listTwo ws) ≡ length s → Outcome (after (map hue ws) s q) (faults nameFault ws) (length s)
+  after-outcome : (q : ℕ) → At s q (listTwo ws) → q + length (listTwo ws) ≡ length s → Outcome (after (map hue ws) s q) (faults ownName ws) (length s)
   unfolding after
   after-outcome q h end = let ne : q ≡ length s → ⊥ = λ z. omega (arith, length-two ws) in rw (ne-eqb q (length s) ne) (second-outcome q h end)
 
@@ -149,7 +153,7 @@ module _ (s : List ℕ) (bytes : Bytes s) (ws : List Swatch) (few : length ws < 
 
   -- the first fault is the count's, then the colours', then the names'
   pub lists-outcome : At s 0 (twoLists ws) → length (twoLists ws) ≡ length s → Outcome (lists s 0) (paletteFault ws) (length s)
-  unfolding lists twoLists listOne paletteFault
+  unfolding lists twoLists listOne swatchesFault
   lists-outcome h len =
       let n : ℕ = length ws in
       let l : List ℕ = joined colourBytes ws in
@@ -161,8 +165,8 @@ module _ (s : List ℕ) (bytes : Bytes s) (ws : List Swatch) (few : length ws < 
       let end : q + length (listTwo ws) ≡ length s = omega (arith, length-append first (listTwo ws)) in
       let h2 : At s q (listTwo ws) = at-after s 0 first (listTwo ws) q (zero-add (length first) ∙ sym ql) h in
       let hd : Outcome (heading 1 j s 0) (pick (leb n 4096) 0 5) 4 = rw (x .0) (outcome-fault _ _ _ 4 (unless-found (leb n 4096) 5) (outcome-rule (j n) 2 n 4 (unless-sure (leb n 4096) 5 (omega arith)))) in
-      outcome-then (heading 1 j s 0) (λ m at. then (each m 0 (λ i. colour) s at) (λ cs r. after cs s r)) (pick (leb n 4096) 0 5) (firstOf (faults colourFault ws) (faults nameFault ws)) 4 (length s) hd (λ m e.
+      outcome-then (heading 1 j s 0) (λ m at. then (each m 0 (λ i. colour) s at) (λ cs r. after cs s r)) (pick (leb n 4096) 0 5) (firstOf (faults colourFault ws) (faults ownName ws)) 4 (length s) hd (λ m e.
       let same : n ≡ m = ok-value (rule-inv (j n) 2 (ok n 4) (sym (x .0) ∙ e) .1) in
-      subst (λ (m : ℕ). Outcome (then (each m 0 (λ i. colour) s 4) (λ cs r. after cs s r)) (firstOf (faults colourFault ws) (faults nameFault ws)) (length s)) same
-      (outcome-then (each n 0 (λ i. colour) s 4) (λ cs r. after cs s r) (faults colourFault ws) (faults nameFault ws) q (length s) (colours-outcome 4 (x .1)) (λ cs e2.
-      subst (λ (z : List Colour). Outcome (after z s q) (faults nameFault ws) (length s)) (sym (colours-read 4 (x .1) cs q e2)) (after-outcome q h2 end))))
+      subst (λ (m : ℕ). Outcome (then (each m 0 (λ i. colour) s 4) (λ cs r. after cs s r)) (firstOf (faults colourFault ws) (faults ownName ws)) (length s)) same
+      (outcome-then (each n 0 (λ i. colour) s 4) (λ cs r. after cs s r) (faults colourFault ws) (faults ownName ws) q (length s) (colours-outcome 4 (x .1)) (λ cs e2.
+      subst (λ (z : List Colour). Outcome (after z s q) (faults ownName ws) (length s)) (sym (colours-read 4 (x .1) cs q e2)) (after-outcome q h2 end))))

@@ -1,4 +1,4 @@
--- The first fault of swatches that are written, by its number of the refusal table; 0 is none.
+-- The first fault of swatches that are written, given or as values, by its number of the refusal table; 0 is none.
 use Prim.Native.Nat.{ℕ, _+_, _^_, _<_}
 use mathlib.Core.Path.{_≡_}
 use mathlib.Core.List.{List}
@@ -26,13 +26,19 @@ fieldsFault x vs = firstOf (spaceFault x) (faultsFrom (sampleFault x) 0 vs)
 abbrev pub colourFault : Swatch → ℕ
 colourFault w = fieldsFault (w .space) (w .samples)
 
--- a name with a zero unit is 8
-abbrev pub nameFault : Swatch → ℕ
-nameFault w = pick (anyZero (w .name)) 8 0
+-- a name that was found with the fault x, 0 where it is a value: x first, then a zero unit is 8
+abbrev pub nameFault : ℕ → List ℕ → ℕ
+nameFault x us = firstOf x (pick (anyZero us) 8 0)
 
--- a palette: too many colours are 5, then its colours, then its names
-unfoldable pub paletteFault : List Swatch → ℕ
-paletteFault ws = firstOf (pick (leb (length ws) 4096) 0 5) (firstOf (faults colourFault ws) (faults nameFault ws))
+-- too many colours are 5, then the colours, then the names; each swatch is what `swatch` makes of it, its name found as `found` says
+unfoldable pub swatchesFault : {A : Type 0} → (A → ℕ) → (A → Swatch) → List A → ℕ
+swatchesFault found swatch l =
+    firstOf (pick (leb (length l) 4096) 0 5)
+    (firstOf (faults (λ a. colourFault (swatch a)) l) (faults (λ a. nameFault (found a) (swatch a .name)) l))
+
+-- a palette of swatches as values
+abbrev pub paletteFault : List Swatch → ℕ
+paletteFault ws = swatchesFault (λ w. 0) (λ w. w) ws
 
 -- a swatch whose numbers fit their fields, whether or not they are allowed
 pub record Fits (w : Swatch) : Type 0 where

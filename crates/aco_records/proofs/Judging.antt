@@ -1,27 +1,28 @@
 -- Which fault is found first, and how long the file is, on plain values. Assumes nothing.
 use Rattle.algebra.proofs.Counted.{counted-end, counted-start, counted-turn, length-counted, faults-clear}
-use Rattle.algebra.specs.Numbers.{counted}
+use Rattle.algebra.specs.Numbers.{counted, nums}
 use Prim.Native.Nat.{ℕ, zero, suc, _+_, _*_, _-_, _≤_, _<_}
-use mathlib.Core.Path.{_≡_, refl, sym, ap, subst}
+use mathlib.Core.Path.{_≡_, refl, sym, ap, _∙_, subst}
 use mathlib.Core.List.{List, [], _∷_}
-use mathlib.Core.Bool.{Bool, true, false}
+use mathlib.Core.Bool.{Bool, true, false, not}
 use lib.ListN.{length}
 use borrow.Author.Tests.{eq-eqb, ne-eqb}
 use native.Mathlib.Omega.{arith}
 use native.Mathlib.Nat.{lt-of-not-le}
 use native.Mathlib.Decide.{ℕ-discrete, decLe}
-use Rattle.algebra.specs.Reader.{pick}
-use Rattle.algebra.specs.Text.{text}
+use Rattle.algebra.specs.Reader.{Res, ok, pick, rule, unless, body, done, numberOf}
+use Rattle.algebra.specs.Text.{anyZero, text}
 use Rattle.algebra.specs.Faults.{firstOf, faults, faultsFrom}
-use Rattle.algebra.proofs.Tells.{first-zero}
-use Rattle.algebra.proofs.Texts.{text-short}
+use Rattle.algebra.proofs.Tells.{first-zero, first-inv}
+use Rattle.algebra.proofs.Laws.{body-in, body-short}
 use Rattle.colour.specs.Spaces.{uses, known, allowed, sound}
 use Rattle.colour.proofs.Laws.{allowed-small, sound-inv}
 use Rattle.algebra.specs.Table.{rowAt, rows}
 use Rattle.aco.specs.Faults.{spaceFault, sampleFault, fieldsFault}
+use Rattle.aco.specs.Faults as f
 use Rattle.aco.specs.Row.{Given, width, taken}
-use Rattle.aco_records.specs.Writing.{sizes, nameFault}
-use Rattle.aco_records.specs.Parts.{start, EntryFits, EntriesFit}
+use Rattle.aco_records.specs.Writing.{sizes, foundIn}
+use Rattle.aco_records.specs.Parts.{nameFault, start, EntryFits, EntriesFit}
 use Rattle.algebra.proofs.Firsts.{name-number}
 
 -- ---- a colour
@@ -64,18 +65,34 @@ colour-faults x a b c d = ap (λ (k : ℕ). firstOf (spaceFault x) (firstOf (sam
 
 -- ---- a name
 
--- a name without a fault lies in the lent bytes, from where its copy starts
-pub name-inside : (names : List ℕ) (g : Given) → nameFault names g ≡ 0 → start g + 2 * g .units ≤ length names
-name-inside names g e = elim (ℕ-discrete (g .units) 0) [
-  | yes z ↦ rw (eq-eqb (g .units) 0 z) (omega arith)
-  | no z ↦ rw (ne-eqb (g .units) 0 z) (let h = fits in omega arith)
+-- units with no zero, by how they are found and what they are; belongs in algebra
+text-found : (n : ℕ) (s : List ℕ) (at : ℕ) → numberOf (text n s at) ≡ f.nameFault (numberOf (body 2 n s at)) (nums 2 n s at)
+unfolding text
+text-found n s at = elim (decLe (n * 2) (length s - at)) [
+  | yes h ↦ rw (body-in 2 s at n h) (closing (anyZero (nums 2 n s at)))
+  | no h ↦ rw (body-short 2 s at n (lt-of-not-le h))
 ]
   where
-    fits : g .units * 2 ≤ length names - g .first
-    fits = elim (decLe (g .units * 2) (length names - g .first)) [
-      | yes h ↦ h
-      | no h ↦ absurd (omega (arith, name-number (text (g .units) names (g .first)) _ (sym (text-short (g .units) names (g .first) (lt-of-not-le h)))))
-    ]
+    closing : (c : Bool) → numberOf (rule (unless (not c) 8) at (ok (nums 2 n s at) (at + n * 2))) ≡ pick c 8 0
+    closing true = refl
+    closing false = refl
+
+module _ (names : List ℕ) (g : Given) where
+  pub name-is : (at : ℕ) (r : Res Unit) → at ≡ g .first → r ≡ done (text (g .units) names at) → numberOf r ≡ nameFault names g
+  name-is at r a e = name-number (text (g .units) names (g .first)) r (e ∙ ap (λ (k : ℕ). done (text (g .units) names k)) a) ∙ text-found (g .units) names (g .first)
+
+  -- a name without a fault lies in the lent bytes, from where its copy starts
+  pub name-inside : nameFault names g ≡ 0 → start g + 2 * g .units ≤ length names
+  name-inside e = elim (ℕ-discrete (g .units) 0) [
+    | yes z ↦ rw (eq-eqb (g .units) 0 z) (omega arith)
+    | no z ↦ rw (ne-eqb (g .units) 0 z) (let h = fits in omega arith)
+  ]
+    where
+      fits : g .units * 2 ≤ length names - g .first
+      fits = elim (decLe (g .units * 2) (length names - g .first)) [
+        | yes h ↦ h
+        | no h ↦ absurd (omega (arith, first-inv (foundIn names g) _ e .0, ap numberOf (body-short 2 names (g .first) (g .units) (lt-of-not-le h))))
+      ]
 
 -- ---- a loop over the records of a run
 

@@ -9,8 +9,10 @@ use native.Mathlib.Omega.{arith}
 use Rattle.algebra.specs.Reader.{pick, limit}
 use Rattle.algebra.specs.Faults.{firstOf, faults}
 use Rattle.aco.specs.Reading.{most}
+use Rattle.aco.specs.Faults.{swatchesFault}
 use Rattle.aco.specs.Row.{Given}
-use Rattle.aco_records.specs.Writing.{size, colourFault, nameFault, fault, needed}
+use Rattle.aco_records.specs.Writing.{size, fault, needed}
+use Rattle.aco_records.specs.Parts.{colourFault, nameFault}
 use Rattle.algebra.specs.Writing.{bytes, refused}
 use Rattle.algebra.proofs.Tells.{first-inv}
 use Rattle.algebra.proofs.Writing.{needs-no, needs-all, needs-inv}
@@ -28,12 +30,12 @@ module _ (names : List ℕ) (gs : List Given) where
 
   module _ (fits : size gs ≤ limit) where
     pub too-many : most < length gs → refused 5 0 ≡ needed names gs
-    unfolding fault
+    unfolding fault swatchesFault
     too-many h = refusal 5 (simp (le-leb _ _ fits, lt-leb _ _ h)) (λ z. omega arith)
 
     module _ (few : length gs ≤ most) where
       rest : fault names gs ≡ firstOf (faults colourFault gs) (faults (nameFault names) gs)
-      unfolding fault
+      unfolding fault swatchesFault
       rest = simp (le-leb _ _ fits, le-leb _ _ few)
 
       pub bad-colour : (x : ℕ) → x ≡ faults colourFault gs → (x ≡ 0 → ⊥) → refused x 0 ≡ needed names gs
@@ -54,7 +56,7 @@ module _ (names : List ℕ) (gs : List Given) where
   needed-bytes k e = needs-inv (fault names gs) (size gs) k e
 
   pub no-fault : fault names gs ≡ 0 → (size gs ≤ limit) × (length gs ≤ most) × (faults (nameFault names) gs ≡ 0)
-  unfolding fault
+  unfolding fault swatchesFault
   no-fault e =
       let a = test-holds (leb (size gs) limit) _ 1 (omega arith) e in
       let b = first-inv (pick (leb (length gs) most) 0 5) (firstOf (faults colourFault gs) (faults (nameFault names) gs)) (a .1) in

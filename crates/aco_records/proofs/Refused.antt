@@ -5,17 +5,19 @@ use mathlib.Core.List.{List, map, [], _∷_}
 use lib.Dec.{leb}
 use lib.ListN.{length}
 use Rattle.algebra.specs.Reader.{limit}
+use Rattle.algebra.specs.Text.{anyZero}
 use Rattle.algebra.specs.Faults.{faults}
 use Rattle.algebra.specs.Writing.{refused}
 use Rattle.algebra.specs.Refusal.{Of, among}
-use Rattle.algebra.proofs.Numbered.{Fault, no-fault, pick-fault, first-fault, faults-fault, from-fault, text-fault, needs-refused, writes-refused}
+use Rattle.algebra.proofs.Numbered.{Fault, no-fault, pick-fault, first-fault, faults-fault, from-fault, body-fault, needs-refused, writes-refused}
 use Rattle.colour.specs.Spaces.{known, allowed}
 use Rattle.aco.specs.Grammar.{twoLists}
 use Rattle.aco.specs.Reading.{most}
 use Rattle.aco_records.specs.Refusals.{refusals}
-use Rattle.aco.specs.Faults.{spaceFault, sampleFault, fieldsFault}
+use Rattle.aco.specs.Faults.{spaceFault, sampleFault, fieldsFault, swatchesFault}
 use Rattle.aco.specs.Row.{Given}
-use Rattle.aco_records.specs.Writing.{swatchIn, size, colourFault, nameFault, fault, needed, written}
+use Rattle.aco_records.specs.Writing.{swatchIn, size, foundIn, fault, needed, written}
+use Rattle.aco_records.specs.Parts.{colourFault, nameFault}
 
 colour-numbered : (g : Given) → Fault refusals (colourFault g)
 unfolding fieldsFault
@@ -24,11 +26,11 @@ colour-numbered g =
     (from-fault (sampleFault (g .space)) (λ k v. pick-fault (allowed (g .space) k v) no-fault (among refl)) 0 (g .samples))
 
 fault-numbered : (text : List ℕ) (gs : List Given) → Fault refusals (fault text gs)
-unfolding fault
+unfolding fault swatchesFault
 fault-numbered text gs =
     pick-fault (leb (size gs) limit)
     (first-fault _ _ (pick-fault (leb (length gs) most) no-fault (among refl))
-    (first-fault (faults colourFault gs) _ (faults-fault colourFault colour-numbered gs) (faults-fault (nameFault text) (λ g. text-fault (among refl) (among refl) (g .units) text (g .first)) gs)))
+    (first-fault (faults colourFault gs) _ (faults-fault colourFault colour-numbered gs) (faults-fault (nameFault text) (λ g. first-fault (foundIn text g) _ (body-fault (among refl) 2 (g .units) text (g .first)) (pick-fault (anyZero (swatchIn text g .name)) (among refl) no-fault)) gs)))
     (among refl)
 
 -- the length that is needed is refused by one of these numbers

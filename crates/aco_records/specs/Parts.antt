@@ -8,12 +8,21 @@ use Rattle.algebra.specs.Reader.{pick, limit}
 use Rattle.algebra.specs.Faults.{faults}
 use Rattle.colour.specs.declared.space.Colour.{Colour}
 use Rattle.aco.specs.Grammar.{Swatch}
+use Rattle.aco.specs.Faults.{fieldsFault}
+use Rattle.aco.specs.Faults as f
 use Rattle.aco.specs.Row.{Given}
 use Rattle.aco_records.specs.declared.Record.{Record}
-use Rattle.aco_records.specs.Writing.{sizes, nameFault}
+use Rattle.aco_records.specs.Writing.{swatchIn, sizes, foundIn}
 
 abbrev pub toldRecord : Record → Given
 toldRecord r = record { space = r .space; samples = r .a ∷ r .b ∷ r .c ∷ r .d ∷ []; first = r .first; units = r .units }
+
+-- the faults of a record's colour and of its name
+abbrev pub colourFault : Given → ℕ
+colourFault g = fieldsFault (g .space) (g .samples)
+
+abbrev pub nameFault : List ℕ → Given → ℕ
+nameFault names g = f.nameFault (foundIn names g) (swatchIn names g .name)
 
 -- its colour, each number cut to its field
 abbrev pub colourIn : Given → Colour

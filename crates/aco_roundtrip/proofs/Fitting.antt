@@ -1,42 +1,34 @@
 -- Given records that fit: their length and their first fault are those of the swatches that are written. Assumes nothing.
 use Prim.Native.Nat.{ℕ, zero, suc, _+_, _*_, _-_, _^_, _≤_, _<_}
-use mathlib.Core.Path.{_≡_, refl, sym, ap₂, _∙_}
+use mathlib.Core.Path.{_≡_, refl, sym, ap, ap₂, _∙_}
 use mathlib.Core.List.{List, [], _∷_, map}
-use mathlib.Core.Bool.{Bool, true, false}
 use lib.Dec.{leb}
 use lib.ListN.{length, length-append}
 use borrow.Author.Tests.{leb-true, ne-eqb}
 use native.Mathlib.Omega.{arith}
 use native.Mathlib.Nat.{lt-of-not-le}
 use native.Mathlib.Decide.{ℕ-discrete, decLe}
-use Rattle.algebra.specs.Numbers.{counted, joined, Bytes, nums, All}
+use Rattle.algebra.specs.Numbers.{counted, joined, Bytes, All}
 use Rattle.algebra.specs.Reader.{pick, numberOf, limit}
-use Rattle.algebra.specs.Text.{anyZero, text}
 use Rattle.algebra.specs.Faults.{firstOf, faults, faultsFrom}
 use Rattle.algebra.proofs.Places.{length-nums, nums-lt}
 use Rattle.algebra.proofs.Exact.{all-map, all-both, length-map}
 use Rattle.algebra.proofs.Tells.{first-inv, faults-inv, faults-map, faults-from}
-use Rattle.algebra.proofs.Texts.{text-zero, text-fine}
+use Rattle.algebra.proofs.Laws.{body-in}
 use Rattle.aco.specs.Grammar.{Swatch, entryBytes, listOne, listTwo, twoLists}
 use Rattle.aco.specs.Reading.{most}
 use Rattle.aco.specs.Faults.{spaceFault, sampleFault, fieldsFault, paletteFault, Fits}
 use Rattle.aco.specs.Faults as a
+use Rattle.aco.proofs.Written.{ownName}
 use Rattle.aco.proofs.Whole.{length-one, length-two}
 use Rattle.algebra.specs.Table.{rows}
 use Rattle.aco.specs.Row.{Given, width, taken}
-use Rattle.aco_records.specs.Writing.{swatchIn, sizes, size, colourFault, nameFault, fault}
+use Rattle.aco_records.specs.Writing.{swatchIn, sizes, size, foundIn, fault}
+use Rattle.aco_records.specs.Parts.{colourFault, nameFault}
 use Rattle.aco_records.proofs.Judging.{space-small, sample-large, name-inside}
 use Rattle.aco_write.proofs.Puts.{length-entry}
 use Rattle.aco_roundtrip.specs.Tie.{made, Fitting}
-use Rattle.algebra.proofs.Firsts.{all-image, test-holds, name-number}
-
--- ---- values of a list
-
--- values that have the same faults have the same first fault
-faults-same : {A : Type 0} (f g : A → ℕ) (i : ℕ) (l : List A) → All (λ k a. f a ≡ g a) i l → faults f l ≡ faults g l
-unfolding faults
-faults-same f g i [] h = refl
-faults-same f g i (a ∷ l) h = ap₂ (λ (x y : ℕ). firstOf x y) (h .0) (faults-same f g (i + 1) l (h .1))
+use Rattle.algebra.proofs.Firsts.{all-image, faults-same, test-holds}
 
 -- ---- how long the file is
 
@@ -57,18 +49,11 @@ module _ (names : List ℕ) where
   -- ---- a record that fits has the faults of its swatch
 
   module _ (g : Given) (f : Fitting names g) where
-    room : g .units * 2 ≤ length names - g .first
-    room = elim (ℕ-discrete (g .units) 0) [
+    found-none : foundIn names g ≡ 0
+    found-none = ap numberOf (body-in 2 names (g .first) (g .units) (elim (ℕ-discrete (g .units) 0) [
       | yes z ↦ omega arith
       | no z ↦ omega (arith, f .inside (omega arith))
-    ]
-
-    name-same : nameFault names g ≡ a.nameFault (swatchIn names g)
-    name-same = go (anyZero (nums 2 (g .units) names (g .first))) refl
-      where
-        go : (b : Bool) → anyZero (nums 2 (g .units) names (g .first)) ≡ b → numberOf (text (g .units) names (g .first)) ≡ pick b 8 0
-        go true e = sym (name-number (text (g .units) names (g .first)) _ (sym (text-zero (g .units) names (g .first) room e)))
-        go false e = sym (name-number (text (g .units) names (g .first)) _ (sym (text-fine (g .units) names (g .first) _ room e refl)))
+    ]))
 
     -- the swatch fits its fields
     pub swatch-fits : Bytes names → Fits (swatchIn names g)
@@ -89,13 +74,14 @@ module _ (names : List ℕ) where
 
     -- the writer's first fault is that of the swatches
     pub fault-same : fault names gs ≡ pick (leb (length (made names gs)) limit) (paletteFault (map (swatchIn names) gs)) 1
-    unfolding fault paletteFault
+    unfolding fault a.swatchesFault
     fault-same =
         let ws : List Swatch = map (swatchIn names) gs in
         let cs : faults colourFault gs ≡ faults a.colourFault ws = sym (faults-map a.colourFault (swatchIn names) gs) in
-        let ns : faults (nameFault names) gs ≡ faults a.nameFault ws =
-        faults-same (nameFault names) (λ g. a.nameFault (swatchIn names g)) 0 gs (all-map (λ k g. Fitting names g) (λ k g. nameFault names g ≡ a.nameFault (swatchIn names g)) (λ k g f. name-same g f) 0 gs fit)
-        ∙ sym (faults-map a.nameFault (swatchIn names) gs) in
+        let ns : faults (nameFault names) gs ≡ faults ownName ws =
+        faults-same (nameFault names) (λ g. ownName (swatchIn names g)) 0 gs
+        (all-map (λ k g. Fitting names g) (λ k g. nameFault names g ≡ ownName (swatchIn names g)) (λ k g f. ap (λ (x : ℕ). a.nameFault x (swatchIn names g .name)) (found-none g f)) 0 gs fit)
+        ∙ sym (faults-map ownName (swatchIn names) gs) in
         ap₂ (λ (m n : ℕ). pick (leb m limit) n 1) (sym (length-made gs all-four))
         (ap₂ (λ (m n : ℕ). firstOf (pick (leb m 4096) 0 5) n) (sym (length-map (swatchIn names) gs)) (ap₂ (λ (m n : ℕ). firstOf m n) cs ns))
 
@@ -125,7 +111,7 @@ module _ (names : List ℕ) where
   units-short i (g ∷ gs) h = (omega arith, units-short (i + 1) gs (omega arith))
 
   pub faultless-fit : (gs : List Given) → All (λ k g. length (g .samples) ≡ 4) 0 gs → fault names gs ≡ 0 → All (λ k g. Fitting names g) 0 gs
-  unfolding fault
+  unfolding fault a.swatchesFault
   faultless-fit gs four e =
       let x = test-holds (leb (size gs) limit) _ 1 (omega arith) e in
       let y = first-inv (pick (leb (length gs) most) 0 5) (firstOf (faults colourFault gs) (faults (nameFault names) gs)) (x .1) in

@@ -22,8 +22,8 @@ use Rattle.aco.proofs.Whole.{length-colour}
 use Rattle.algebra.specs.Table.{rows}
 use Rattle.aco.specs.Row.{Given, width, taken}
 use Rattle.aco.proofs.Row.{four}
-use Rattle.aco_records.specs.Writing.{swatchIn, sizes, size, nameFault}
-use Rattle.aco_records.specs.Parts.{colourIn, plain, start}
+use Rattle.aco_records.specs.Writing.{swatchIn, sizes, size}
+use Rattle.aco_records.specs.Parts.{nameFault, colourIn, plain, start}
 use Rattle.aco_records.proofs.Judging.{givenAt, name-inside}
 use Rattle.algebra.proofs.Storing.{as-sets, peel}
 

@@ -1,4 +1,4 @@
--- The first fault of blocks that are written, by its number of the refusal table; 0 is none.
+-- The first fault of blocks that are written, given or as values, by its number of the refusal table; 0 is none.
 use Prim.Native.Nat.{ℕ, _+_, _^_, _<_}
 use mathlib.Core.Path.{_≡_}
 use mathlib.Core.List.{List}
@@ -13,28 +13,34 @@ use Rattle.colour.specs.Channels.{allowsBits}
 use Rattle.ase.specs.Grammar.{Block, start, stop, colour, other, Unknown}
 use Rattle.ase.specs.Reading.{deepest, standing}
 
--- a name with a zero unit is 8
-abbrev pub nameFault : List ℕ → ℕ
-nameFault us = pick (anyZero us) 8 0
+-- a name that was found with the fault x, 0 where it is a value: x first, then a zero unit is 8
+abbrev pub nameFault : ℕ → List ℕ → ℕ
+nameFault x us = firstOf x (pick (anyZero us) 8 0)
 
 -- a channel that the model does not allow is 5
 abbrev pub channelFault : ℕ → ℕ → ℕ
 channelFault t b = pick (allowsBits t b) 0 5
 
--- name, model, channels, type
-abbrev pub colourFault : List ℕ → ℕ → List ℕ → ℕ → ℕ
-colourFault us t bs k = firstOf (nameFault us) (firstOf (pick (isModel t) 0 4) (firstOf (faultsFrom (λ i. channelFault t) 0 bs) (pick (leb k 2) 0 5)))
+-- a colour behind its name: model, channels, type
+unfoldable pub shadeFault : ℕ → List ℕ → ℕ → ℕ
+shadeFault t bs k = firstOf (pick (isModel t) 0 4) (firstOf (faultsFrom (λ i b. channelFault t b) 0 bs) (pick (leb k 2) 0 5))
 
--- a block, where d groups stand open; an unknown type is 4
-unfoldable pub blockFault : ℕ → Block → ℕ
-blockFault d (start us) = firstOf (pick (ltb d deepest) 0 10) (nameFault us)
-blockFault d stop = pick (ltb 0 d) 0 9
-blockFault d (colour us t bs k) = colourFault us t bs k
-blockFault d (other t) = 4
+-- a block whose name was found with the fault x, where d groups stand open; an unknown type is 4
+unfoldable pub blockFault : ℕ → ℕ → Block → ℕ
+blockFault x d (start us) = firstOf (pick (ltb d deepest) 0 10) (nameFault x us)
+blockFault x d stop = pick (ltb 0 d) 0 9
+blockFault x d (colour us t bs k) = firstOf (nameFault x us) (shadeFault t bs k)
+blockFault x d (other t) = 4
 
--- blocks in their order, and after the last a group that is left open
-unfoldable pub paletteFault : List Block → ℕ
-paletteFault bs = firstOf (faultsIn standing blockFault 0 bs) (pick (eqb (stateAfter standing 0 bs) 0) 0 9)
+-- blocks in their order, where d groups stand open, and after the last a group that is left open; each is what `block` makes of it, its name found as `found` says
+unfoldable pub blocksFault : {A : Type 0} → (A → ℕ) → (A → Block) → ℕ → List A → ℕ
+blocksFault found block d l =
+    firstOf (faultsIn (λ e a. standing e (block a)) (λ e a. blockFault (found a) e (block a)) d l)
+    (pick (eqb (stateAfter (λ e a. standing e (block a)) d l) 0) 0 9)
+
+-- blocks as values
+abbrev pub paletteFault : List Block → ℕ
+paletteFault bs = blocksFault (λ b. 0) (λ b. b) 0 bs
 
 -- a name whose numbers fit their fields, whether or not they are allowed
 pub record NameFits (us : List ℕ) : Type 0 where

@@ -3,20 +3,21 @@ use Rattle.algebra.proofs.Counted.{counted-end, counted-start, counted-turn}
 use Prim.Native.Nat.{ℕ, zero, suc, _+_, _*_, _-_, _≤_, _<_}
 use mathlib.Core.Path.{_≡_, refl, sym, ap, _∙_, subst}
 use mathlib.Core.List.{List, [], _∷_}
+use mathlib.Core.Logic.{_⊎_, inl, inr}
 use mathlib.Core.Bool.{Bool, true, false, not, _&&_}
 use lib.Dec.{leb, ltb, eqb}
 use lib.ListN.{length}
 use lib.Ieee.{binary32, ofBits}
-use borrow.Author.Tests.{eq-eqb, ne-eqb, le-leb, lt-leb, leb-true, ltb-true, lt-ltb, le-ltb}
+use borrow.Author.Tests.{eq-eqb, ne-eqb, le-leb, lt-leb, leb-true, ltb-true, lt-ltb}
 use native.Mathlib.Omega.{arith}
 use native.Mathlib.Nat.{lt-of-not-le}
 use native.Mathlib.Decide.{ℕ-discrete, decLe}
-use Rattle.algebra.specs.Reader.{Res, pick, done, numberOf, stateAfter}
-use Rattle.algebra.specs.Text.{text}
-use Rattle.algebra.specs.Numbers.{counted}
+use Rattle.algebra.specs.Reader.{Res, ok, pick, rule, unless, body, done, numberOf, stateAfter}
+use Rattle.algebra.specs.Text.{anyZero, text}
+use Rattle.algebra.specs.Numbers.{counted, nums}
 use Rattle.algebra.specs.Faults.{firstOf, faults, faultsFrom, faultsIn}
 use Rattle.algebra.proofs.Tells.{first-none, first-zero, first-inv, pick-none}
-use Rattle.algebra.proofs.Texts.{text-short}
+use Rattle.algebra.proofs.Laws.{body-in, body-short}
 use Rattle.colour.specs.Models.{modelOf, countIn, isModel, channelsOf}
 use Rattle.colour.specs.Channels.{allows, allowsBits, allowsAll}
 use Rattle.colour.specs.declared.model.Known.{Known}
@@ -24,9 +25,10 @@ use Rattle.colour.specs.declared.model.Known.the-variants.{Is, Unknown}
 use Rattle.colour.specs.declared.model.Model.{Model}
 use Rattle.colour.specs.declared.model.Model.the-variants.{Rgb, Cmyk, Lab, Gray}
 use Rattle.ase.specs.Reading.{deepest}
+use Rattle.ase.specs.Faults as f
 use Rattle.ase.specs.Row.{Given}
-use Rattle.ase_records.specs.Writing.{channelsIn, sizeIn, sizes, nameFault, blockFault, standingIn}
-use Rattle.ase_records.specs.Parts.{headFault, depthAfter, channelsFault, shadeFault, blocksFault, start, ownFault, RecordFits, RecordsFit}
+use Rattle.ase_records.specs.Writing.{channelsIn, blockIn, sizeIn, sizes, foundIn, blockFault}
+use Rattle.ase_records.specs.Parts.{nameFault, standingIn, depthAfter, channelsFault, shadeFault, start, ownFault, RecordFits, RecordsFit}
 use Rattle.algebra.proofs.Firsts.{first-found, hit, pass, test-holds, name-number}
 
 -- ---- the first of two faults
@@ -72,6 +74,18 @@ module _ (g : Given) where
 
 -- ---- a name
 
+-- units with no zero, by how they are found and what they are; belongs in algebra
+text-found : (n : ℕ) (s : List ℕ) (at : ℕ) → numberOf (text n s at) ≡ f.nameFault (numberOf (body 2 n s at)) (nums 2 n s at)
+unfolding text
+text-found n s at = elim (decLe (n * 2) (length s - at)) [
+  | yes h ↦ rw (body-in 2 s at n h) (closing (anyZero (nums 2 n s at)))
+  | no h ↦ rw (body-short 2 s at n (lt-of-not-le h))
+]
+  where
+    closing : (c : Bool) → numberOf (rule (unless (not c) 8) at (ok (nums 2 n s at) (at + n * 2))) ≡ pick c 8 0
+    closing true = refl
+    closing false = refl
+
 module _ (names : List ℕ) (g : Given) where
   pub name-large : 65534 < g .units → nameFault names g ≡ 5
   name-large h = simp (lt-leb (g .units + 1) 65535 (omega arith))
@@ -79,27 +93,25 @@ module _ (names : List ℕ) (g : Given) where
   pub name-is : g .units ≤ 65534 → (at : ℕ) (r : Res Unit) → at ≡ g .first → r ≡ done (text (g .units) names at) → numberOf r ≡ nameFault names g
   name-is h at r a e =
       name-number (text (g .units) names (g .first)) r (e ∙ ap (λ (k : ℕ). done (text (g .units) names k)) a)
-      ∙ sym (simp (le-leb (g .units + 1) 65535 (omega arith)))
+      ∙ text-found (g .units) names (g .first) ∙ sym (simp (le-leb (g .units + 1) 65535 (omega arith)))
 
-  -- a name without a fault fits its count
-  pub name-short : nameFault names g ≡ 0 → g .units ≤ 65534
-  name-short e = omega (arith, leb-true (g .units + 1) 65535 (test-holds (leb (g .units + 1) 65535) (numberOf (text (g .units) names (g .first))) 5 (omega arith) e .0))
+  -- a name without a fault fits its count, and lies in the lent bytes
+  pub name-lies : nameFault names g ≡ 0 → (g .units ≤ 65534) × (g .units * 2 ≤ length names - g .first)
+  name-lies e =
+      let x = test-holds (leb (g .units + 1) 65535) (numberOf (body 2 (g .units) names (g .first))) 5 (omega arith) (first-inv (foundIn names g) _ e .0) in (
+        omega (arith, leb-true (g .units + 1) 65535 (x .0)),
+        elim (decLe (g .units * 2) (length names - g .first)) [
+          | yes h ↦ h
+          | no h ↦ absurd (omega (arith, x .1, ap numberOf (body-short 2 names (g .first) (g .units) (lt-of-not-le h))))
+        ],
+      )
 
-  -- and lies in the lent bytes, from where its copy starts
+  -- from where its copy starts
   pub name-inside : nameFault names g ≡ 0 → start g + 2 * g .units ≤ length names
   name-inside e = elim (ℕ-discrete (g .units) 0) [
     | yes z ↦ rw (eq-eqb (g .units) 0 z) (omega arith)
-    | no z ↦ rw (ne-eqb (g .units) 0 z) (let h = fits in omega arith)
+    | no z ↦ rw (ne-eqb (g .units) 0 z) (let h = name-lies e in omega (arith, h .1))
   ]
-    where
-      none : numberOf (text (g .units) names (g .first)) ≡ 0
-      none = test-holds (leb (g .units + 1) 65535) (numberOf (text (g .units) names (g .first))) 5 (omega arith) e .1
-
-      fits : g .units * 2 ≤ length names - g .first
-      fits = elim (decLe (g .units * 2) (length names - g .first)) [
-        | yes h ↦ h
-        | no h ↦ absurd (omega (arith, none, name-number (text (g .units) names (g .first)) _ (sym (text-short (g .units) names (g .first) (lt-of-not-le h)))))
-      ]
 
 -- ---- a colour's model, channels and type
 
@@ -139,12 +151,12 @@ held false e = sym e
 -- the fault of a colour of an unknown model, and of a known one
 module _ (g : Given) where
   pub shade-unknown : Unknown ≡ modelOf (g .model) → 4 ≡ shadeFault g
-  unfolding shadeFault isModel
+  unfolding f.shadeFault isModel
   shade-unknown e = rw (← e)
 
   module _ (m : Model) (e : Is m ≡ modelOf (g .model)) where
     shade-known : shadeFault g ≡ firstOf (channelsFault m (g .channels)) (pick (leb (g .type) 2) 0 5)
-    unfolding shadeFault isModel channelsOf allowsBits channelsFault
+    unfolding f.shadeFault isModel channelsOf allowsBits channelsFault
     shade-known = rw (← e)
 
     module _ (x : Bool) (h : pick x 0 5 ≡ channelsFault m (g .channels)) where
@@ -156,7 +168,7 @@ module _ (g : Given) where
 
 -- a colour without a fault has a known model and a type of 16 bits
 pub shade-fine : (g : Given) → shadeFault g ≡ 0 → (isModel (g .model) ≡ true) × (g .type ≤ 2)
-unfolding shadeFault
+unfolding f.shadeFault
 shade-fine g e =
     let f : ℕ = faultsFrom (λ i b. pick (allowsBits (g .model) b) 0 5) 0 (channelsIn g) in
     let a = first-inv (pick (isModel (g .model)) 0 4) (firstOf f (pick (leb (g .type) 2) 0 5)) e in
@@ -165,29 +177,7 @@ shade-fine g e =
 
 -- ---- a block's type
 
--- where it tells no fault, it is one of three
-pub data Sort (d t : ℕ) : Type 0 where
-  is-start : t ≡ 0xC001 → d < deepest → Sort d t
-  is-stop : t ≡ 0xC002 → 0 < d → Sort d t
-  is-colour : t ≡ 0x0001 → Sort d t
-
 module _ (d t : ℕ) where
-  pub head-start : t ≡ 0xC001 → headFault d t ≡ pick (ltb d deepest) 0 10
-  unfolding headFault
-  head-start e = rw e
-
-  pub head-stop : t ≡ 0xC002 → headFault d t ≡ pick (ltb 0 d) 0 9
-  unfolding headFault
-  head-stop e = rw e
-
-  pub head-colour : t ≡ 0x0001 → headFault d t ≡ 0
-  unfolding headFault
-  head-colour e = rw e
-
-  pub head-other : (t ≡ 0xC001 → ⊥) → (t ≡ 0xC002 → ⊥) → (t ≡ 0x0001 → ⊥) → headFault d t ≡ 4
-  unfolding headFault
-  head-other a b c = rw (ne-eqb t _ a, ne-eqb t _ b, ne-eqb t _ c)
-
   pub depth-start : t ≡ 0xC001 → depthAfter d t ≡ d + 1
   depth-start e = rw e
 
@@ -197,65 +187,47 @@ module _ (d t : ℕ) where
   pub depth-colour : (t ≡ 0xC001 → ⊥) → (t ≡ 0xC002 → ⊥) → depthAfter d t ≡ d
   depth-colour a b = rw (ne-eqb t _ a, ne-eqb t _ b)
 
-  pub head-fine : headFault d t ≡ 0 → Sort d t
-  head-fine e = elim (ℕ-discrete t 0xC001) [
-    | yes a ↦ is-start a (ltb-true d deepest (pick-none (ltb d deepest) 10 (omega arith) (sym (head-start a) ∙ e)))
-    | no a ↦ elim (ℕ-discrete t 0xC002) [
-      | yes b ↦ is-stop b (ltb-true 0 d (pick-none (ltb 0 d) 9 (omega arith) (sym (head-stop b) ∙ e)))
-      | no b ↦ elim (ℕ-discrete t 0x0001) [
-        | yes c ↦ is-colour c
-        | no c ↦ absurd (omega (arith, head-other a b c))
-      ]
-    ]
-  ]
-
--- no more groups stand open than may
-pub depth-few : (d t : ℕ) → headFault d t ≡ 0 → d ≤ deepest → depthAfter d t ≤ deepest
-depth-few d t e h = go (head-fine d t e)
-  where
-    go : Sort d t → depthAfter d t ≤ deepest
-    go (is-start a k) = omega (arith, depth-start d t a)
-    go (is-stop a k) = omega (arith, depth-stop d t a)
-    go (is-colour a) = rw a h
-
 -- ---- a record
 
+-- what is known of one without a fault, where d groups stand open
+pub data Sound (names : List ℕ) (d : ℕ) (g : Given) : Type 0 where
+  is-start : g .block ≡ 0xC001 → d < deepest → nameFault names g ≡ 0 → Sound names d g
+  is-stop : g .block ≡ 0xC002 → 0 < d → Sound names d g
+  is-colour : g .block ≡ 0x0001 → nameFault names g ≡ 0 → shadeFault g ≡ 0 → Sound names d g
+
 module _ (names : List ℕ) (d : ℕ) (g : Given) where
-  -- its type, its name, and the rest of a colour
-  pub block-is : blockFault names d g
-      ≡ firstOf (headFault d (g .block)) (pick (eqb (g .block) 0xC002) 0 (firstOf (nameFault names g) (pick (eqb (g .block) 0xC001) 0 (shadeFault g))))
-  unfolding blockFault headFault shadeFault
-  block-is = elim (ℕ-discrete (g .block) 0xC001) [
-    | yes a ↦ rw a (ap (firstOf (pick (ltb d deepest) 0 10)) (sym (first-zero (nameFault names g))))
+  pub block-start : g .block ≡ 0xC001 → blockFault names d g ≡ firstOf (pick (ltb d deepest) 0 10) (nameFault names g)
+  unfolding f.blockFault
+  block-start e = rw e
+
+  pub block-stop : g .block ≡ 0xC002 → blockFault names d g ≡ pick (ltb 0 d) 0 9
+  unfolding f.blockFault
+  block-stop e = rw e
+
+  pub block-colour : g .block ≡ 0x0001 → blockFault names d g ≡ firstOf (nameFault names g) (shadeFault g)
+  unfolding f.blockFault
+  block-colour e = rw e
+
+  pub block-other : (g .block ≡ 0xC001 → ⊥) → (g .block ≡ 0xC002 → ⊥) → (g .block ≡ 0x0001 → ⊥) → blockFault names d g ≡ 4
+  unfolding f.blockFault
+  block-other a b c = simp (ne-eqb (g .block) 0xC001 a, ne-eqb (g .block) 0xC002 b, ne-eqb (g .block) 0x0001 c)
+
+  -- a group that may start, or a colour: its name, and what stands behind a colour's
+  pub block-named : ((g .block ≡ 0xC001) × (d < deepest)) ⊎ (g .block ≡ 0x0001) → blockFault names d g ≡ firstOf (nameFault names g) (pick (eqb (g .block) 0xC001) 0 (shadeFault g))
+  block-named (inl x) = block-start (x .0) ∙ rw (lt-ltb d deepest (x .1), x .0) (sym (first-zero (nameFault names g)))
+  block-named (inr e) = block-colour e ∙ sym (rw e)
+
+  pub sound : blockFault names d g ≡ 0 → Sound names d g
+  sound e = elim (ℕ-discrete (g .block) 0xC001) [
+    | yes a ↦ let x = first-inv (pick (ltb d deepest) 0 10) (nameFault names g) (sym (block-start a) ∙ e) in is-start a (ltb-true d deepest (pick-none (ltb d deepest) 10 (omega arith) (x .0))) (x .1)
     | no a ↦ elim (ℕ-discrete (g .block) 0xC002) [
-      | yes b ↦ rw b (sym (first-zero (pick (ltb 0 d) 0 9)))
+      | yes b ↦ is-stop b (ltb-true 0 d (pick-none (ltb 0 d) 9 (omega arith) (sym (block-stop b) ∙ e)))
       | no b ↦ elim (ℕ-discrete (g .block) 0x0001) [
-        | yes c ↦ rw c
-        | no c ↦ rw (ne-eqb (g .block) _ a, ne-eqb (g .block) _ b, ne-eqb (g .block) _ c)
+        | yes c ↦ let x = first-inv (nameFault names g) (shadeFault g) (sym (block-colour c) ∙ e) in is-colour c (x .0) (x .1)
+        | no c ↦ absurd (omega (arith, block-other a b c))
       ]
     ]
   ]
-
-  module _ (x : ℕ) (typed : x ≡ headFault d (g .block)) where
-    pub block-typed : (x ≡ 0 → ⊥) → x ≡ blockFault names d g
-    block-typed h = hit x _ _ typed h ∙ sym block-is
-
-    module _ (z : x ≡ 0) where
-      pub block-stop : g .block ≡ 0xC002 → 0 ≡ blockFault names d g
-      block-stop e = pass 0 (headFault d (g .block)) _ x typed z (sym (rw (eq-eqb (g .block) 0xC002 e))) ∙ sym block-is
-
-      module _ (more : g .block ≡ 0xC002 → ⊥) (y : ℕ) (named : y ≡ nameFault names g) where
-        behind : (v : ℕ) → v ≡ firstOf (nameFault names g) (pick (eqb (g .block) 0xC001) 0 (shadeFault g)) → v ≡ blockFault names d g
-        behind v e = pass v (headFault d (g .block)) _ x typed z (e ∙ sym (rw (ne-eqb (g .block) 0xC002 more))) ∙ sym block-is
-
-        pub block-named : (y ≡ 0 → ⊥) → y ≡ blockFault names d g
-        block-named h = behind y (hit y _ _ named h)
-
-        pub block-started : y ≡ 0 → g .block ≡ 0xC001 → 0 ≡ blockFault names d g
-        block-started h e = behind 0 (pass 0 (nameFault names g) _ y named h (sym (rw (eq-eqb (g .block) 0xC001 e))))
-
-        pub block-shaded : y ≡ 0 → (g .block ≡ 0xC001 → ⊥) → (v : ℕ) → v ≡ shadeFault g → v ≡ blockFault names d g
-        block-shaded h e v w = behind v (pass v (nameFault names g) _ y named h (w ∙ sym (rw (ne-eqb (g .block) 0xC001 e))))
 
   pub standing-is : standingIn names d g ≡ depthAfter d (g .block)
   standing-is = elim (ℕ-discrete (g .block) 0xC001) [
@@ -269,30 +241,17 @@ module _ (names : List ℕ) (d : ℕ) (g : Given) where
     ]
   ]
 
-  pub block-head : blockFault names d g ≡ 0 → headFault d (g .block) ≡ 0
-  block-head e = first-inv (headFault d (g .block)) _ (sym block-is ∙ e) .0
+  -- no more groups stand open after it than may
+  pub depth-few : Sound names d g → d ≤ deepest → depthAfter d (g .block) ≤ deepest
+  depth-few (is-start a k n) h = omega (arith, depth-start d (g .block) a)
+  depth-few (is-stop a k) h = omega (arith, depth-stop d (g .block) a)
+  depth-few (is-colour a n s) h = rw a h
 
-  block-rest : blockFault names d g ≡ 0 → pick (eqb (g .block) 0xC002) 0 (firstOf (nameFault names g) (pick (eqb (g .block) 0xC001) 0 (shadeFault g))) ≡ 0
-  block-rest e = first-inv (headFault d (g .block)) _ (sym block-is ∙ e) .1
-
-  -- a record without a fault: its name has none, and what stands behind a colour's name
-  pub block-name : blockFault names d g ≡ 0 → (g .block ≡ 0xC002 → ⊥) → nameFault names g ≡ 0
-  block-name e h = first-inv (nameFault names g) (pick (eqb (g .block) 0xC001) 0 (shadeFault g)) (sym (rw (ne-eqb (g .block) 0xC002 h)) ∙ block-rest e) .0
-
-  pub block-shade : blockFault names d g ≡ 0 → (g .block ≡ 0xC002 → ⊥) → (g .block ≡ 0xC001 → ⊥) → shadeFault g ≡ 0
-  block-shade e h k =
-      sym (rw (ne-eqb (g .block) 0xC001 k))
-      ∙ first-inv (nameFault names g) (pick (eqb (g .block) 0xC001) 0 (shadeFault g)) (sym (rw (ne-eqb (g .block) 0xC002 h)) ∙ block-rest e) .1
-
-  -- it has none apart from the nesting either
-  pub block-own : blockFault names d g ≡ 0 → ownFault names g ≡ 0
-  unfolding blockFault headFault
-  block-own e = go (head-fine d (g .block) (block-head e))
-    where
-      go : Sort d (g .block) → ownFault names g ≡ 0
-      go (is-start a k) = rw a (block-name e (λ z. omega arith))
-      go (is-stop a k) = rw a
-      go (is-colour a) = rw a (rw a at e)
+-- it has no fault apart from the nesting either
+block-own : (names : List ℕ) (d : ℕ) (g : Given) → Sound names d g → ownFault names g ≡ 0
+block-own names d g (is-start a k n) = block-start names 1 g a ∙ n
+block-own names d g (is-stop a k) = block-stop names 1 g a
+block-own names d g (is-colour a n s) = block-colour names 1 g a ∙ first-none (nameFault names g) (shadeFault g) n ∙ s
 
 -- ---- a loop over the records of a run
 
@@ -322,17 +281,20 @@ sizes-all (g ∷ gs) = let h = sizes-all gs in let k = size-least g in omega ari
 
 -- what is left has the first fault of all
 module _ (names : List ℕ) (item : ℕ → Given) where
+  abbrev left : ℕ → List Given → ℕ
+  left d gs = f.blocksFault (foundIn names) (blockIn names) d gs
+
   blocks-turn : (d n i : ℕ) → i < n
-      → blocksFault names d (counted item (n - i) i) ≡ firstOf (blockFault names d (item i)) (blocksFault names (standingIn names d (item i)) (counted item (n - (i + 1)) (i + 1)))
-  unfolding blocksFault faultsIn stateAfter
+      → left d (counted item (n - i) i) ≡ firstOf (blockFault names d (item i)) (left (standingIn names d (item i)) (counted item (n - (i + 1)) (i + 1)))
+  unfolding f.blocksFault faultsIn stateAfter
   blocks-turn d n i h =
-      ap (blocksFault names d) (counted-turn item n i h)
+      ap (left d) (counted-turn item n i h)
       ∙ first-assoc (blockFault names d (item i)) (faultsIn (standingIn names) (blockFault names) (standingIn names d (item i)) (counted item (n - (i + 1)) (i + 1))) _
 
-  pub blocks-start : (n : ℕ) → blocksFault names 0 (counted item n 0) ≡ blocksFault names 0 (counted item (n - 0) 0)
-  blocks-start n = ap (blocksFault names 0) (counted-start item n)
+  pub blocks-start : (n : ℕ) → left 0 (counted item n 0) ≡ left 0 (counted item (n - 0) 0)
+  blocks-start n = ap (left 0) (counted-start item n)
 
-  module _ (all d n i : ℕ) (inv : all ≡ blocksFault names d (counted item (n - i) i)) where
+  module _ (all d n i : ℕ) (inv : all ≡ left d (counted item (n - i) i)) where
     module _ (h : i < n) (r : ℕ) (g : Given) (at : g ≡ item i) (e : r ≡ blockFault names d g) where
       next : r ≡ blockFault names d (item i)
       next = e ∙ ap (blockFault names d) at
@@ -340,15 +302,15 @@ module _ (names : List ℕ) (item : ℕ → Given) where
       pub blocks-found : (r ≡ 0 → ⊥) → r ≡ all
       blocks-found z = hit r _ _ next z ∙ sym (inv ∙ blocks-turn d n i h)
 
-      pub blocks-more : r ≡ 0 → (k : ℕ) → k ≡ depthAfter d (g .block) → all ≡ blocksFault names k (counted item (n - (i + 1)) (i + 1))
+      pub blocks-more : r ≡ 0 → (k : ℕ) → k ≡ depthAfter d (g .block) → all ≡ left k (counted item (n - (i + 1)) (i + 1))
       blocks-more z k w =
           let s : standingIn names d (item i) ≡ k = sym (w ∙ sym (standing-is names d g) ∙ ap (standingIn names d) at) in
-          inv ∙ blocks-turn d n i h ∙ first-none _ _ (sym next ∙ z) ∙ ap (λ (x : ℕ). blocksFault names x (counted item (n - (i + 1)) (i + 1))) s
+          inv ∙ blocks-turn d n i h ∙ first-none _ _ (sym next ∙ z) ∙ ap (λ (x : ℕ). left x (counted item (n - (i + 1)) (i + 1))) s
 
     module _ (h : n ≤ i) where
       last : all ≡ pick (eqb d 0) 0 9
-      unfolding blocksFault faultsIn stateAfter
-      last = inv ∙ ap (blocksFault names d) (counted-end item n i h)
+      unfolding f.blocksFault faultsIn stateAfter
+      last = inv ∙ ap (left d) (counted-end item n i h)
 
       pub blocks-open : (d ≡ 0 → ⊥) → 9 ≡ all
       blocks-open z = sym (last ∙ rw (ne-eqb d 0 z))
@@ -364,7 +326,7 @@ unfolding faultsIn faults
 all-own names d [] e = refl
 all-own names d (g ∷ gs) e =
     let x = first-inv (blockFault names d g) (faultsIn (standingIn names) (blockFault names) (standingIn names d g) gs) e in
-    first-none (ownFault names g) (faults (ownFault names) gs) (block-own names d g (x .0)) ∙ all-own names (standingIn names d g) gs (x .1)
+    first-none (ownFault names g) (faults (ownFault names) gs) (block-own names d g (sound names d g (x .0))) ∙ all-own names (standingIn names d g) gs (x .1)
 
 module _ (names : List ℕ) (item : ℕ → Given) where
   pub fit-start : (n at room : ℕ) → RecordsFit names (counted item n 0) at room → RecordsFit names (counted item (n - 0) 0) at room

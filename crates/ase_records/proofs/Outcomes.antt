@@ -10,9 +10,10 @@ use Rattle.algebra.specs.Faults.{faults, faultsIn}
 use Rattle.algebra.specs.Writing.{bytes, refused}
 use Rattle.algebra.proofs.Tells.{first-inv}
 use Rattle.algebra.proofs.Writing.{needs-no, needs-all, needs-inv}
+use Rattle.ase.specs.Faults.{blocksFault}
 use Rattle.ase.specs.Row.{Given}
-use Rattle.ase_records.specs.Writing.{size, blockFault, standingIn, fault, needed}
-use Rattle.ase_records.specs.Parts.{blocksFault, ownFault}
+use Rattle.ase_records.specs.Writing.{blockIn, size, foundIn, blockFault, fault, needed}
+use Rattle.ase_records.specs.Parts.{standingIn, ownFault}
 use Rattle.ase_records.proofs.Judging.{all-own}
 use Rattle.algebra.proofs.Firsts.{test-holds}
 
@@ -24,11 +25,11 @@ module _ (names : List ℕ) (gs : List Given) where
   too-long h = needs-no (fault names gs) (size gs) 1 (simp (lt-leb _ _ h)) (λ z. omega arith)
 
   module _ (fits : size gs ≤ limit) where
-    rest : fault names gs ≡ blocksFault names 0 gs
-    unfolding fault blocksFault
+    rest : fault names gs ≡ blocksFault (foundIn names) (blockIn names) 0 gs
+    unfolding fault
     rest = simp (le-leb _ _ fits)
 
-    module _ (x : ℕ) (e : x ≡ blocksFault names 0 gs) where
+    module _ (x : ℕ) (e : x ≡ blocksFault (foundIn names) (blockIn names) 0 gs) where
       pub bad-block : (x ≡ 0 → ⊥) → refused x 0 ≡ needed names gs
       bad-block h = needs-no (fault names gs) (size gs) x (e ∙ sym rest) h
 
@@ -40,7 +41,7 @@ module _ (names : List ℕ) (gs : List Given) where
   needed-bytes k e = needs-inv (fault names gs) (size gs) k e
 
   pub no-fault : fault names gs ≡ 0 → (size gs ≤ limit) × (faults (ownFault names) gs ≡ 0)
-  unfolding fault
+  unfolding fault blocksFault
   no-fault e =
       let a = test-holds (leb (size gs) limit) _ 1 (omega arith) e in
       let b = first-inv (faultsIn (standingIn names) (blockFault names) 0 gs) (pick (eqb (stateAfter (standingIn names) 0 gs) 0) 0 9) (a .1) in

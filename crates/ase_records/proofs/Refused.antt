@@ -4,39 +4,45 @@ use mathlib.Core.Path.{_≡_, refl}
 use mathlib.Core.List.{List, map, [], _∷_}
 use lib.Dec.{leb, ltb, eqb}
 use Rattle.algebra.specs.Reader.{limit, stateAfter}
-use Rattle.algebra.specs.Faults.{faultsIn}
+use Rattle.algebra.specs.Text.{anyZero}
 use Rattle.algebra.specs.Writing.{refused}
 use Rattle.algebra.specs.Refusal.{Of, among}
-use Rattle.algebra.proofs.Numbered.{Fault, no-fault, pick-fault, first-fault, from-fault, in-fault, text-fault, needs-refused, writes-refused}
+use Rattle.algebra.proofs.Numbered.{Fault, no-fault, pick-fault, first-fault, from-fault, in-fault, body-fault, needs-refused, writes-refused}
 use Rattle.colour.specs.Models.{isModel}
 use Rattle.colour.specs.Channels.{allowsBits}
-use Rattle.ase.specs.Grammar.{fileBytes}
+use Rattle.ase.specs.Grammar.{Block, start, stop, colour, other, fileBytes}
 use Rattle.ase.specs.Reading.{deepest}
+use Rattle.ase.specs.Faults.{nameFault, shadeFault, blockFault, blocksFault}
 use Rattle.ase_records.specs.Refusals.{refusals}
 use Rattle.ase.specs.Row.{Given}
-use Rattle.ase_records.specs.Writing.{channelsIn, blockIn, size, nameFault, colourFault, blockFault, standingIn, fault, needed, written}
+use Rattle.ase_records.specs.Writing.{blockIn, size, foundIn, fault, needed, written}
+use Rattle.ase_records.specs.Parts.{standingIn}
 
-name-numbered : (text : List ℕ) (g : Given) → Fault refusals (nameFault text g)
-name-numbered text g = pick-fault (leb (g .units + 1) 65535) (text-fault (among refl) (among refl) (g .units) text (g .first)) (among refl)
+found-numbered : (text : List ℕ) (g : Given) → Fault refusals (foundIn text g)
+found-numbered text g = pick-fault (leb (g .units + 1) 65535) (body-fault (among refl) 2 (g .units) text (g .first)) (among refl)
 
-colour-numbered : (text : List ℕ) (g : Given) → Fault refusals (colourFault text g)
-colour-numbered text g =
-    first-fault (nameFault text g) _ (name-numbered text g)
-    (first-fault _ _ (pick-fault (isModel (g .model)) no-fault (among refl))
-    (first-fault _ _ (from-fault _ (λ i b. pick-fault (allowsBits (g .model) b) no-fault (among refl)) 0 (channelsIn g)) (pick-fault (leb (g .type) 2) no-fault (among refl))))
+shade-numbered : (t : ℕ) (bs : List ℕ) (k : ℕ) → Fault refusals (shadeFault t bs k)
+unfolding shadeFault
+shade-numbered t bs k =
+    first-fault _ _ (pick-fault (isModel t) no-fault (among refl))
+    (first-fault _ _ (from-fault _ (λ i b. pick-fault (allowsBits t b) no-fault (among refl)) 0 bs) (pick-fault (leb k 2) no-fault (among refl)))
 
-block-numbered : (text : List ℕ) (d : ℕ) (g : Given) → Fault refusals (blockFault text d g)
-unfolding blockFault
-block-numbered text d g =
-    pick-fault (eqb (g .block) 0xC001) (first-fault _ (nameFault text g) (pick-fault (ltb d deepest) no-fault (among refl)) (name-numbered text g))
-    (pick-fault (eqb (g .block) 0xC002) (pick-fault (ltb 0 d) no-fault (among refl))
-    (pick-fault (eqb (g .block) 0x0001) (colour-numbered text g) (among refl)))
+module _ (x d : ℕ) (h : Fault refusals x) where
+  name-numbered : (us : List ℕ) → Fault refusals (nameFault x us)
+  name-numbered us = first-fault x _ h (pick-fault (anyZero us) (among refl) no-fault)
+
+  block-numbered : (b : Block) → Fault refusals (blockFault x d b)
+  unfolding blockFault
+  block-numbered (start us) = first-fault _ (nameFault x us) (pick-fault (ltb d deepest) no-fault (among refl)) (name-numbered us)
+  block-numbered stop = pick-fault (ltb 0 d) no-fault (among refl)
+  block-numbered (colour us t bs k) = first-fault (nameFault x us) _ (name-numbered us) (shade-numbered t bs k)
+  block-numbered (other t) = among refl
 
 fault-numbered : (text : List ℕ) (gs : List Given) → Fault refusals (fault text gs)
-unfolding fault
+unfolding fault blocksFault
 fault-numbered text gs =
     pick-fault (leb (size gs) limit)
-    (first-fault (faultsIn (standingIn text) (blockFault text) 0 gs) _ (in-fault (standingIn text) (blockFault text) (block-numbered text) 0 gs) (pick-fault (eqb (stateAfter (standingIn text) 0 gs) 0) no-fault (among refl)))
+    (first-fault _ _ (in-fault _ _ (λ d g. block-numbered (foundIn text g) d (found-numbered text g) (blockIn text g)) 0 gs) (pick-fault (eqb (stateAfter (standingIn text) 0 gs) 0) no-fault (among refl)))
     (among refl)
 
 -- the length that is needed is refused by one of these numbers

@@ -2,26 +2,31 @@
 use Prim.Native.Nat.{ℕ, _+_, _-_, _≤_}
 use mathlib.Core.Path.{_≡_}
 use mathlib.Core.List.{List, _++_}
-use lib.Dec.{leb, ltb, eqb}
+use lib.Dec.{eqb}
 use lib.ListN.{take}
 use lib.Ieee.{binary32, ofBits}
 use Rattle.algebra.specs.Numbers.{be, joined}
-use Rattle.algebra.specs.Reader.{pick, stateAfter, limit}
-use Rattle.algebra.specs.Faults.{firstOf, faults, faultsFrom, faultsIn}
-use Rattle.colour.specs.Models.{traitsOf, isModel}
-use Rattle.colour.specs.Channels.{allows, allowsBits}
+use Rattle.algebra.specs.Reader.{pick, limit}
+use Rattle.algebra.specs.Faults.{faults, faultsFrom}
+use Rattle.colour.specs.Models.{traitsOf}
+use Rattle.colour.specs.Channels.{allows}
 use Rattle.colour.specs.declared.model.Model.{Model}
-use Rattle.ase.specs.Reading.{deepest}
+use Rattle.ase.specs.Reading.{standing}
+use Rattle.ase.specs.Faults as f
 use Rattle.ase.specs.Row.{Given}
-use Rattle.ase_records.specs.Writing.{channelsIn, sizeIn, sizes, blockFault, standingIn}
+use Rattle.ase_records.specs.Writing.{unitsIn, channelsIn, blockIn, sizeIn, sizes, foundIn, blockFault}
 
 -- ---- judging
 
--- what a block's type and the d groups that stand open tell: 10 for a group start, 9 for a group end, 4 for an unknown type
-unfoldable pub headFault : ℕ → ℕ → ℕ
-headFault d t = pick (eqb t 0xC001) (pick (ltb d deepest) 0 10) (pick (eqb t 0xC002) (pick (ltb 0 d) 0 9) (pick (eqb t 0x0001) 0 4))
+-- the fault of a record's name
+abbrev pub nameFault : List ℕ → Given → ℕ
+nameFault names g = f.nameFault (foundIn names g) (unitsIn names g)
 
--- how many groups stand open after a block
+-- how many groups stand open after a record
+abbrev pub standingIn : List ℕ → ℕ → Given → ℕ
+standingIn names d g = standing d (blockIn names g)
+
+-- the same by the type of its block
 abbrev pub depthAfter : ℕ → ℕ → ℕ
 depthAfter d t = pick (eqb t 0xC001) (d + 1) (pick (eqb t 0xC002) (d - 1) d)
 
@@ -29,16 +34,9 @@ depthAfter d t = pick (eqb t 0xC001) (d + 1) (pick (eqb t 0xC002) (d - 1) d)
 unfoldable pub channelsFault : Model → List ℕ → ℕ
 channelsFault m bs = faultsFrom (λ i b. pick (allows m (ofBits binary32 b)) 0 5) 0 (take (traitsOf m .channels) bs)
 
--- a colour apart from its name: model, channels, type
-unfoldable pub shadeFault : Given → ℕ
-shadeFault g =
-    firstOf (pick (isModel (g .model)) 0 4)
-    (firstOf (faultsFrom (λ i b. pick (allowsBits (g .model) b) 0 5) 0 (channelsIn g))
-    (pick (leb (g .type) 2) 0 5))
-
--- records where d groups stand open, and after the last a group that is left open
-unfoldable pub blocksFault : List ℕ → ℕ → List Given → ℕ
-blocksFault names d gs = firstOf (faultsIn (standingIn names) (blockFault names) d gs) (pick (eqb (stateAfter (standingIn names) d gs) 0) 0 9)
+-- a colour apart from its name
+abbrev pub shadeFault : Given → ℕ
+shadeFault g = f.shadeFault (g .model) (channelsIn g) (g .type)
 
 -- ---- storing
 

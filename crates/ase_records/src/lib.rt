@@ -7,11 +7,12 @@ ghost use Rattle.algebra.specs.Reader.{pick, limit};
 ghost use Rattle.algebra.specs.Table.{rowAt, rows, whole};
 ghost use Rattle.algebra.specs.Writing.{bytes, refused};
 ghost use Rattle.colour.specs.Models.{channelsOf};
+ghost use Rattle.ase.specs.Faults.{blocksFault};
 ghost use Rattle.ase.specs.Reading.{deepest};
 ghost use Rattle.ase.specs.Row.{width, taken, givenIn, noRecord};
-ghost use Rattle.ase_records.specs.Writing.{sizeIn, size, nameFault, blockFault, needed};
+ghost use Rattle.ase_records.specs.Writing.{blockIn, sizeIn, size, foundIn, blockFault, needed};
 ghost use Rattle.fields.specs.Answer.{toldWritten};
-ghost use Rattle.ase_records.specs.Parts.{headFault, shadeFault, depthAfter, blocksFault};
+ghost use Rattle.ase_records.specs.Parts.{nameFault, shadeFault, depthAfter};
 use ase::Numbers;
 use ase::WIDTH;
 use colour::Known;
@@ -155,42 +156,25 @@ fn shade_fault(given: Numbers) -> u32
     0
 }
 
-// What a block's type tells, where `depth` groups stand open.
-fn head_fault(depth: u32, block: u32) -> u32
-    ensures { λ r. ⌜ r ≡ headFault depth block ⌝ }
-{
-    if block == START {
-        if depth < DEEPEST {
-            return 0;
-        }
-        return 10;
-    }
-    if block == STOP {
-        if 0 < depth {
-            return 0;
-        }
-        return 9;
-    }
-    if block == COLOUR {
-        return 0;
-    }
-    4
-}
-
 // The fault of a record, where `depth` groups stand open.
 fn block_fault(text: &[u8], depth: u32, given: Numbers) -> u32
     ensures { λ r. ⌜ r ≡ blockFault (now (text .entry)) depth (givenIn given) ⌝ }
 {
-    let x = head_fault(depth, given.block);
+    if given.block == START {
+        if DEEPEST <= depth {
+            return 10;
+        }
+    } else if given.block == STOP {
+        if 0 < depth {
+            return 0;
+        }
+        return 9;
+    } else if given.block != COLOUR {
+        return 4;
+    }
+    let x = name_fault(text, given);
     if x != 0 {
         return x;
-    }
-    if given.block == STOP {
-        return 0;
-    }
-    let y = name_fault(text, given);
-    if y != 0 {
-        return y;
     }
     if given.block == START {
         return 0;
@@ -218,7 +202,7 @@ fn depth_after(depth: u32, block: u32) -> u32
 // The first fault of the n records, and of a group that is left open.
 fn blocks_fault(run: &[u32], text: &[u8], n: usize) -> u32
     requires { ⌜ width * n ≤ length (now run) ⌝ }
-    ensures { λ r. ⌜ r ≡ blocksFault (now (text .entry)) 0 (rows width taken (now (run .entry)) n 0) ⌝ }
+    ensures { λ r. ⌜ r ≡ blocksFault (foundIn (now (text .entry))) (blockIn (now (text .entry))) 0 (rows width taken (now (run .entry)) n 0) ⌝ }
 {
     let mut depth: u32 = 0;
     let mut i: usize = 0;

@@ -1,40 +1,38 @@
 -- Given records that fit: their length and their first fault are those of the blocks that are written. Assumes nothing.
-use Prim.Native.Nat.{ℕ, zero, suc, _+_, _*_, _-_, _^_, _≤_, _<_}
-use mathlib.Core.Path.{_≡_, refl, sym, ap, ap₂, _∙_, subst}
+use Prim.Native.Nat.{ℕ, zero, suc, _+_, _*_, _-_, _^_, _<_}
+use mathlib.Core.Path.{_≡_, refl, sym, ap, ap₂, subst}
 use mathlib.Core.List.{List, [], _∷_, _++_, map}
-use mathlib.Core.Bool.{Bool, true, false}
-use lib.Dec.{leb, ltb, eqb}
+use lib.Dec.{leb, eqb}
 use lib.ListN.{length, getD, take, length-append}
 use lib.Seq.{length-take-le}
-use borrow.Author.Tests.{leb-true, le-leb, eqb-true}
+use borrow.Author.Tests.{le-leb}
 use native.Mathlib.Omega.{arith}
-use native.Mathlib.Nat.{lt-of-not-le}
-use native.Mathlib.Decide.{ℕ-discrete, decLe}
+use native.Mathlib.Decide.{ℕ-discrete}
 use Rattle.algebra.specs.Table.{rowAt, rows}
 use Rattle.algebra.proofs.Table.{row-at}
-use Rattle.algebra.specs.Numbers.{counted, be, joined, Bytes, nums, All}
-use Rattle.algebra.specs.Reader.{Res, ok, refuse, pick, numberOf, done, stateAfter, limit}
-use Rattle.algebra.specs.Text.{anyZero, text, nameBytes}
-use Rattle.algebra.specs.Faults.{firstOf, faultsFrom, faultsIn}
+use Rattle.algebra.specs.Numbers.{counted, be, joined, Bytes, All}
+use Rattle.algebra.specs.Reader.{pick, numberOf, stateAfter, limit}
+use Rattle.algebra.specs.Text.{nameBytes}
+use Rattle.algebra.specs.Faults.{firstOf, faultsIn}
 use Rattle.algebra.proofs.Places.{length-be, length-bes, length-nums, nums-lt}
 use Rattle.algebra.proofs.Exact.{all-map, length-nameBytes}
-use Rattle.algebra.proofs.Tells.{first-inv, pick-none}
-use Rattle.algebra.proofs.Texts.{text-short, text-zero, text-fine}
+use Rattle.algebra.proofs.Laws.{body-in}
+use Rattle.algebra.proofs.Tells.{first-inv}
 use Rattle.algebra.proofs.Chain.{in-map, in-both, all-in, in-all, in-inv, state-map}
-use Rattle.colour.specs.Models.{isModel, channelsOf}
-use Rattle.colour.specs.Channels.{allowsBits}
+use Rattle.colour.specs.Models.{channelsOf}
 use Rattle.ase.specs.Grammar.{Block, start, stop, colour, other, payload, blockBytes, Unknown}
-use Rattle.ase.specs.Reading.{deepest, standing}
+use Rattle.ase.specs.Reading.{standing}
 use Rattle.ase.specs.Faults.{paletteFault, NameFits, BlockFits}
 use Rattle.ase.specs.Faults as a
 use Rattle.ase.proofs.Tables.{no-start, no-stop, no-colour, known-model, model-small}
 use Rattle.ase.proofs.Laws.{length-block}
 use Rattle.ase.proofs.Blocks.{length-file}
 use Rattle.ase.specs.Row.{Given, width, taken}
-use Rattle.ase_records.specs.Writing.{unitsIn, channelsIn, blockIn, sizeIn, sizes, size, nameFault, colourFault, blockFault, standingIn, fault}
+use Rattle.ase_records.specs.Writing.{unitsIn, channelsIn, blockIn, sizeIn, sizes, size, foundIn, blockFault, fault}
+use Rattle.ase_records.specs.Parts.{nameFault, shadeFault, standingIn}
 use Rattle.ase_roundtrip.specs.Tie.{Words, made, NameFitting, ColourFitting, Fitting, a-start, an-end, a-colour, another}
 use Rattle.algebra.proofs.Firsts.{test-holds, all-image}
-use Rattle.ase_records.proofs.Judging.{channels-few}
+use Rattle.ase_records.proofs.Judging.{channels-few, name-lies, shade-fine, Sound, is-start, is-stop, is-colour, sound}
 
 -- ---- values of a list
 
@@ -49,10 +47,6 @@ faults-same : {A B S : Type 0} (next : S → B → S) (view : A → B) (f : S �
 unfolding faultsIn
 faults-same next view f g d i [] h = refl
 faults-same next view f g d i (a ∷ l) h = ap₂ (λ (x y : ℕ). firstOf x y) (h .0 d) (faults-same next view f g (next d (view a)) (i + 1) l (h .1))
-
-number-done : {A : Type 0} (m : Res A) → numberOf m ≡ numberOf (done m)
-number-done (ok a q) = refl
-number-done (refuse x p r f) = refl
 
 pub channels-all : (g : Given) → length (g .channels) ≡ 4 → length (channelsIn g) ≡ channelsOf (g .model)
 channels-all g four = length-take-le (channelsOf (g .model)) (g .channels) (omega (arith, channels-few (g .model)))
@@ -106,32 +100,22 @@ module _ (names : List ℕ) where
   length-made gs h = omega (arith, length-file (map (blockIn names) gs), sizes-are 0 gs h)
 
   module _ (g : Given) (f : NameFitting names g) where
-    room : g .units * 2 ≤ length names - g .first
-    room = elim (ℕ-discrete (g .units) 0) [
+    found-none : foundIn names g ≡ 0
+    found-none = simp (le-leb (g .units + 1) 65535 (omega (arith, f .counted))) (ap numberOf (body-in 2 names (g .first) (g .units) (elim (ℕ-discrete (g .units) 0) [
       | yes z ↦ omega arith
       | no z ↦ omega (arith, f .inside (omega arith))
-    ]
-
-    text-number : numberOf (text (g .units) names (g .first)) ≡ a.nameFault (unitsIn names g)
-    text-number = number-done (text (g .units) names (g .first)) ∙ go (anyZero (nums 2 (g .units) names (g .first))) refl
-      where
-        go : (b : Bool) → anyZero (nums 2 (g .units) names (g .first)) ≡ b → numberOf (done (text (g .units) names (g .first))) ≡ pick b 8 0
-        go true e = ap numberOf (text-zero (g .units) names (g .first) room e)
-        go false e = ap numberOf (text-fine (g .units) names (g .first) _ room e refl)
-
-    name-same : nameFault names g ≡ a.nameFault (unitsIn names g)
-    name-same = simp (le-leb (g .units + 1) 65535 (omega (arith, f .counted))) text-number
+    ])))
 
     name-fits : Bytes names → NameFits (unitsIn names g)
     name-fits bytes = record { counted = omega (arith, f .counted, length-nums 2 (g .units) names (g .first)); units = nums-lt 2 names bytes (g .units) (g .first) 0 }
 
-  block-same : (g : Given) → Fitting names g → (d : ℕ) → blockFault names d g ≡ a.blockFault d (blockIn names g)
-  unfolding blockFault a.blockFault
-  block-same g (a-start e n) d = rw e (ap (λ (x : ℕ). firstOf (pick (ltb d 16) 0 10) x) (name-same g n))
+  -- its name is found, unless it has none
+  block-same : (g : Given) → Fitting names g → (d : ℕ) → blockFault names d g ≡ a.blockFault 0 d (blockIn names g)
+  unfolding a.blockFault
+  block-same g (a-start e n) d = ap (λ (x : ℕ). a.blockFault x d (blockIn names g)) (found-none g n)
   block-same g (an-end e) d = rw e
-  block-same g (another u) d = rw (unknown-in names g u) (simp (no-start (g .block) u, no-stop (g .block) u, no-colour (g .block) u))
-  block-same g (a-colour e n c) d =
-      rw e (ap (λ (x : ℕ). firstOf x (firstOf (pick (isModel (g .model)) 0 4) (firstOf (faultsFrom (λ i b. pick (allowsBits (g .model) b) 0 5) 0 (channelsIn g)) (pick (leb (g .type) 2) 0 5)))) (name-same g n))
+  block-same g (another u) d = rw (unknown-in names g u)
+  block-same g (a-colour e n c) d = ap (λ (x : ℕ). a.blockFault x d (blockIn names g)) (found-none g n)
 
   block-fits : Bytes names → (g : Given) → Fitting names g → BlockFits (blockIn names g)
   block-fits bytes g (a-start e n) = rw e (name-fits g n bytes)
@@ -151,58 +135,40 @@ module _ (names : List ℕ) where
 
     -- the writer's first fault is that of the blocks
     pub fault-same : fault names gs ≡ pick (leb (length (made names gs)) limit) (paletteFault (map (blockIn names) gs)) 1
-    unfolding fault paletteFault
+    unfolding fault a.blocksFault
     fault-same =
         let bs : List Block = map (blockIn names) gs in
-        let fs : faultsIn (standingIn names) (blockFault names) 0 gs ≡ faultsIn standing a.blockFault 0 bs =
-        faults-same standing (blockIn names) (blockFault names) a.blockFault 0 0 gs
-        (all-map (λ k g. Fitting names g) (λ k g. (d : ℕ) → blockFault names d g ≡ a.blockFault d (blockIn names g)) (λ k g f. block-same g f) 0 gs fit) in
+        let fs : faultsIn (standingIn names) (blockFault names) 0 gs ≡ faultsIn standing (a.blockFault 0) 0 bs =
+        faults-same standing (blockIn names) (blockFault names) (a.blockFault 0) 0 0 gs
+        (all-map (λ k g. Fitting names g) (λ k g. (d : ℕ) → blockFault names d g ≡ a.blockFault 0 d (blockIn names g)) (λ k g f. block-same g f) 0 gs fit) in
         let st : stateAfter (standingIn names) 0 gs ≡ stateAfter standing 0 bs = state-map (standingIn names) standing (blockIn names) (λ d g. refl) 0 gs in
         ap₂ (λ (m n : ℕ). pick (leb m limit) n 1) (sym (length-made gs fit)) (ap₂ (λ (m n : ℕ). firstOf m (pick (eqb n 0) 0 9)) fs st)
 
   -- ---- records without a fault fit
 
-  name-lies : (g : Given) → nameFault names g ≡ 0 → NameFitting names g
-  name-lies g e =
-      let i = test-holds (leb (g .units + 1) 65535) (numberOf (text (g .units) names (g .first))) 5 (omega arith) e in record {
-        counted = omega (arith, leb-true (g .units + 1) 65535 (i .0));
-        inside = λ h. elim (decLe (g .units * 2) (length names - g .first)) [
-          | yes r ↦ omega arith
-          | no r ↦ let z : _≡_ {A = ℕ} 2 0 = sym (ap numberOf (text-short (g .units) names (g .first) (lt-of-not-le r))) ∙ sym (number-done (text (g .units) names (g .first))) ∙ i .1 in absurd (omega arith)
-        ];
+  lies-fits : (g : Given) → nameFault names g ≡ 0 → NameFitting names g
+  lies-fits g e = let h = name-lies names g e in record { counted = omega (arith, h .0); inside = λ k. omega (arith, h .1) }
+
+  colour-fits : (g : Given) → Worded g → shadeFault g ≡ 0 → ColourFitting g
+  colour-fits g w e =
+      let h = shade-fine g e in record {
+        model-small = model-small (known-model (g .model) (h .0));
+        four = w .0;
+        each-small = all-take (λ i b. b < 256 ^ 4) (channelsOf (g .model)) 0 (g .channels) (w .1);
+        type-small = omega (arith, h .1);
       }
 
-  colour-lies : (g : Given) → Worded g → isModel (g .model) ≡ true → leb (g .type) 2 ≡ true → ColourFitting g
-  colour-lies g w m k = record {
-    model-small = model-small (known-model (g .model) m);
-    four = w .0;
-    each-small = all-take (λ i b. b < 256 ^ 4) (channelsOf (g .model)) 0 (g .channels) (w .1);
-    type-small = omega (arith, leb-true (g .type) 2 k);
-  }
-
-  faultless-fits : (d : ℕ) (g : Given) → Worded g → blockFault names d g ≡ 0 → Fitting names g
-  unfolding blockFault
-  faultless-fits d g w e = go (eqb (g .block) 0xC001) (eqb (g .block) 0xC002) (eqb (g .block) 0x0001) refl refl refl e
-    where
-      go : (x y z : Bool) → eqb (g .block) 0xC001 ≡ x → eqb (g .block) 0xC002 ≡ y → eqb (g .block) 0x0001 ≡ z
-          → pick x (firstOf (pick (ltb d deepest) 0 10) (nameFault names g)) (pick y (pick (ltb 0 d) 0 9) (pick z (colourFault names g) 4)) ≡ 0 → Fitting names g
-      go true y z p q r h = a-start (eqb-true (g .block) 0xC001 p) (name-lies g (first-inv (pick (ltb d 16) 0 10) (nameFault names g) h .1))
-      go false true z p q r h = an-end (eqb-true (g .block) 0xC002 q)
-      go false false true p q r h =
-          let cs : ℕ = faultsFrom (λ i b. pick (allowsBits (g .model) b) 0 5) 0 (channelsIn g) in
-          let k : ℕ = pick (leb (g .type) 2) 0 5 in
-          let i = first-inv (nameFault names g) (firstOf (pick (isModel (g .model)) 0 4) (firstOf cs k)) h in
-          let j = first-inv (pick (isModel (g .model)) 0 4) (firstOf cs k) (i .1) in
-          let l = first-inv cs k (j .1) in
-          a-colour (eqb-true (g .block) 0x0001 r) (name-lies g (i .0)) (colour-lies g w (pick-none (isModel (g .model)) 4 (omega arith) (j .0)) (pick-none (leb (g .type) 2) 5 (omega arith) (l .1)))
-      go false false false p q r h = absurd (omega arith)
+  faultless-fits : (d : ℕ) (g : Given) → Worded g → Sound names d g → Fitting names g
+  faultless-fits d g w (is-start e k n) = a-start e (lies-fits g n)
+  faultless-fits d g w (is-stop e k) = an-end e
+  faultless-fits d g w (is-colour e n s) = a-colour e (lies-fits g n) (colour-fits g w s)
 
   pub faultless-fit : (gs : List Given) → All (λ k g. Worded g) 0 gs → fault names gs ≡ 0 → All (λ k g. Fitting names g) 0 gs
-  unfolding fault
+  unfolding fault a.blocksFault
   faultless-fit gs w e =
       let x = test-holds (leb (size gs) limit) _ 1 (omega arith) e in
       let y = first-inv (faultsIn (standingIn names) (blockFault names) 0 gs) (pick (eqb (stateAfter (standingIn names) 0 gs) 0) 0 9) (x .1) in
       let P : ℕ → Given → Type 0 = λ d g. Worded g × (blockFault names d g ≡ 0) in
       in-all (standingIn names) (Fitting names) 0 0 gs
-      (in-map (standingIn names) P (λ d g. Fitting names g) (λ d g h. faultless-fits d g (h .0) (h .1)) 0 gs
+      (in-map (standingIn names) P (λ d g. Fitting names g) (λ d g h. faultless-fits d g (h .0) (sound names d g (h .1))) 0 gs
       (in-both (standingIn names) (λ d g. Worded g) (λ d g. blockFault names d g ≡ 0) 0 gs (all-in (standingIn names) Worded 0 0 gs w) (in-inv (standingIn names) (blockFault names) 0 gs (y .0))))

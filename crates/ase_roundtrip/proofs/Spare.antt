@@ -2,23 +2,23 @@
 use Prim.Native.Nat.{ℕ, _+_, _*_}
 use mathlib.Core.Path.{_≡_, refl, ap, ap₂, _∙_}
 use mathlib.Core.List.{List, [], _∷_, map}
-use lib.Dec.{leb, ltb, eqb}
+use lib.Dec.{leb, eqb}
 use Rattle.algebra.specs.Numbers.{nums}
-use Rattle.algebra.specs.Reader.{pick, numberOf, stateAfter, limit}
-use Rattle.algebra.specs.Text.{text}
-use Rattle.algebra.specs.Faults.{firstOf, faultsFrom, faultsIn}
+use Rattle.algebra.specs.Reader.{pick, body, numberOf, stateAfter, limit}
+use Rattle.algebra.specs.Faults.{firstOf, faultsIn}
 use Rattle.algebra.specs.Writing.{needs, writes}
-use Rattle.colour.specs.Models.{isModel, channelsOf}
-use Rattle.colour.specs.Channels.{allowsBits}
+use Rattle.colour.specs.Models.{channelsOf}
 use Rattle.ase.specs.Grammar.{Block, start, stop, colour, other, fileBytes}
-use Rattle.ase.specs.Reading.{deepest, standing}
+use Rattle.ase.specs.Reading.{standing}
+use Rattle.ase.specs.Faults as f
 use Rattle.ase.specs.Row.{Given}
-use Rattle.ase_records.specs.Writing.{unitsIn, blockIn, sizeIn, sizes, nameFault, blockFault, standingIn, fault, needed, written}
+use Rattle.ase_records.specs.Writing.{unitsIn, blockIn, sizeIn, sizes, foundIn, blockFault, fault, needed, written}
+use Rattle.ase_records.specs.Parts.{standingIn}
 use Rattle.ase_roundtrip.specs.Tie.{Alike, starts, ends, colours, AllAlike}
 
 module _ (names : List ℕ) where
-  name-alike : (g h : Given) → g .first ≡ h .first → g .units ≡ h .units → nameFault names g ≡ nameFault names h
-  name-alike g h a b = ap₂ (λ (p n : ℕ). pick (leb (n + 1) 65535) (numberOf (text n names p)) 5) a b
+  found-alike : (g h : Given) → g .first ≡ h .first → g .units ≡ h .units → foundIn names g ≡ foundIn names h
+  found-alike g h a b = ap₂ (λ (p n : ℕ). pick (leb (n + 1) 65535) (numberOf (body 2 n names p)) 5) a b
 
   units-alike : (g h : Given) → g .first ≡ h .first → g .units ≡ h .units → unitsIn names g ≡ unitsIn names h
   units-alike g h a b = ap₂ (λ (p n : ℕ). nums 2 n names p) a b
@@ -30,14 +30,10 @@ module _ (names : List ℕ) where
       λ i. pick (eqb (x i) 0xC001) (start (units-alike g h a b i)) (pick (eqb (x i) 0xC002) stop (pick (eqb (x i) 0x0001) (colour (units-alike g h a b i) (m i) (c i) (k i)) (other (x i))))
 
   pub fault-alike : (d : ℕ) (g h : Given) → Alike g h → blockFault names d g ≡ blockFault names d h
-  unfolding blockFault
-  fault-alike d g h (starts x y a b) = rw (x, y) (ap (λ (z : ℕ). firstOf (pick (ltb d deepest) 0 10) z) (name-alike g h a b))
+  unfolding f.blockFault
+  fault-alike d g h (starts x y a b) = λ i. f.blockFault (found-alike g h a b i) d (block-alike g h (starts x y a b) i)
   fault-alike d g h (ends x y) = rw (x, y)
-  fault-alike d g h (colours x a b m c k) = λ i.
-      let n : ℕ = name-alike g h a b i in
-      pick (eqb (x i) 0xC001) (firstOf (pick (ltb d deepest) 0 10) n)
-      (pick (eqb (x i) 0xC002) (pick (ltb 0 d) 0 9)
-      (pick (eqb (x i) 0x0001) (firstOf n (firstOf (pick (isModel (m i)) 0 4) (firstOf (faultsFrom (λ j v. pick (allowsBits (m i) v) 0 5) 0 (c i)) (pick (leb (k i) 2) 0 5)))) 4))
+  fault-alike d g h (colours x a b m c k) = λ i. f.blockFault (found-alike g h a b i) d (block-alike g h (colours x a b m c k) i)
 
 pub size-alike : (g h : Given) → Alike g h → sizeIn g ≡ sizeIn h
 size-alike g h (starts x y a b) = rw (x, y) (ap (λ (n : ℕ). 6 + (4 + 2 * n)) b)
@@ -79,7 +75,7 @@ module _ (names : List ℕ) where
 
   module _ (gs hs : List Given) (x : AllAlike gs hs) where
     pub first-alike : fault names gs ≡ fault names hs
-    unfolding fault
+    unfolding fault f.blocksFault
     first-alike = λ i. pick (leb (12 + sizes-alike gs hs x i) limit) (firstOf (faults-alike 0 gs hs x i) (pick (eqb (state-alike 0 gs hs x i) 0) 0 9)) 1
 
     pub needed-alike : needed names gs ≡ needed names hs

@@ -23,10 +23,10 @@ use Rattle.colour.specs.declared.model.Known.the-variants.{Is, Unknown}
 use Rattle.colour.specs.declared.model.Model.the-variants.{Rgb, Cmyk, Lab, Gray}
 use Rattle.ase.specs.Grammar.{Block, start, stop, colour, typeOf, payload, blockBytes, fileBytes}
 use Rattle.ase.specs.Row.{Given, width, taken}
-use Rattle.ase_records.specs.Writing.{unitsIn, channelsIn, blockIn, nameSize, sizeIn, sizes, size, nameFault}
-use Rattle.ase_records.specs.Parts.{shadeBytes, ownFault}
+use Rattle.ase_records.specs.Writing.{unitsIn, channelsIn, blockIn, nameSize, sizeIn, sizes, size}
+use Rattle.ase_records.specs.Parts.{nameFault, shadeBytes, ownFault}
 use Rattle.ase_records.specs.Parts as parts
-use Rattle.ase_records.proofs.Judging.{Sort, is-start, is-stop, is-colour, head-fine, block-head, channels-few, size-start, size-stop, size-colour, name-inside}
+use Rattle.ase_records.proofs.Judging.{Sound, is-start, is-stop, is-colour, sound, channels-few, size-start, size-stop, size-colour, name-inside}
 use Rattle.algebra.proofs.Storing.{as-sets, peel, peel-be, length-kept}
 
 -- ---- a name
@@ -145,41 +145,42 @@ module _ (names : List ℕ) (g : Given) where
   block-colour : g .block ≡ 0x0001 → blockIn names g ≡ colour (unitsIn names g) (g .model) (channelsIn g) (g .type)
   block-colour e = rw e
 
-  -- one of the three types, where it has no fault of its own
-  pub sort : ownFault names g ≡ 0 → Sort 1 (g .block)
-  sort e = head-fine 1 (g .block) (block-head names 1 g e)
-
-  type-is : Sort 1 (g .block) → typeOf (blockIn names g) ≡ g .block
-  type-is (is-start e k) = ap typeOf (block-start e) ∙ sym e
+  type-is : Sound names 1 g → typeOf (blockIn names g) ≡ g .block
+  type-is (is-start e k n) = ap typeOf (block-start e) ∙ sym e
   type-is (is-stop e k) = ap typeOf (block-stop e) ∙ sym e
-  type-is (is-colour e) = ap typeOf (block-colour e) ∙ sym e
+  type-is (is-colour e n s) = ap typeOf (block-colour e) ∙ sym e
 
-  pub type-small : Sort 1 (g .block) → g .block < 65536
-  type-small (is-start e k) = omega arith
+  pub type-small : Sound names 1 g → g .block < 65536
+  type-small (is-start e k n) = omega arith
   type-small (is-stop e k) = omega arith
-  type-small (is-colour e) = omega arith
+  type-small (is-colour e n s) = omega arith
 
   -- a record that does not end a group has a name
-  pub size-name : Sort 1 (g .block) → (g .block ≡ 0xC002 → ⊥) → 6 + nameSize g ≤ sizeIn g
-  size-name (is-start e k) x = omega (arith, size-start g e)
+  pub size-name : Sound names 1 g → (g .block ≡ 0xC002 → ⊥) → 6 + nameSize g ≤ sizeIn g
+  size-name (is-start e k n) x = omega (arith, size-start g e)
   size-name (is-stop e k) x = absurd (x e)
-  size-name (is-colour e) x = omega (arith, size-colour g e)
+  size-name (is-colour e n s) x = omega (arith, size-colour g e)
+
+  pub sound-name : Sound names 1 g → (g .block ≡ 0xC002 → ⊥) → nameFault names g ≡ 0
+  sound-name (is-start e k n) x = n
+  sound-name (is-stop e k) x = absurd (x e)
+  sound-name (is-colour e n s) x = n
 
   -- and one that starts none either is a colour
-  pub sort-colour : Sort 1 (g .block) → (g .block ≡ 0xC002 → ⊥) → (g .block ≡ 0xC001 → ⊥) → g .block ≡ 0x0001
-  sort-colour (is-start e k) x y = absurd (y e)
-  sort-colour (is-stop e k) x y = absurd (x e)
-  sort-colour (is-colour e) x y = e
+  pub sound-colour : Sound names 1 g → (g .block ≡ 0xC002 → ⊥) → (g .block ≡ 0xC001 → ⊥) → (g .block ≡ 0x0001) × (parts.shadeFault g ≡ 0)
+  sound-colour (is-start e k n) x y = absurd (y e)
+  sound-colour (is-stop e k) x y = absurd (x e)
+  sound-colour (is-colour e n s) x y = (e, s)
 
   module _ (l : length (g .channels) ≡ 4) where
-    length-payload : Sort 1 (g .block) → 6 + length (payload (blockIn names g)) ≡ sizeIn g
-    length-payload (is-start e k) = omega (arith, ap (λ (b : Block). length (payload b)) (block-start e), length-name names g, size-start g e)
+    length-payload : Sound names 1 g → 6 + length (payload (blockIn names g)) ≡ sizeIn g
+    length-payload (is-start e k n) = omega (arith, ap (λ (b : Block). length (payload b)) (block-start e), length-name names g, size-start g e)
     length-payload (is-stop e k) = omega (arith, ap (λ (b : Block). length (payload b)) (block-stop e), size-stop g e)
-    length-payload (is-colour e) =
+    length-payload (is-colour e n s) =
         let a = length-append (nameBytes 2 (unitsIn names g)) (shadeBytes g) in
         omega (arith, ap (λ (b : Block). length (payload b)) (block-colour e), a, length-name names g, length-shade g l, size-colour g e)
 
-    length-block : Sort 1 (g .block) → length (blockBytes (blockIn names g)) ≡ sizeIn g
+    length-block : Sound names 1 g → length (blockBytes (blockIn names g)) ≡ sizeIn g
     unfolding blockBytes
     length-block s =
         let b : Block = blockIn names g in
@@ -187,7 +188,7 @@ module _ (names : List ℕ) (g : Given) where
         let y = length-append (be 4 (length (payload b))) (payload b) in
         omega (arith, x, y, length-be 2 (typeOf b), length-be 4 (length (payload b)), length-payload s)
 
-    module _ (s : Sort 1 (g .block)) (o₀ o₁ o₂ : List ℕ) (at n : ℕ) (m : n ≡ sizeIn g) (room : at + sizeIn g ≤ length o₀)
+    module _ (s : Sound names 1 g) (o₀ o₁ o₂ : List ℕ) (at n : ℕ) (m : n ≡ sizeIn g) (room : at + sizeIn g ≤ length o₀)
         (e₁ : o₁ ≡ stored o₀ at (be 2 (g .block))) (e₂ : o₂ ≡ stored o₁ (at + 2) (be 4 (n - 6))) where
       -- the six bytes before the payload
       head : sets o₀ at (blockBytes (blockIn names g)) ≡ sets o₂ (at + 6) (payload (blockIn names g))
@@ -211,7 +212,7 @@ module _ (names : List ℕ) (g : Given) where
         put-colour x y o₄ k z e₄ =
             let p : at + 6 + nameSize g ≡ at + 10 + 2 * k = omega arith in
             e₄ ∙ sym (
-            head ∙ ap (λ (b : Block). sets o₂ (at + 6) (payload b)) (block-colour (sort-colour s x y))
+            head ∙ ap (λ (b : Block). sets o₂ (at + 6) (payload b)) (block-colour (sound-colour s x y .0))
             ∙ peel o₂ o₃ (nameBytes 2 (unitsIn names g)) (shadeBytes g) (at + 6) (nameSize g) (at + 10 + 2 * k) (length-name names g) p e₃)
 
 -- ---- a loop that stores the records of a run
@@ -226,7 +227,7 @@ module _ (run names all out : List ℕ) (n i at : ℕ) where
     unfolding joined
     puts-turn h o k w f g z s =
         let b : List ℕ = blockBytes (blockIn names (taken (rowAt width run i))) in
-        let l : length b ≡ k = length-block names (taken (rowAt width run i)) refl (sort names (taken (rowAt width run i)) f) ∙ sym w in
+        let l : length b ≡ k = length-block names (taken (rowAt width run i)) refl (sound names 1 (taken (rowAt width run i)) f) ∙ sym w in
         inv ∙ ap (λ (gs : List Given). sets out at (joined blockBytes (map (blockIn names) gs))) (counted-turn (λ i. taken (rowAt width run i)) n i h)
         ∙ peel out o b (joined blockBytes (map (blockIn names) (rows width taken run (n - (i + 1)) (i + 1)))) at k (at + k) l refl (s ∙ ap (λ (x : Given). sets out at (blockBytes (blockIn names x))) z)
 
@@ -244,7 +245,7 @@ module _ (run names : List ℕ) where
       let g : Given = taken (rowAt width run k) in
       let x = first-inv (ownFault names g) (faults (ownFault names) (rows width taken run n (k + 1))) e in
       let a = length-append (blockBytes (blockIn names g)) (joined blockBytes (map (blockIn names) (rows width taken run n (k + 1)))) in
-      omega (arith, a, length-block names g refl (sort names g (x .0)), length-blocks n (k + 1) (x .1))
+      omega (arith, a, length-block names g refl (sound names 1 g (x .0)), length-blocks n (k + 1) (x .1))
 
   module _ (n : ℕ) where
     length-all : length (map (blockIn names) (rows width taken run n 0)) ≡ n

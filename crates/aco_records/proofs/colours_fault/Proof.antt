@@ -5,7 +5,7 @@ use Rattle.algebra.specs.Faults.{faults}
 use Rattle.algebra.specs.Table.{rows}
 use Rattle.algebra.proofs.Counted.{faults-start, faults-found, faults-more, faults-end}
 use Rattle.aco.specs.Row.{width, taken}
-use Rattle.aco_records.specs.Writing.{colourFault}
+use Rattle.aco_records.specs.Parts.{colourFault}
 use Rattle.aco_records.proofs.Judging.{givenAt}
 use borrow.Author.Needs.{needs}
 use Rattle.aco_records.proofs.colours_fault.Statement.{statement}

@@ -1,9 +1,7 @@
-use Prim.Native.Nat.{ℕ}
+use Rattle.aco_records.proofs.Judging.{name-is}
 use mathlib.Core.Path.{sym, ap, _∙_}
-use Rattle.algebra.specs.Reader.{done}
-use Rattle.algebra.specs.Text.{text}
-use Rattle.algebra.proofs.Firsts.{name-number}
 use Rattle.fields.specs.Answer.{toldStep}
+use Rattle.aco_records.specs.Parts.{toldRecord}
 use borrow.Author.Needs.{needs}
 use Rattle.aco_records.proofs.name_fault.Statement.{statement}
 use Rattle.aco_records.proofs.name_fault.Tie as tie
@@ -24,15 +22,13 @@ returns : tie.Need-returns
 returns c =
     let t = c .before .before in
     let a = t .before .before .before .args in
-    name-number (text (a .given .units) (a .text .now) (a .given .first)) _
-    (sym (ap toldStep (c .enum-told .given .1)) ∙ t .text-at .ensures ∙ ap (λ (k : ℕ). done (text (a .given .units) (a .text .now) k)) (t .before .wide .ensures .0))
+    name-is (a .text .now) (toldRecord (a .given)) _ _ (t .before .wide .ensures .0) (sym (ap toldStep (c .enum-told .given .1)) ∙ t .text-at .ensures)
 
 returns-2 : tie.Need-returns-2
 returns-2 c =
     let t = c .before .before .before in
     let a = t .before .before .before .args in
-    name-number (text (a .given .units) (a .text .now) (a .given .first)) _
-    (sym (ap toldStep (c .before .x .given .1)) ∙ t .text-at .ensures ∙ ap (λ (k : ℕ). done (text (a .given .units) (a .text .now) k)) (t .before .wide .ensures .0))
+    name-is (a .text .now) (toldRecord (a .given)) _ _ (t .before .wide .ensures .0) (sym (ap toldStep (c .before .x .given .1)) ∙ t .text-at .ensures)
 
 pub name-fault-spec : {M : Type 1} → statement M
 name-fault-spec =

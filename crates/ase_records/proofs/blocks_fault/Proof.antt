@@ -1,8 +1,9 @@
-use Rattle.ase_records.proofs.Judging.{blocks-start, blocks-found, blocks-more, blocks-open, blocks-closed, block-head, depth-few}
+use Rattle.ase_records.proofs.Judging.{blocks-start, blocks-found, blocks-more, blocks-open, blocks-closed, sound, depth-few}
 use mathlib.Core.Path.{_≡_, sym, _∙_}
 use native.Mathlib.Omega.{arith}
 use Rattle.ase.specs.Row.{width, taken, givenIn}
-use Rattle.ase_records.specs.Parts.{blocksFault}
+use Rattle.ase.specs.Faults.{blocksFault}
+use Rattle.ase_records.specs.Writing.{blockIn, foundIn}
 use Rattle.algebra.specs.Table.{rows}
 use borrow.Author.Needs.{needs}
 use Prim.Native.Nat.{_-_, _≤_}
@@ -10,7 +11,7 @@ use Rattle.ase_records.proofs.blocks_fault.Statement.{statement}
 use Rattle.ase_records.proofs.blocks_fault.Tie as tie
 
 abbrev Inv-loop : tie.InvT-loop
-Inv-loop run text n depth₀ i₀ depth i = (i ≤ n) × (depth ≤ 16) × (blocksFault text 0 (rows width taken run n 0) ≡ blocksFault text depth (rows width taken run (n - i) i))
+Inv-loop run text n depth₀ i₀ depth i = (i ≤ n) × (depth ≤ 16) × (blocksFault (foundIn text) (blockIn text) 0 (rows width taken run n 0) ≡ blocksFault (foundIn text) (blockIn text) depth (rows width taken run (n - i) i))
 
 abbrev μ-loop : tie.MeasureT-loop
 μ-loop run text n depth₀ i₀ depth i = n - i
@@ -45,9 +46,9 @@ loop-again c =
     let a = c .before .before .before .before .before .before .before .before .args in
     let g = givenIn (c .before .before .before .whole-at .result) in
     let e = c .before .before .block-fault .ensures in
-    let h = block-head (a .text .now) (l .depth) g (sym e ∙ c .before .if1 .left) in (
+    let h = sound (a .text .now) (l .depth) g (sym e ∙ c .before .if1 .left) in (
       omega arith,
-      omega (arith, depth-few (l .depth) (g .block) h (l .inv .1), c .depth-after .ensures),
+      omega (arith, depth-few (a .text .now) (l .depth) g h (l .inv .1), c .depth-after .ensures),
       blocks-more (a .text .now) _ _ (l .depth) (a .n) (l .i) (l .inv .2) (c .before .before .before .before .loop-test .taken) _ g (c .before .before .before .whole-at .ensures) e (c .before .if1 .left) _ (c .depth-after .ensures),
     )
 

@@ -1,5 +1,5 @@
-use Rattle.ase_records.proofs.Judging.{size-least, size-colour, block-name, block-shade}
-use Rattle.ase_write.proofs.Puts.{sort, type-small, size-name, sort-colour, put-stop, put-start, put-colour}
+use Rattle.ase_records.proofs.Judging.{size-least, size-colour, sound}
+use Rattle.ase_write.proofs.Puts.{type-small, size-name, sound-name, sound-colour, put-stop, put-start, put-colour}
 use mathlib.Core.Path.{refl}
 use native.Mathlib.Omega.{arith}
 use Rattle.ase.specs.Row.{givenIn}
@@ -13,7 +13,7 @@ cast-put-u16 c =
     let s = c .before .before .before .before in
     let a = s .args in
     let g = givenIn (a .given) in
-    let f = sort (a .text .now) g (s .pre .0 .sound) in
+    let f = sound (a .text .now) 1 g (s .pre .0 .sound) in
     omega (arith, type-small (a .text .now) g f)
 
 put-u16-requires : tie.Need-put-u16-requires
@@ -39,7 +39,7 @@ returns c =
     let s = c .before .before .before .before .before .before .before .before .before .before .before .before .before in
     let a = s .args in
     let g = givenIn (a .given) in
-    let f = sort (a .text .now) g (s .pre .0 .sound) in
+    let f = sound (a .text .now) 1 g (s .pre .0 .sound) in
     put-stop (a .text .now) g refl f (a .out .now) _ _ (a .at) (a .size) (s .pre .1) (s .pre .0 .inside) (c .before .before .before .before .before .before .before .before .put-u16 .ensures) (c .before .before .before .before .put-u32 .ensures) (c .if1 .taken)
 
 add-put-name : tie.Need-add-put-name
@@ -50,8 +50,8 @@ put-name-requires c κs =
     let s = c .before .before .before .before .before .before .before .before .before .before .before .before .before .before in
     let a = s .args in
     let g = givenIn (a .given) in
-    let f = sort (a .text .now) g (s .pre .0 .sound) in
-    (omega (arith, size-name (a .text .now) g f (c .before .if1 .left), s .pre .0 .inside, c .before .before .before .before .before .before .before .before .before .put-u16 .kept .0, c .before .before .before .before .before .put-u32 .kept .0), block-name (a .text .now) 1 g (s .pre .0 .sound) (c .before .if1 .left))
+    let f = sound (a .text .now) 1 g (s .pre .0 .sound) in
+    (omega (arith, size-name (a .text .now) g f (c .before .if1 .left), s .pre .0 .inside, c .before .before .before .before .before .before .before .before .before .put-u16 .kept .0, c .before .before .before .before .before .put-u32 .kept .0), sound-name (a .text .now) g f (c .before .if1 .left))
 
 same-length-2 : tie.Need-same-length-2
 same-length-2 c = search needs
@@ -61,7 +61,7 @@ returns-2 c =
     let s = c .before .before .before .before .before .before .before .before .before .before .before .before .before .before .before .before .before .before .before in
     let a = s .args in
     let g = givenIn (a .given) in
-    let f = sort (a .text .now) g (s .pre .0 .sound) in
+    let f = sound (a .text .now) 1 g (s .pre .0 .sound) in
     put-start (a .text .now) g refl f (a .out .now) _ _ (a .at) (a .size) (s .pre .1) (s .pre .0 .inside) (c .before .before .before .before .before .before .before .before .before .before .before .before .before .before .put-u16 .ensures) (c .before .before .before .before .before .before .before .before .before .before .put-u32 .ensures) _ (c .before .before .before .before .put-name .ensures) (c .if2 .taken)
 
 add-put-shade : tie.Need-add-put-shade
@@ -81,11 +81,12 @@ put-shade-requires c κs =
     let s = c .before .before .before .before .before .before .before .before .before .before .before .before .before .before .before .before .before .before .before .before .before in
     let a = s .args in
     let g = givenIn (a .given) in
-    let f = sort (a .text .now) g (s .pre .0 .sound) in
+    let f = sound (a .text .now) 1 g (s .pre .0 .sound) in
     let x = c .before .before .before .before .before .before .before .before .if1 .left in
     let y = c .before .before .if2 .left in
-    let h = size-colour g (sort-colour (a .text .now) g f x y) in
-    (omega (arith, h, c .wide .ensures .0, s .pre .0 .inside, c .before .before .before .before .before .before .before .before .before .before .before .before .before .before .before .before .put-u16 .kept .0, c .before .before .before .before .before .before .before .before .before .before .before .before .put-u32 .kept .0, c .before .before .before .before .before .before .put-name .kept .0), block-shade (a .text .now) 1 g (s .pre .0 .sound) x y)
+    let k = sound-colour (a .text .now) g f x y in
+    let h = size-colour g (k .0) in
+    (omega (arith, h, c .wide .ensures .0, s .pre .0 .inside, c .before .before .before .before .before .before .before .before .before .before .before .before .before .before .before .before .put-u16 .kept .0, c .before .before .before .before .before .before .before .before .before .before .before .before .put-u32 .kept .0, c .before .before .before .before .before .before .put-name .kept .0), k .1)
 
 same-length-3 : tie.Need-same-length-3
 same-length-3 c = search needs
@@ -95,7 +96,7 @@ returns-3 c =
     let s = c .before .before .before .before .before .before .before .before .before .before .before .before .before .before .before .before .before .before .before .before .before .before .before .before in
     let a = s .args in
     let g = givenIn (a .given) in
-    let f = sort (a .text .now) g (s .pre .0 .sound) in
+    let f = sound (a .text .now) 1 g (s .pre .0 .sound) in
     put-colour (a .text .now) g refl f (a .out .now) _ _ (a .at) (a .size) (s .pre .1) (s .pre .0 .inside) (c .before .before .before .before .before .before .before .before .before .before .before .before .before .before .before .before .before .before .before .put-u16 .ensures) (c .before .before .before .before .before .before .before .before .before .before .before .before .before .before .before .put-u32 .ensures) _ (c .before .before .before .before .before .before .before .before .before .put-name .ensures) (c .before .before .before .before .before .before .before .before .before .before .before .if1 .left) (c .before .before .before .before .before .if2 .left) _ _ (c .before .before .before .wide .ensures .0) (c .before .before .put-shade .ensures)
 
 pub put-block-spec : {M : Type 1} → statement M

@@ -1,4 +1,4 @@
-use Rattle.ase_records.proofs.Judging.{name-short, name-inside}
+use Rattle.ase_records.proofs.Judging.{name-lies, name-inside}
 use Rattle.ase_write.proofs.Puts.{put-name}
 use Rattle.algebra.specs.Store.{stored, part}
 use Rattle.algebra.specs.Text.{countedUnits}
@@ -26,10 +26,10 @@ add-end c =
     omega (arith, name-inside (s .args .text .now) (givenIn (s .args .given)) (s .pre .1), c .wide .ensures .0, c .before .name-start .ensures, s .good)
 
 add-put-name16 : tie.Need-add-put-name16
-add-put-name16 c = let s = c .before .before .before .before .before in omega (arith, name-short (s .args .text .now) (givenIn (s .args .given)) (s .pre .1))
+add-put-name16 c = let s = c .before .before .before .before .before in omega (arith, name-lies (s .args .text .now) (givenIn (s .args .given)) (s .pre .1) .0)
 
 cast-put-name16 : tie.Need-cast-put-name16
-cast-put-name16 c = let s = c .before .before .before .before .before in omega (arith, name-short (s .args .text .now) (givenIn (s .args .given)) (s .pre .1))
+cast-put-name16 c = let s = c .before .before .before .before .before in omega (arith, name-lies (s .args .text .now) (givenIn (s .args .given)) (s .pre .1) .0)
 
 sub-put-name16 : tie.Need-sub-put-name16
 sub-put-name16 c = search needs
