@@ -167,10 +167,10 @@ module _ (s : List ℕ) where
 -- ---- a loop over the blocks of an accepted section, which begins at `first`
 
 module _ (s : List ℕ) (first : ℕ) (ends : first + length s ≤ most) (at : ℕ) (fit : Sound s at) where
-  pub lines-end : (all o : Buffer) (i : ℕ) → at ≡ length s → all ≡ putAll o (lines (line first) i (rest s at)) → all ≡ o
+  pub lines-end : (all o : Buffer) (i : ℕ) → length s ≤ at → all ≡ putAll o (lines (line first) i (rest s at)) → all ≡ o
   lines-end all o i e f = lines-none (line first) all o i (f ∙ ap (λ (l : List Entry). putAll o (lines (line first) i l)) (none-left s at fit e))
 
-  module _ (more : at ≡ length s → ⊥) {r : Record} {q : ℕ} (h : ok r q ≡ mapRes recordOf (block s at)) where
+  module _ (more : at < length s) {r : Record} {q : ℕ} (h : ok r q ≡ mapRes recordOf (block s at)) where
     -- the block's record, where its parts lie, and what is left
     pub record Listed : Type 0 where
       pub entry : Entry
@@ -193,7 +193,7 @@ module _ (s : List ℕ) (first : ℕ) (ends : first + length s ≤ most) (at : �
               λ i. ap (shown s first i) (sym (x .2))
               ∙ ap (λ (b : List ℕ). decimal i ++ word (e .id) ++ ascii " " ++ name b ++ word (first + e .payload .first) ++ word (length (e .payload .bytes)) ++ ascii "\n") (block-name s at (fit .inside) (x .1));
           lying = subst (Lying s first) (x .2) y;
-          all = ap entriesOf (blocks-ok s at (fit .inside) more e q (x .1) ∙ ap (λ (m : Res (List Entry)). then m (λ es end. ok (e ∷ es) end)) (t .sound .reads));
+          all = ap entriesOf (blocks-ok s at (fit .inside) (λ z. omega arith) e q (x .1) ∙ ap (λ (m : Res (List Entry)). then m (λ es end. ok (e ∷ es) end)) (t .sound .reads));
           sound = t .sound;
           moved = t .moved;
         }

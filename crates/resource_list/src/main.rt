@@ -63,7 +63,7 @@ fn put_blocks(out: &mut [u8], n: usize, section: &[u8], first: usize) -> usize
     let mut full = n;
     let mut at: usize = 0;
     let mut i: usize = 0;
-    while at != section.len() {
+    while at < section.len() {
         match resource_judge::block_at(section, at) {
             Found::Refused {
                 number: _,

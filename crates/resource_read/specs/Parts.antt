@@ -1,5 +1,5 @@
--- What the parts of filling and searching take. No rule stands here.
-use Prim.Native.Nat.{ℕ, _≤_, _<_}
+-- Scaffolding: what the parts of filling and searching take. No rule stands here.
+use Prim.Native.Nat.{ℕ, _+_, _%_, _≤_, _<_}
 use mathlib.Core.Path.{_≡_}
 use mathlib.Core.List.{List, []}
 use lib.ListN.{length}
@@ -27,3 +27,7 @@ pub record Small (r : Record) : Type 0 where
   pub letters : r .letters < 4294967296
   pub payload : r .payload < 4294967296
   pub size : r .size < 4294967296
+
+-- the place behind a block, by its record
+abbrev pub behind : Record → ℕ
+behind r = r .payload + r .size + r .size % 2

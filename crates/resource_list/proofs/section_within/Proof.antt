@@ -1,4 +1,5 @@
 use borrow.Author.Needs.{needs}
+use native.Mathlib.Omega.{arith}
 use lib.ListN.{length}
 use mathlib.Core.Path.{sym, ap, _∙_}
 use Rattle.resource_document.specs.Answer.{told}
@@ -23,7 +24,7 @@ returns : tie.Need-returns
 returns c =
     let r = c .before .before .before .before in
     let s = r .before .before .args .file .now in
-    reached-past (length s) _ (sym (ap told (c .before .before .first .given .1)) ∙ r .resources .ensures) (c .if1 .taken)
+    reached-past (length s) _ (sym (ap told (c .before .before .first .given .1)) ∙ r .resources .ensures) (omega (arith, c .if1 .taken))
 
 enum-known-number : tie.Need-enum-known-number
 enum-known-number c = search needs
@@ -32,25 +33,25 @@ returns-2 : tie.Need-returns-2
 returns-2 c =
     let r = c .before .before .before .before in
     let s = r .before .before .args .file .now in
-    refused-short (length s) _ (sym (ap told (c .before .before .number .given .1)) ∙ r .resources .ensures) (c .if2 .taken)
+    refused-short (length s) _ (sym (ap told (c .before .before .number .given .1)) ∙ r .resources .ensures) (omega (arith, c .if2 .taken))
 
 returns-3 : tie.Need-returns-3
 returns-3 c =
     let r = c .before .before .before .before .before in
     let s = r .before .before .args .file .now in
-    cut-long (length s) _ (sym (ap told (c .before .before .before .number .given .1)) ∙ r .resources .ensures) (c .before .if2 .left) (c .if3 .taken)
+    cut-long (length s) _ (sym (ap told (c .before .before .before .number .given .1)) ∙ r .resources .ensures) (omega (arith, c .before .if2 .left)) (c .if3 .taken)
 
 returns-4 : tie.Need-returns-4
 returns-4 c =
     let r = c .before .before .before .before in
     let s = r .before .before .args .file .now in
-    reached-there (length s) _ (sym (ap told (c .before .before .first .given .1)) ∙ r .resources .ensures) (c .if1 .left)
+    reached-there (length s) _ (sym (ap told (c .before .before .first .given .1)) ∙ r .resources .ensures) (omega (arith, c .if1 .left))
 
 returns-5 : tie.Need-returns-5
 returns-5 c =
     let r = c .before .before .before .before .before in
     let s = r .before .before .args .file .now in
-    refused-long (length s) _ (sym (ap told (c .before .before .before .number .given .1)) ∙ r .resources .ensures) (c .before .if2 .left) (c .if3 .left)
+    refused-long (length s) _ (sym (ap told (c .before .before .before .number .given .1)) ∙ r .resources .ensures) (omega (arith, c .before .if2 .left)) (c .if3 .left)
 
 pub section-within-spec : {M : Type 1} → statement M
 section-within-spec =
