@@ -121,7 +121,7 @@ module _ (s : List ℕ) where
 -- ---- a block's name
 
 -- belongs in algebra: bytes one after the other are a part of the file
-nums-part : (s : List ℕ) (n at : ℕ) → at + n ≤ length s → nums 1 n s at ≡ part s at n
+pub nums-part : (s : List ℕ) (n at : ℕ) → at + n ≤ length s → nums 1 n s at ≡ part s at n
 unfolding nums
 nums-part s zero at h = refl
 nums-part s (suc n) at h =

@@ -48,7 +48,7 @@ module _ (s : List ℕ) {n : ℕ} (v : accepted n ≡ verdict length (resources 
       let end : a .1 ≡ length s = blocks-end s 0 (omega arith) (a .0) (a .1) (i .1) in
       let is : a .0 ≡ rest s 0 = sym (ap entriesOf (i .1)) in
       let b : ok (a .0) (a .1) ≡ ok (rest s 0) (length s) = ap₂ (λ (l : List Entry) (k : ℕ). ok l k) is end in record {
-        sound = record { short = leb-true (length s) limit (i .0); inside = omega arith; reads = i .1 ∙ b };
+        sound = record { short = leb-true (length s) limit (i .0); inside = omega arith; even = refl; reads = i .1 ∙ b };
         count = sym (ap length is) ∙ a .3;
         reads = a .2 ∙ b;
       }

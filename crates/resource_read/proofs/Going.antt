@@ -63,7 +63,7 @@ module _ (s : List ℕ) (at : ℕ) (fit : Sound s at) where
           entry = e;
           is = x .2;
           all = ap entriesOf (b ∙ ap (λ (m : Res (List Entry)). then m (λ es end. ok (e ∷ es) end)) again);
-          sound = record { short = lim; inside = w .1; reads = again };
+          sound = record { short = lim; inside = w .1; even = omega (arith, l .1, fit .even); reads = again };
           moved = w .0;
           small = subst Small (x .2) sm;
         }

@@ -1,5 +1,5 @@
 -- A block of an accepted section by its lengths alone. Assumes nothing.
-use Prim.Native.Nat.{ℕ, _+_, _-_, _%_, _≤_, _<_}
+use Prim.Native.Nat.{ℕ, _+_, _*_, _/_, _%_, _≤_, _<_}
 use mathlib.Core.Path.{_≡_, refl, sym, ap, ap₂, _∙_, subst}
 use mathlib.Core.List.{List}
 use lib.ListN.{length, getD}
@@ -59,6 +59,13 @@ module _ (s : List ℕ) where
           let n = ap (λ (x : Part). length (x .bytes)) is in
           omega (arith, l .1)
 
+-- where bytes from an even place end, made even
+rounded : (e z : ℕ) → e % 2 ≡ 0 → e + (z + z % 2) ≡ (e + z + 1) / 2 * 2
+rounded e z h = omega arith
+
+even-size : (at l : ℕ) → at % 2 ≡ 0 → (at + 8 + l / 2 * 2 + 4) % 2 ≡ 0
+even-size at l h = omega arith
+
 module _ (s : List ℕ) (at : ℕ) (fit : Sound s at) (more : at < length s) where
   -- before the end a block is read
   there : (e : Entry) × (q : ℕ) × (block s at ≡ ok e q)
@@ -75,7 +82,7 @@ module _ (s : List ℕ) (at : ℕ) (fit : Sound s at) (more : at < length s) whe
   module _ {l : ℕ} (el : l ≡ getD s (at + 6) 0) where
     -- where the data's length stands
     abbrev sizeAt : ℕ
-    sizeAt = at + 7 + l + (1 + l) % 2
+    sizeAt = at + 8 + l / 2 * 2
 
     letters-are : length (there .0 .name .bytes) ≡ l
     letters-are = block-numbers s at (there .2) .letters ∙ num-1 s (at + 6) ∙ sym el
@@ -84,7 +91,7 @@ module _ (s : List ℕ) (at : ℕ) (fit : Sound s at) (more : at < length s) whe
     given-end = let t = there in omega (arith, letters-are, block-lies s at (t .2) .1, block-moves s at (t .0) (t .1) (fit .inside) (t .2) .1)
 
     pub given-is : {i z : ℕ} → i ≡ orZero (field 2 s (at + 4)) → z ≡ orZero (field 4 s sizeAt)
-        → ok (record { id = i; name = at + 7; letters = l; payload = sizeAt + 4; size = z }) (sizeAt + 4 + z + z % 2) ≡ mapRes recordOf (block s at)
+        → ok (record { id = i; name = at + 7; letters = l; payload = sizeAt + 4; size = z }) ((sizeAt + 4 + z + 1) / 2 * 2) ≡ mapRes recordOf (block s at)
     given-is {i} {z} ei ez =
         let t = there in
         let e : Entry = t .0 in
@@ -95,7 +102,8 @@ module _ (s : List ℕ) (at : ℕ) (fit : Sound s at) (more : at < length s) whe
         let id : e .id ≡ i = n .id ∙ sym (ap orZero (field-in 2 s (at + 4) (omega (arith, given-room)))) ∙ sym ei in
         let size : length (e .payload .bytes) ≡ z = n .size ∙ ap (num 4 s) p ∙ sym (ap orZero (field-in 4 s sizeAt (omega (arith, given-end)))) ∙ sym ez in
         let first : e .payload .first ≡ sizeAt + 4 = b .0 .payload ∙ ap (λ (k : ℕ). k + 4) p in
-        let end : t .1 ≡ sizeAt + 4 + z + z % 2 = omega (arith, b .1, size, p) in
+        let far : t .1 ≡ sizeAt + 4 + (z + z % 2) = omega (arith, b .1, size, p) in
+        let end : t .1 ≡ (sizeAt + 4 + z + 1) / 2 * 2 = far ∙ rounded (sizeAt + 4) z (even-size at l (fit .even)) in
         sym (ap (mapRes recordOf) (t .2) ∙ same id (b .0 .name) len first size end)
       where
         same : {a b c d f g a′ b′ c′ d′ f′ g′ : ℕ} → a ≡ a′ → b ≡ b′ → c ≡ c′ → d ≡ d′ → f ≡ f′ → g ≡ g′

@@ -42,7 +42,7 @@ fn given_at(file: &[u8], at: usize) -> Record
     ensures { λ r. ⌜ ok r (behind r) ≡ mapRes recordOf (block (now (file .entry)) at) ⌝ }
 {
     let letters = wide(file[at + 6]);
-    let p = at + 7 + letters + (1 + letters) % 2;
+    let p = at + 8 + letters / 2 * 2;
     Record {
         id: fields::u16_or_zero(file, at + 4) as u32,
         name: at + 7,
@@ -73,7 +73,8 @@ fn fill(file: &[u8], table: &mut [u32])
     let mut to: usize = 0;
     while at < file.len() {
         let given = given_at(file, at);
-        at = given.payload + given.size + given.size % 2;
+        let end = given.payload + given.size;
+        at = (end + 1) / 2 * 2;
         put_row(table, to, given);
         to += WIDTH;
     }
@@ -103,7 +104,8 @@ fn nth(file: &[u8], i: usize) -> Record
         if k == 0 {
             return given;
         }
-        at = given.payload + given.size + given.size % 2;
+        let end = given.payload + given.size;
+        at = (end + 1) / 2 * 2;
         k -= 1;
     }
     no_record()
@@ -121,7 +123,8 @@ fn index_of(file: &[u8], id: u32) -> usize
         if given.id == id {
             return i;
         }
-        at = given.payload + given.size + given.size % 2;
+        let end = given.payload + given.size;
+        at = (end + 1) / 2 * 2;
         i += 1;
     }
     i

@@ -26,6 +26,15 @@ loop-holds c =
 given-at-requires : tie.Need-given-at-requires Inv-loop μ-loop
 given-at-requires c κs = (c .before .loop .inv .0 .sound, c .loop-test .taken)
 
+add-end : tie.Need-add-end Inv-loop μ-loop
+add-end c =
+    let call = c .before in
+    let l = call .before .before .loop in
+    let s = call .before .before .before .before .before .args .file .now in
+    let more = call .before .loop-test .taken in
+    let x = turned s (l .at) (l .inv .0 .sound) more (call .given-at .ensures) in
+    omega (arith, x .sound .inside, x .sound .short)
+
 add-at : tie.Need-add-at Inv-loop μ-loop
 add-at c =
     let call = c .before in
@@ -35,9 +44,9 @@ add-at c =
     let x = turned s (l .at) (l .inv .0 .sound) more (call .given-at .ensures) in
     omega (arith, x .sound .inside, x .sound .short)
 
-add-at-2 : tie.Need-add-at-2 Inv-loop μ-loop
-add-at-2 c =
-    let call = c .before .before in
+mul-at : tie.Need-mul-at Inv-loop μ-loop
+mul-at c =
+    let call = c .before in
     let l = call .before .before .loop in
     let s = call .before .before .before .before .before .args .file .now in
     let more = call .before .loop-test .taken in
@@ -46,7 +55,7 @@ add-at-2 c =
 
 put-row-requires : tie.Need-put-row-requires Inv-loop μ-loop
 put-row-requires c κs =
-    let call = c .before .before .before in
+    let call = c .before .before in
     let l = call .before .before .loop in
     let s = call .before .before .before .before .before .args .file .now in
     let more = call .before .loop-test .taken in
@@ -55,7 +64,7 @@ put-row-requires c κs =
 
 add-to : tie.Need-add-to Inv-loop μ-loop
 add-to c =
-    let call = c .before .before .before .before .before .before in
+    let call = c .before .before .before .before .before in
     let l = call .before .before .loop in
     let s = call .before .before .before .before .before .args .file .now in
     let more = call .before .loop-test .taken in
@@ -64,7 +73,7 @@ add-to c =
 
 loop-less : tie.Need-loop-less Inv-loop μ-loop
 loop-less c =
-    let call = c .before .before .before .before .before .before in
+    let call = c .before .before .before .before .before in
     let l = call .before .before .loop in
     let s = call .before .before .before .before .before .args .file .now in
     let more = call .before .loop-test .taken in
@@ -73,7 +82,7 @@ loop-less c =
 
 loop-again : tie.Need-loop-again Inv-loop μ-loop
 loop-again c =
-    let call = c .before .before .before .before .before .before in
+    let call = c .before .before .before .before .before in
     let l = call .before .before .loop in
     let s = call .before .before .before .before .before .args .file .now in
     let more = call .before .loop-test .taken in
@@ -97,8 +106,9 @@ fill-spec =
     μ-loop
     loop-holds
     given-at-requires
+    add-end
     add-at
-    add-at-2
+    mul-at
     put-row-requires
     add-to
     loop-less

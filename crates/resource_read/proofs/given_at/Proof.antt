@@ -18,24 +18,11 @@ wide-requires c κs = search needs
 add-p : tie.Need-add-p
 add-p c = search needs
 
+mul-p : tie.Need-mul-p
+mul-p c = search needs
+
 add-p-2 : tie.Need-add-p-2
 add-p-2 c =
-    let w = c in
-    let s = w .before .before .before in
-    let short = s .pre .0 .short in
-    let end = given-end (s .args .file .now) (s .args .at) (s .pre .0) (s .pre .1) (w .wide .ensures) in
-    search needs
-
-add-p-3 : tie.Need-add-p-3
-add-p-3 c =
-    let w = c in
-    let s = w .before .before .before in
-    let short = s .pre .0 .short in
-    let end = given-end (s .args .file .now) (s .args .at) (s .pre .0) (s .pre .1) (w .wide .ensures) in
-    search needs
-
-add-p-4 : tie.Need-add-p-4
-add-p-4 c =
     let w = c in
     let s = w .before .before .before in
     let short = s .pre .0 .short in
@@ -48,14 +35,14 @@ add-u16-or-zero c = search needs
 u16-or-zero-requires : tie.Need-u16-or-zero-requires
 u16-or-zero-requires c κs = search needs
 
-cast-t12 : tie.Need-cast-t12
-cast-t12 c = search needs
-
-add-t10 : tie.Need-add-t10
-add-t10 c = search needs
+cast-t11 : tie.Need-cast-t11
+cast-t11 c = search needs
 
 add-t9 : tie.Need-add-t9
-add-t9 c =
+add-t9 c = search needs
+
+add-t8 : tie.Need-add-t8
+add-t8 c =
     let w = c .before in
     let s = w .before .before .before in
     let short = s .pre .0 .short in
@@ -65,8 +52,8 @@ add-t9 c =
 u32-or-zero-requires : tie.Need-u32-or-zero-requires
 u32-or-zero-requires c κs = search needs
 
-cast-t8 : tie.Need-cast-t8
-cast-t8 c = search needs
+cast-t13 : tie.Need-cast-t13
+cast-t13 c = search needs
 
 returns : tie.Need-returns
 returns c =
@@ -82,14 +69,13 @@ given-at-spec =
     shared-slice-read-wide
     wide-requires
     add-p
+    mul-p
     add-p-2
-    add-p-3
-    add-p-4
     add-u16-or-zero
     u16-or-zero-requires
-    cast-t12
-    add-t10
+    cast-t11
     add-t9
+    add-t8
     u32-or-zero-requires
-    cast-t8
+    cast-t13
     returns)

@@ -31,6 +31,15 @@ returns c =
     let x = turned s (l .at) (l .inv .0) more (call .given-at .ensures) in
     index-here s (l .at) (l .i) _ _ (l .inv .0) (l .inv .2) more x (c .if1 .taken)
 
+add-end : tie.Need-add-end Inv-loop μ-loop
+add-end c =
+    let call = c .before .before .before in
+    let l = call .before .before .loop in
+    let s = call .before .before .before .before .args .file .now in
+    let more = call .before .loop-test .taken in
+    let x = turned s (l .at) (l .inv .0) more (call .given-at .ensures) in
+    omega (arith, x .sound .inside, x .sound .short)
+
 add-at : tie.Need-add-at Inv-loop μ-loop
 add-at c =
     let call = c .before .before .before in
@@ -40,9 +49,9 @@ add-at c =
     let x = turned s (l .at) (l .inv .0) more (call .given-at .ensures) in
     omega (arith, x .sound .inside, x .sound .short)
 
-add-at-2 : tie.Need-add-at-2 Inv-loop μ-loop
-add-at-2 c =
-    let call = c .before .before .before .before in
+mul-at : tie.Need-mul-at Inv-loop μ-loop
+mul-at c =
+    let call = c .before .before .before in
     let l = call .before .before .loop in
     let s = call .before .before .before .before .args .file .now in
     let more = call .before .loop-test .taken in
@@ -51,7 +60,7 @@ add-at-2 c =
 
 add-i : tie.Need-add-i Inv-loop μ-loop
 add-i c =
-    let call = c .before .before .before .before in
+    let call = c .before .before .before in
     let l = call .before .before .loop in
     let s = call .before .before .before .before .args .file .now in
     let more = call .before .loop-test .taken in
@@ -60,7 +69,7 @@ add-i c =
 
 loop-less : tie.Need-loop-less Inv-loop μ-loop
 loop-less c =
-    let call = c .before .before .before .before in
+    let call = c .before .before .before in
     let l = call .before .before .loop in
     let s = call .before .before .before .before .args .file .now in
     let more = call .before .loop-test .taken in
@@ -69,12 +78,12 @@ loop-less c =
 
 loop-again : tie.Need-loop-again Inv-loop μ-loop
 loop-again c =
-    let call = c .before .before .before .before in
+    let call = c .before .before .before in
     let l = call .before .before .loop in
     let s = call .before .before .before .before .args .file .now in
     let more = call .before .loop-test .taken in
     let x = turned s (l .at) (l .inv .0) more (call .given-at .ensures) in
-    (x .sound, omega (arith, x .moved, l .inv .1), index-next s (l .at) (l .i) _ _ (l .inv .0) (l .inv .2) more x (c .before .before .if1 .left))
+    (x .sound, omega (arith, x .moved, l .inv .1), index-next s (l .at) (l .i) _ _ (l .inv .0) (l .inv .2) more x (c .before .if1 .left))
 
 returns-2 : tie.Need-returns-2 Inv-loop μ-loop
 returns-2 c =
@@ -90,8 +99,9 @@ index-of-spec =
     loop-holds
     given-at-requires
     returns
+    add-end
     add-at
-    add-at-2
+    mul-at
     add-i
     loop-less
     loop-again

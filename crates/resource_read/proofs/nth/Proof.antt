@@ -32,6 +32,15 @@ returns c =
     let x = turned s (l .at) (l .inv .0) more (call .given-at .ensures) in
     nth-here s (l .at) (l .k) (l .inv .0) _ (l .inv .1) more x (c .if1 .taken)
 
+add-end : tie.Need-add-end Inv-loop μ-loop
+add-end c =
+    let call = c .before .before in
+    let l = call .before .before .loop in
+    let s = call .before .before .before .before .args .file .now in
+    let more = call .before .loop-test .taken in
+    let x = turned s (l .at) (l .inv .0) more (call .given-at .ensures) in
+    omega (arith, x .sound .inside, x .sound .short)
+
 add-at : tie.Need-add-at Inv-loop μ-loop
 add-at c =
     let call = c .before .before in
@@ -41,9 +50,9 @@ add-at c =
     let x = turned s (l .at) (l .inv .0) more (call .given-at .ensures) in
     omega (arith, x .sound .inside, x .sound .short)
 
-add-at-2 : tie.Need-add-at-2 Inv-loop μ-loop
-add-at-2 c =
-    let call = c .before .before .before in
+mul-at : tie.Need-mul-at Inv-loop μ-loop
+mul-at c =
+    let call = c .before .before in
     let l = call .before .before .loop in
     let s = call .before .before .before .before .args .file .now in
     let more = call .before .loop-test .taken in
@@ -55,7 +64,7 @@ sub-k c = search needs
 
 loop-less : tie.Need-loop-less Inv-loop μ-loop
 loop-less c =
-    let call = c .before .before .before in
+    let call = c .before .before in
     let l = call .before .before .loop in
     let s = call .before .before .before .before .args .file .now in
     let more = call .before .loop-test .taken in
@@ -64,12 +73,12 @@ loop-less c =
 
 loop-again : tie.Need-loop-again Inv-loop μ-loop
 loop-again c =
-    let call = c .before .before .before in
+    let call = c .before .before in
     let l = call .before .before .loop in
     let s = call .before .before .before .before .args .file .now in
     let more = call .before .loop-test .taken in
     let x = turned s (l .at) (l .inv .0) more (call .given-at .ensures) in
-    (x .sound, nth-next s (l .at) (l .k) (l .inv .0) _ (l .inv .1) more x (c .before .before .if1 .left))
+    (x .sound, nth-next s (l .at) (l .k) (l .inv .0) _ (l .inv .1) more x (c .before .if1 .left))
 
 no-record-requires : tie.Need-no-record-requires Inv-loop μ-loop
 no-record-requires c κs = search needs
@@ -88,8 +97,9 @@ nth-spec =
     loop-holds
     given-at-requires
     returns
+    add-end
     add-at
-    add-at-2
+    mul-at
     sub-k
     loop-less
     loop-again
