@@ -1,12 +1,12 @@
 -- The first 65,537 bytes of an input say what is listed of all of it. Assumes nothing.
-use Prim.Native.Nat.{ℕ, suc, _+_, _-_, _*_, _≤_, _<_}
+use Prim.Native.Nat.{ℕ, _+_, _-_, _*_, _≤_, _<_}
 use mathlib.Core.Path.{_≡_, refl, sym, ap, ap₂, _∙_}
 use mathlib.Core.List.{List}
 use mathlib.Core.Bool.{Bool, true, false}
 use lib.Dec.{leb, eqb}
 use lib.ListN.{length, getD, take}
 use lib.Seq.{getD-take, length-take-le, take-all}
-use borrow.Author.Tests.{le-leb, lt-leb, leb-true, leb-false}
+use borrow.Author.Tests.{lt-leb, leb-true, leb-false}
 use native.Mathlib.Omega.{arith}
 use Rattle.algebra.specs.Numbers.{num, nums}
 use Rattle.algebra.specs.Reader.{Res, ok, refuse, then, pick, field, body, Judged, judged, rule, unless, orZero, limit}

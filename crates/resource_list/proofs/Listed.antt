@@ -1,7 +1,7 @@
 -- Where a section lies, a block's name in it, and the lines. Assumes nothing.
 use Prim.Native.Nat.{ℕ, zero, suc, _+_, _-_, _≤_, _<_}
 use mathlib.Core.Path.{_≡_, refl, sym, ap, ap₂, _∙_, subst}
-use mathlib.Core.List.{List, [], _∷_, _++_}
+use mathlib.Core.List.{List, _∷_, _++_}
 use mathlib.Core.Bool.{Bool, true, false}
 use lib.Dec.{leb, eqb}
 use lib.ListN.{length, getD, take, drop}
@@ -26,7 +26,7 @@ use Rattle.resource_document.specs.Reading.{document}
 use Rattle.resource_document.proofs.Inside.{section-inside}
 use Rattle.resource_judge.proofs.Judging.{map-ok}
 use Rattle.resource_read.specs.Parts.{rest, entriesOf, Sound}
-use Rattle.resource_read.proofs.Answers.{accepted-of}
+use Rattle.resource_read.proofs.Answers.{refused-of, accepted-of, part-of}
 use Rattle.resource_read.proofs.Going.{none-left, turned}
 use Rattle.listing.specs.Buffer.{Buffer, putAll}
 use Rattle.listing.specs.Text.{ascii, decimal, word, name, lines, refusal}
@@ -34,10 +34,7 @@ use Rattle.listing.proofs.Putting.{lines-turn, lines-none}
 use Rattle.resource_list.specs.Listing.{heading, line, section, most, isDocument, reached, sectionOf, listed}
 use Rattle.resource_list.specs.Parts.{shown, Lying}
 
--- a part of a file, as the code lends it
-part-of : (s : List ℕ) (from k : ℕ) → take (from + k - from) (drop from s) ≡ part s from k
-part-of s from k = let e : from + k - from ≡ k = omega arith in ap (λ (n : ℕ). take n (drop from s)) e
-
+-- a name as a part of the section, as the code lends it
 pub put-part : (s : List ℕ) (from k : ℕ) (o : Buffer) {p : Buffer} → p ≡ putAll o (name (take (from + k - from) (drop from s))) → p ≡ putAll o (name (part s from k))
 put-part s from k o e = e ∙ ap (λ (l : List ℕ). putAll o (name l)) (part-of s from k)
 
@@ -205,10 +202,6 @@ module _ (s : List ℕ) (first : ℕ) (ends : first + length s ≤ most) (at : �
 -- ---- a section
 
 module _ (s : List ℕ) (first : ℕ) where
-  refused-of : (m : Res (List Entry)) {x p : ℕ} → refused x p 0 0 ≡ verdict length m → m ≡ refuse x p 0 0
-  refused-of (ok es q) e = let z : _≡_ {A = ℕ} 0 1 = cc in absurd (omega arith)
-  refused-of (refuse y q r f) e = cc
-
   pub refused-inside : {x p : ℕ} → refused x p 0 0 ≡ verdict length (resources s) → p ≤ length s
   refused-inside e = refused-placed s (refused-of (resources s) e) .1
 

@@ -1,17 +1,16 @@
 -- A block of an accepted section by its lengths alone. Assumes nothing.
 use Prim.Native.Nat.{ℕ, _+_, _*_, _/_, _%_, _≤_, _<_}
-use mathlib.Core.Path.{_≡_, refl, sym, ap, ap₂, _∙_, subst}
+use mathlib.Core.Path.{_≡_, refl, sym, ap, _∙_}
 use mathlib.Core.List.{List}
 use lib.ListN.{length, getD}
 use native.Mathlib.Omega.{arith}
-use native.Mathlib.Nat.{zero-add}
 use Rattle.algebra.specs.Numbers.{num}
-use Rattle.algebra.specs.Reader.{Res, ok, refuse, field, judged, mapRes, orZero, limit}
+use Rattle.algebra.specs.Reader.{Res, ok, refuse, field, judged, mapRes, orZero}
 use Rattle.algebra.proofs.Laws.{num-1, field-in}
 use Rattle.algebra.proofs.Inverse.{clash, ok-value, then-inv, field-inv, judged-inv}
 use Rattle.resource.specs.Reading.{Part, Entry, run, pad, followed, counted, marked, block}
 use Rattle.resource.specs.Rows.{recordOf}
-use Rattle.resource.specs.Tiling.{sizeOf, even}
+use Rattle.resource.specs.Tiling.{even}
 use Rattle.resource.specs.declared.Record.{Record}
 use Rattle.resource.proofs.Lies.{run-lies, counted-lies, block-lies}
 use Rattle.resource.proofs.Whole.{block-moves, blocks-no}
