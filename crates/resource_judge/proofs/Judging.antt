@@ -9,12 +9,13 @@ use native.Mathlib.Nat.{add-zero, zero-add}
 use Rattle.algebra.specs.Numbers.{num}
 use Rattle.algebra.specs.Reader.{Res, ok, refuse, then, field, body, judged, done, mapRes, limit}
 use Rattle.algebra.specs.Table.{Verdict, accepted, refused, verdict}
-use Rattle.algebra.proofs.Laws.{field-in, judged-short, judged-bad, judged-ok}
-use Rattle.algebra.proofs.Inverse.{clash, ok-value, ok-place}
+use Rattle.algebra.proofs.Laws.{field-in, judged-short, judged-bad, judged-ok, then-ok, done-const, done-each, done-refuse}
+use Rattle.algebra.proofs.Inverse.{clash, ok-value, ok-place, done-inv, field-inv, body-inv}
+use Rattle.algebra.proofs.Sequence.{step-no, step-on}
 use Rattle.resource.specs.Reading.{Part, Entry, run, zeroed, pad, followed, counted, marked, block, blocks, resources}
 use Rattle.resource.specs.Rows.{recordOf}
 use Rattle.resource.specs.declared.Record.{Record}
-use Rattle.resource.proofs.Lies.{run-lies}
+use Rattle.resource.proofs.Lies.{run-lies, counted-lies, block-lies}
 use Rattle.resource.proofs.Whole.{block-moves, blocks-stop, blocks-no, blocks-ok}
 use Rattle.resource_judge.specs.Answer.{partOf, partsFrom}
 
@@ -119,6 +120,48 @@ module _ (s : List ℕ) where
       first (ok x a) = second (field 2 s a)
       first (refuse x q r f) = refl
 
+-- ---- a block's end, from an even place
+
+module _ (s : List ℕ) where
+  -- only whether the number of bytes is odd counts for their pad
+  followed-same : (k j n at : ℕ) → (k + n) % 2 ≡ (j + n) % 2 → followed k n s at ≡ followed j n s at
+  unfolding followed
+  followed-same k j n at e = ap (λ (w : ℕ). then (run n s at) (λ t q. then (judged w zeroed s q) (λ z r. ok t r))) e
+
+  counted-done : (w k at : ℕ) → done (counted w k s at) ≡ then (field w s at) (λ n q. done (followed k n s q))
+  counted-done w k at = done-each (field w s at) _ _ (λ n q. refl)
+
+  module _ (w k at : ℕ) (even : at % 2 ≡ 0) (same : (w + k) % 2 ≡ 0) where
+    pub length-cut : refuse 2 at 0 0 ≡ field w s at → refuse 2 at 0 0 ≡ done (counted w k s at)
+    length-cut e = step-no _ _ e ∙ sym (counted-done w k at)
+
+    -- the pad by the place where it would stand
+    pub by-place : {n q : ℕ} {m : Res Unit} → ok n q ≡ field w s at → m ≡ done (followed q n s q) → m ≡ done (counted w k s at)
+    by-place {n} {q} e f =
+        let i = field-inv w s at (sym e) in
+        let z : (q + n) % 2 ≡ (k + n) % 2 = omega (arith, i .2) in
+        step-on _ _ e (f ∙ ap done (followed-same q k n q z)) ∙ sym (counted-done w k at)
+
+    pub ends-even : {q : ℕ} → ok tt q ≡ done (counted w k s at) → q % 2 ≡ 0
+    ends-even {q} e = let x = done-inv (counted w k s at) (sym e) in omega (arith, counted-lies s w k at (x .1) .1)
+
+  -- a pad by the place where n bytes from `at` end
+  pub ends-at : (n at : ℕ) {q : ℕ} {m : Res Unit} → ok tt q ≡ done (body 1 n s at) → m ≡ done (pad q s q) → m ≡ done (pad (at + n) s q)
+  ends-at n at {q} e f =
+      let x = done-inv (body 1 n s at) (sym e) in
+      let z : q ≡ at + n = omega (arith, body-inv 1 s at n (x .1) .2) in
+      f ∙ ap (λ (k : ℕ). done (pad k s q)) z
+
+  pub even-number : (w at : ℕ) {v q : ℕ} → ok v q ≡ field w s at → at % 2 ≡ 0 → w % 2 ≡ 0 → q % 2 ≡ 0
+  even-number w at e even same = omega (arith, field-inv w s at (sym e) .2)
+
+  pub block-done : (at : ℕ) → done (block s at) ≡ then (judged 4 marked s at) (λ x a. then (field 2 s a) (λ i b. then (done (counted 1 1 s b)) (λ u p. done (counted 4 0 s p))))
+  unfolding block
+  block-done at =
+      done-each (judged 4 marked s at) _ _
+      (λ x a. done-each (field 2 s a) _ _
+      (λ i b. done-const (counted 1 1 s b) _ (λ p. done (counted 4 0 s p)) (λ nm p. then-ok (made s i nm) (counted 4 0 s p))))
+
 -- ---- the section
 
 module _ (s : List ℕ) where
@@ -137,14 +180,25 @@ module _ (s : List ℕ) where
     pub count-end : at ≡ length s → accepted k ≡ all
     count-end e = sym (inv ∙ ap (verdict (λ es. k + length es)) (blocks-stop s at e) ∙ ap accepted (add-zero k))
 
-    pub count-no : (at ≡ length s → ⊥) → {x p : ℕ} → refuse x p 0 0 ≡ mapRes recordOf (block s at) → refused x p 0 0 ≡ all
-    count-no more {x} {p} h = sym (inv ∙ ap (verdict (λ es. k + length es)) (blocks-no s at le more (map-refuse recordOf (block s at) (sym h))))
+    pub count-no : (at ≡ length s → ⊥) → {x p : ℕ} → refuse x p 0 0 ≡ done (block s at) → refused x p 0 0 ≡ all
+    count-no more {x} {p} h = sym (inv ∙ ap (verdict (λ es. k + length es)) (blocks-no s at le more (done-refuse (block s at) (sym h))))
 
-    pub count-ok : (at ≡ length s → ⊥) → {r : Record} {q : ℕ} → ok r q ≡ mapRes recordOf (block s at) → (all ≡ counting (k + 1) q) × (at < q) × (q ≤ length s)
-    count-ok more {r} {q} h =
-        let x = map-ok recordOf (block s at) (sym h) in
+    pub record Counted (q : ℕ) : Type 0 where
+      pub is : all ≡ counting (k + 1) q
+      pub moved : at < q
+      pub inside : q ≤ length s
+      pub even : at % 2 ≡ 0 → q % 2 ≡ 0
+
+    pub count-ok : (at ≡ length s → ⊥) → {q : ℕ} → ok tt q ≡ done (block s at) → Counted q
+    count-ok more {q} h =
+        let x = done-inv (block s at) (sym h) in
         let w = block-moves s at (x .0) q le (x .1) in
-        (inv ∙ ap (verdict (λ es. k + length es)) (blocks-ok s at le more (x .0) q (x .1)) ∙ one-more (x .0) (blocks s q), w .0, w .1)
+        let l = block-lies s at (x .1) in record {
+          is = inv ∙ ap (verdict (λ es. k + length es)) (blocks-ok s at le more (x .0) q (x .1)) ∙ one-more (x .0) (blocks s q);
+          moved = w .0;
+          inside = w .1;
+          even = λ e. omega (arith, l .1);
+        }
       where
         one-more : (e : Entry) (m : Res (List Entry)) → verdict (λ es. k + length es) (then m (λ es end. ok (e ∷ es) end)) ≡ verdict (λ es. k + 1 + length es) m
         one-more e (ok es p) = let z : k + suc (length es) ≡ k + 1 + length es = omega arith in ap accepted z

@@ -1,8 +1,8 @@
 // Image resource blocks: judging a section by the layout.
 ghost use mathlib.Core.Path.{_≡_};
-ghost use Prim.Native.Nat.{_+_, _<_};
+ghost use Prim.Native.Nat.{_+_, _%_, _<_};
 ghost use lib.ListN.{length};
-ghost use Rattle.algebra.specs.Reader.{done, mapRes};
+ghost use Rattle.algebra.specs.Reader.{done, then, mapRes};
 ghost use Rattle.algebra.specs.Table.{verdict};
 ghost use Rattle.fields.specs.Answer.{toldStep};
 ghost use Rattle.resource.specs.Reading.{pad, followed, counted, block, blocks, resources};
@@ -146,6 +146,59 @@ pub fn block_at(file: &[u8], at: usize) -> Found
     parts_at(file, b, id as u32)
 }
 
+// The place behind n bytes and their pad, which is asked for by the place where it would stand and not
+// by their number, so that a length stays one load. In a block at an even place that is the same.
+fn even_end(file: &[u8], at: usize, n: usize) -> Step
+    ensures { λ r. ⌜ toldStep r ≡ done (followed at n (now (file .entry)) at) ⌝ }
+{
+    match fields::run_at(file, at, n) {
+        Step::Refused(x, p) => Step::Refused(x, p),
+        Step::Next(q) => pad_at(file, q, q),
+    }
+}
+
+// The place behind a block's data, from an even place.
+fn data_end(file: &[u8], at: usize) -> Step
+    requires { ⌜ at % 2 ≡ 0 ⌝ }
+    ensures { λ r. ⌜ toldStep r ≡ done (counted 4 0 (now (file .entry)) at) ⌝ }
+{
+    let Number32::Is(v, first) = fields::u32_at(file, at) else {
+        return Step::Refused(2, at);
+    };
+    even_end(file, first, v as usize)
+}
+
+// The place behind a block's name and data, from an even place.
+fn parts_end(file: &[u8], at: usize) -> Step
+    requires { ⌜ at % 2 ≡ 0 ⌝ }
+    ensures { λ r. ⌜ toldStep r ≡ then (done (counted 1 1 (now (file .entry)) at)) (λ _ p. done (counted 4 0 (now (file .entry)) p)) ⌝ }
+{
+    let Number8::Is(v, first) = fields::u8_at(file, at) else {
+        return Step::Refused(2, at);
+    };
+    match even_end(file, first, v as usize) {
+        Step::Refused(x, p) => Step::Refused(x, p),
+        Step::Next(p) => data_end(file, p),
+    }
+}
+
+// The place behind the block at an even place.
+fn block_end(file: &[u8], at: usize) -> Step
+    requires { ⌜ at % 2 ≡ 0 ⌝ }
+    ensures { λ r. ⌜ toldStep r ≡ done (block (now (file .entry)) at) ⌝ }
+{
+    let Number32::Is(signature, a) = fields::u32_at(file, at) else {
+        return Step::Refused(2, at);
+    };
+    if signature != resource::SIGNATURE {
+        return Step::Refused(3, at);
+    }
+    let Number16::Is(_, b) = fields::u16_at(file, a) else {
+        return Step::Refused(2, a);
+    };
+    parts_end(file, b)
+}
+
 // The blocks from the first to the section's end.
 fn blocks_in(file: &[u8]) -> Answer
     ensures { λ r. ⌜ told r ≡ verdict length (blocks (now (file .entry)) 0) ⌝ }
@@ -153,11 +206,11 @@ fn blocks_in(file: &[u8]) -> Answer
     let mut at: usize = 0;
     let mut n: usize = 0;
     while at != file.len() {
-        match block_at(file, at) {
-            Found::Refused { number, place } => {
+        match block_end(file, at) {
+            Step::Refused(number, place) => {
                 return Answer::Refused { number, place };
             }
-            Found::Is { given: _, next } => {
+            Step::Next(next) => {
                 at = next;
             }
         }

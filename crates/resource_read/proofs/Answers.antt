@@ -26,7 +26,7 @@ use Rattle.resource_read.specs.Parts.{rest, entriesOf, Sound}
 
 -- ---- what the verdict tells of the reading
 
-refused-of : (m : Res (List Entry)) {x p : ℕ} → refused x p 0 0 ≡ verdict length m → m ≡ refuse x p 0 0
+pub refused-of : (m : Res (List Entry)) {x p : ℕ} → refused x p 0 0 ≡ verdict length m → m ≡ refuse x p 0 0
 refused-of (ok es q) e = let z : _≡_ {A = ℕ} 0 1 = cc in absurd (omega arith)
 refused-of (refuse y q r f) e = cc
 
@@ -48,7 +48,7 @@ module _ (s : List ℕ) {n : ℕ} (v : accepted n ≡ verdict length (resources 
       let end : a .1 ≡ length s = blocks-end s 0 (omega arith) (a .0) (a .1) (i .1) in
       let is : a .0 ≡ rest s 0 = sym (ap entriesOf (i .1)) in
       let b : ok (a .0) (a .1) ≡ ok (rest s 0) (length s) = ap₂ (λ (l : List Entry) (k : ℕ). ok l k) is end in record {
-        sound = record { short = leb-true (length s) limit (i .0); inside = omega arith; reads = i .1 ∙ b };
+        sound = record { short = leb-true (length s) limit (i .0); inside = omega arith; even = refl; reads = i .1 ∙ b };
         count = sym (ap length is) ∙ a .3;
         reads = a .2 ∙ b;
       }
@@ -147,7 +147,7 @@ parts-inside s i e = by-answer s i (resources s) refl e
 
 -- ---- parts of the section, as the code lends them
 
-part-of : (s : List ℕ) (from k : ℕ) → take (from + k - from) (drop from s) ≡ part s from k
+pub part-of : (s : List ℕ) (from k : ℕ) → take (from + k - from) (drop from s) ≡ part s from k
 part-of s from k = let e : from + k - from ≡ k = omega arith in ap (λ (n : ℕ). take n (drop from s)) e
 
 pub name-part : (s : List ℕ) {r : Record} {v : Verdict Record} → accepted r ≡ v → take (r .name + r .letters - r .name) (drop (r .name) s) ≡ nameOf s v

@@ -23,13 +23,16 @@ use Rattle.resource_read.specs.Parts.{rest, entriesOf, Sound, Small}
 
 module _ (s : List ℕ) (at : ℕ) (fit : Sound s at) where
   -- at the end nothing is left
-  pub none-left : at ≡ length s → rest s at ≡ []
-  none-left e = ap entriesOf (blocks-stop s at e)
+  pub none-left : length s ≤ at → rest s at ≡ []
+  none-left e = ap entriesOf (blocks-stop s at (omega (arith, fit .inside)))
 
-  module _ (more : at ≡ length s → ⊥) where
+  module _ (more : at < length s) where
+    apart : at ≡ length s → ⊥
+    apart e = omega arith
+
     -- before the end no block is refused
     pub never : {X : Type 0} {x p : ℕ} → refuse x p 0 0 ≡ mapRes recordOf (block s at) → X
-    never h = clash (sym (blocks-no s at (fit .inside) more (map-refuse recordOf (block s at) (sym h))) ∙ fit .reads)
+    never h = clash (sym (blocks-no s at (fit .inside) apart (map-refuse recordOf (block s at) (sym h))) ∙ fit .reads)
 
     -- a block's record is the next, and the rest lies behind it
     pub record Turned (r : Record) (q : ℕ) : Type 0 where
@@ -45,7 +48,7 @@ module _ (s : List ℕ) (at : ℕ) (fit : Sound s at) where
         let x = map-ok recordOf (block s at) (sym h) in
         let e : Entry = x .0 in
         let w = block-moves s at e q (fit .inside) (x .1) in
-        let b = blocks-ok s at (fit .inside) more e q (x .1) in
+        let b = blocks-ok s at (fit .inside) apart e q (x .1) in
         let t = then-inv (blocks s q) (λ es end. ok (e ∷ es) end) (sym b ∙ fit .reads) in
         let end : t .1 ≡ length s = ok-place (t .3) in
         let again : blocks s q ≡ ok (rest s q) (length s) = t .2 ∙ ap₂ (λ (l : List Entry) (k : ℕ). ok l k) (sym (ap entriesOf (t .2))) end in
@@ -60,7 +63,7 @@ module _ (s : List ℕ) (at : ℕ) (fit : Sound s at) where
           entry = e;
           is = x .2;
           all = ap entriesOf (b ∙ ap (λ (m : Res (List Entry)). then m (λ es end. ok (e ∷ es) end)) again);
-          sound = record { short = lim; inside = w .1; reads = again };
+          sound = record { short = lim; inside = w .1; even = omega (arith, l .1, fit .even); reads = again };
           moved = w .0;
           small = subst Small (x .2) sm;
         }
@@ -74,11 +77,11 @@ pub record Filling (s : List ℕ) (at to : ℕ) (all t : List ℕ) : Type 0 wher
   pub is : all ≡ sets t to (joined entryRow (rest s at))
 
 module _ (s : List ℕ) (at to : ℕ) (all t : List ℕ) (f : Filling s at to all t) where
-  pub fill-end : at ≡ length s → t ≡ all
+  pub fill-end : length s ≤ at → t ≡ all
   unfolding joined
   fill-end e = sym (f .is ∙ ap (λ (l : List Entry). sets t to (joined entryRow l)) (none-left s at (f .sound) e))
 
-  module _ (more : at ≡ length s → ⊥) {r : Record} {q : ℕ} (x : Turned s at (f .sound) more r q) where
+  module _ (more : at < length s) {r : Record} {q : ℕ} (x : Turned s at (f .sound) more r q) where
     pub fill-room : to + width ≤ length t
     fill-room = omega (arith, f .room, ap length (x .all))
 
@@ -100,10 +103,10 @@ module _ (s : List ℕ) (at to : ℕ) (all t : List ℕ) (f : Filling s at to al
 -- ---- a record by its number
 
 module _ (s : List ℕ) (at k : ℕ) (fit : Sound s at) (all : Record) (inv : all ≡ getD (map recordOf (rest s at)) k noRecord) where
-  pub nth-end : at ≡ length s → noRecord ≡ all
+  pub nth-end : length s ≤ at → noRecord ≡ all
   nth-end e = sym (inv ∙ ap (λ (l : List Entry). getD (map recordOf l) k noRecord) (none-left s at fit e))
 
-  module _ (more : at ≡ length s → ⊥) {r : Record} {q : ℕ} (x : Turned s at fit more r q) where
+  module _ (more : at < length s) {r : Record} {q : ℕ} (x : Turned s at fit more r q) where
     pub nth-here : k ≡ 0 → r ≡ all
     nth-here z = sym (inv ∙ ap₂ (λ (l : List Entry) (n : ℕ). getD (map recordOf l) n noRecord) (x .all) z ∙ x .is)
 
@@ -113,11 +116,11 @@ module _ (s : List ℕ) (at k : ℕ) (fit : Sound s at) (all : Record) (inv : al
 -- ---- the first block with an ID
 
 module _ (s : List ℕ) (at i id all : ℕ) (fit : Sound s at) (inv : all ≡ i + indexOf id (rest s at)) where
-  pub index-end : at ≡ length s → i ≡ all
+  pub index-end : length s ≤ at → i ≡ all
   unfolding indexOf
   index-end e = sym (inv ∙ ap (λ (l : List Entry). i + indexOf id l) (none-left s at fit e) ∙ add-zero i)
 
-  module _ (more : at ≡ length s → ⊥) {r : Record} {q : ℕ} (x : Turned s at fit more r q) where
+  module _ (more : at < length s) {r : Record} {q : ℕ} (x : Turned s at fit more r q) where
     same-id : x .entry .id ≡ r .id
     same-id = ap (λ (y : Record). y .id) (x .is)
 

@@ -2,20 +2,20 @@
 // its name and data, and the first block with an ID.
 ghost use mathlib.Core.Path.{_≡_};
 ghost use mathlib.Core.List.{map};
-ghost use Prim.Native.Nat.{_+_, _*_, _≤_};
+ghost use Prim.Native.Nat.{_+_, _*_, _≤_, _<_};
 ghost use lib.ListN.{length, getD};
 ghost use lib.Seq.{sets};
 ghost use Rattle.algebra.specs.Numbers.{joined};
-ghost use Rattle.resource.specs.Reading.{resources};
+ghost use Rattle.algebra.specs.Reader.{ok, mapRes};
+ghost use Rattle.resource.specs.Reading.{block, resources};
 ghost use Rattle.resource.specs.Rows.{recordOf, width, row};
 ghost use Rattle.resource_judge.specs.Answer.{told};
 ghost use Rattle.resource_read.specs.Table.{entryRow, tabled, noRecord, recordIn, nameOf, payloadOf, indexOf, foundIn};
 ghost use Rattle.resource_read.specs.Answer.{toldShown, toldIndex};
-ghost use Rattle.resource_read.specs.Parts.{rest, Sound, Small};
+ghost use Rattle.resource_read.specs.Parts.{rest, Sound, Small, behind};
 use resource::Record;
 use resource::WIDTH;
 use resource_judge::Answer;
-use resource_judge::Found;
 
 // A record, or a refusal.
 pub enum Shown {
@@ -27,6 +27,29 @@ pub enum Shown {
 pub enum Index {
     Is(usize),
     Refused { number: u32, place: usize },
+}
+
+fn wide(x: u8) -> usize
+    ensures { λ r. ⌜ r ≡ x ⌝ }
+{
+    x as usize
+}
+
+// The record of the block at `at` of a section that was accepted, by its lengths alone: nothing in it
+// is judged again.
+fn given_at(file: &[u8], at: usize) -> Record
+    requires { ⌜ Sound (now file) at × (at < length (now file)) ⌝ }
+    ensures { λ r. ⌜ ok r (behind r) ≡ mapRes recordOf (block (now (file .entry)) at) ⌝ }
+{
+    let letters = wide(file[at + 6]);
+    let p = at + 8 + letters / 2 * 2;
+    Record {
+        id: fields::u16_or_zero(file, at + 4) as u32,
+        name: at + 7,
+        letters,
+        payload: p + 4,
+        size: fields::u32_or_zero(file, p) as usize,
+    }
 }
 
 // Stores a record's numbers from `to`: nothing else knows how a table lays them out.
@@ -48,19 +71,11 @@ fn fill(file: &[u8], table: &mut [u32])
 {
     let mut at: usize = 0;
     let mut to: usize = 0;
-    while at != file.len() {
-        match resource_judge::block_at(file, at) {
-            Found::Refused {
-                number: _,
-                place: _,
-            } => {
-                return;
-            }
-            Found::Is { given, next } => {
-                put_row(table, to, given);
-                at = next;
-            }
-        }
+    while at < file.len() {
+        let given = given_at(file, at);
+        let end = given.payload + given.size;
+        at = (end + 1) / 2 * 2;
+        put_row(table, to, given);
         to += WIDTH;
     }
 }
@@ -84,21 +99,13 @@ fn nth(file: &[u8], i: usize) -> Record
 {
     let mut at: usize = 0;
     let mut k = i;
-    while at != file.len() {
-        match resource_judge::block_at(file, at) {
-            Found::Refused {
-                number: _,
-                place: _,
-            } => {
-                return no_record();
-            }
-            Found::Is { given, next } => {
-                if k == 0 {
-                    return given;
-                }
-                at = next;
-            }
+    while at < file.len() {
+        let given = given_at(file, at);
+        if k == 0 {
+            return given;
         }
+        let end = given.payload + given.size;
+        at = (end + 1) / 2 * 2;
         k -= 1;
     }
     no_record()
@@ -111,21 +118,13 @@ fn index_of(file: &[u8], id: u32) -> usize
 {
     let mut at: usize = 0;
     let mut i: usize = 0;
-    while at != file.len() {
-        match resource_judge::block_at(file, at) {
-            Found::Refused {
-                number: _,
-                place: _,
-            } => {
-                return i;
-            }
-            Found::Is { given, next } => {
-                if given.id == id {
-                    return i;
-                }
-                at = next;
-            }
+    while at < file.len() {
+        let given = given_at(file, at);
+        if given.id == id {
+            return i;
         }
+        let end = given.payload + given.size;
+        at = (end + 1) / 2 * 2;
         i += 1;
     }
     i

@@ -33,6 +33,7 @@ const USAGE: &str = "usage: compare [SEED [FILES]]
        compare list-ase [PROGRAM [FILES [SEED]]]
        compare list-acb [PROGRAM [FILES [SEED]]]
        compare list-descriptor [PROGRAM [FILES [SEED]]]
+       compare list-resource [PROGRAM [FILES [SEED]]]
        compare real FOLDER [PROGRAMS [SEED]]";
 const DEFAULT_SEED: u64 = 20_240_229;
 const DEFAULT_FILES: u64 = 300_000;
@@ -68,6 +69,7 @@ fn main() -> ExitCode {
         Some("list-descriptor") => {
             compare_listings(rest, "descriptor_list", descriptor::listing::run)
         }
+        Some("list-resource") => compare_listings(rest, "resource_list", resource::listing::run),
         Some("real") => compare_real(rest),
         _ => compare_library("ACO", &args, campaign::run, tally::Tally::all_reached),
     };

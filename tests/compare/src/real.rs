@@ -2,7 +2,7 @@
 
 use crate::difference::{Checked, Difference};
 use crate::program::check_listings;
-use crate::{acb, ase, descriptor, reading, tally};
+use crate::{acb, ase, descriptor, reading, resource, tally};
 use generate::Random;
 use std::fmt::{self, Display, Formatter};
 use std::fs;
@@ -17,7 +17,7 @@ struct Kind {
     list: fn(&[u8]) -> String,
 }
 
-const KINDS: [Kind; 4] = [
+const KINDS: [Kind; 6] = [
     Kind {
         ending: "aco",
         program: "aco_list",
@@ -43,6 +43,22 @@ const KINDS: [Kind; 4] = [
             descriptor::check_file(file, random, &mut descriptor::Tally::default())
         },
         list: reference::descriptor::list,
+    },
+    Kind {
+        ending: "8bim",
+        program: "resource_list",
+        check: |file, random| {
+            resource::check_section(file, random, &mut resource::Tally::default())
+        },
+        list: reference::resource::list,
+    },
+    Kind {
+        ending: "psd",
+        program: "resource_list",
+        check: |file, random| {
+            resource::check_document(file, random, &mut resource::Tally::default())
+        },
+        list: reference::resource::list,
     },
 ];
 

@@ -1,10 +1,7 @@
 use mathlib.Core.Path.{sym, ap, _∙_}
 use Rattle.fields.specs.Answer.{told16, told32}
 use Rattle.resource_judge.proofs.Judging.{block-record}
-use mathlib.Core.Path.{sym, ap, _∙_}
-use Rattle.fields.specs.Answer.{told16, told32}
 use Rattle.algebra.proofs.Sequence.{step-no, step-on}
-use Rattle.resource_judge.proofs.Judging.{block-record}
 use borrow.Author.Tests.{eq-eqb, ne-eqb}
 use mathlib.Core.Bool.{Bool}
 use Rattle.algebra.specs.Reader.{unless}

@@ -1,38 +1,35 @@
-use mathlib.Core.Path.{_≡_, sym, ap, _∙_}
-use Rattle.resource_judge.specs.Answer.{toldFound}
-use Rattle.resource_judge.proofs.Judging.{counting, count-start, count-end, count-no, count-ok}
 use borrow.Author.Needs.{needs}
-use mathlib.Core.Path.{_≡_, sym, ap, _∙_}
 use native.Mathlib.Omega.{arith}
-use Rattle.resource_judge.specs.Answer.{toldFound}
-use Rattle.resource_judge.proofs.Judging.{counting, count-start, count-end, count-no, count-ok}
-use Prim.Native.Nat.{_-_, _≤_}
+use Prim.Native.Nat.{_-_, _%_, _≤_}
 use lib.ListN.{length}
+use mathlib.Core.Path.{_≡_, refl, sym, ap, _∙_}
 use Rattle.algebra.specs.Table.{verdict}
+use Rattle.fields.specs.Answer.{toldStep}
 use Rattle.resource.specs.Reading.{blocks}
+use Rattle.resource_judge.proofs.Judging.{counting, count-start, count-end, count-no, count-ok}
 use Rattle.resource_judge.proofs.blocks_in.Statement.{statement}
 use Rattle.resource_judge.proofs.blocks_in.Tie as tie
 
 abbrev Inv-loop : tie.InvT-loop
-Inv-loop file at₀ n₀ at n = (at ≤ length file) × (n ≤ at) × (verdict length (blocks file 0) ≡ counting file n at)
+Inv-loop file at₀ n₀ at n = (at ≤ length file) × (n ≤ at) × (at % 2 ≡ 0) × (verdict length (blocks file 0) ≡ counting file n at)
 
 abbrev μ-loop : tie.MeasureT-loop
 μ-loop file at₀ n₀ at n = length file - at
 
 loop-holds : tie.Need-loop-holds Inv-loop μ-loop
-loop-holds c = (omega arith, omega arith, count-start (c .before .args .file .now))
+loop-holds c = (omega arith, omega arith, refl, count-start (c .before .args .file .now))
 
-block-at-requires : tie.Need-block-at-requires Inv-loop μ-loop
-block-at-requires c κs = search needs
+block-end-requires : tie.Need-block-end-requires Inv-loop μ-loop
+block-end-requires c κs = c .before .loop .inv .2
 
 enum-known-number : tie.Need-enum-known-number Inv-loop μ-loop
 enum-known-number c = search needs
 
 returns : tie.Need-returns Inv-loop μ-loop
 returns c =
-    let l = c .before .before .before .before .before .loop in
-    let a = c .before .before .before .before .before .before .before .args in
-    count-no (a .file .now) _ _ _ (l .inv .0) (l .inv .2) (c .before .before .before .before .loop-test .taken) (sym (ap toldFound (c .before .number .given .1)) ∙ c .before .before .before .block-at .ensures)
+    let call = c .before .before .before in
+    let l = call .before .before .loop in
+    count-no (call .before .before .before .before .args .file .now) _ _ _ (l .inv .0) (l .inv .3) (call .before .loop-test .taken) (sym (ap toldStep (c .before .number .given .1)) ∙ call .block-end .ensures)
 
 enum-known-next : tie.Need-enum-known-next Inv-loop μ-loop
 enum-known-next c = search needs
@@ -44,22 +41,22 @@ add-n c =
 
 loop-less : tie.Need-loop-less Inv-loop μ-loop
 loop-less c =
-    let l = c .before .before .before .before .before .loop in
-    let a = c .before .before .before .before .before .before .before .args in
-    let t = count-ok (a .file .now) _ _ _ (l .inv .0) (l .inv .2) (c .before .before .before .before .loop-test .taken) (sym (ap toldFound (c .before .next .given .1)) ∙ c .before .before .before .block-at .ensures) in
-    omega (arith, t .1, t .2)
+    let call = c .before .before .before in
+    let l = call .before .before .loop in
+    let t = count-ok (call .before .before .before .before .args .file .now) _ _ _ (l .inv .0) (l .inv .3) (call .before .loop-test .taken) (sym (ap toldStep (c .before .next .given .1)) ∙ call .block-end .ensures) in
+    omega (arith, t .moved, t .inside)
 
 loop-again : tie.Need-loop-again Inv-loop μ-loop
 loop-again c =
-    let l = c .before .before .before .before .before .loop in
-    let a = c .before .before .before .before .before .before .before .args in
-    let t = count-ok (a .file .now) _ _ _ (l .inv .0) (l .inv .2) (c .before .before .before .before .loop-test .taken) (sym (ap toldFound (c .before .next .given .1)) ∙ c .before .before .before .block-at .ensures) in
-    (t .2, omega (arith, t .1, l .inv .1), t .0)
+    let call = c .before .before .before in
+    let l = call .before .before .loop in
+    let t = count-ok (call .before .before .before .before .args .file .now) _ _ _ (l .inv .0) (l .inv .3) (call .before .loop-test .taken) (sym (ap toldStep (c .before .next .given .1)) ∙ call .block-end .ensures) in
+    (t .inside, omega (arith, t .moved, l .inv .1), t .even (l .inv .2), t .is)
 
 returns-2 : tie.Need-returns-2 Inv-loop μ-loop
 returns-2 c =
     let l = c .before .loop in
-    count-end (c .before .before .before .args .file .now) _ _ _ (l .inv .0) (l .inv .2) (c .loop-test .left)
+    count-end (c .before .before .before .args .file .now) _ _ _ (l .inv .0) (l .inv .3) (c .loop-test .left)
 
 pub blocks-in-spec : {M : Type 1} → statement M
 blocks-in-spec =
@@ -68,7 +65,7 @@ blocks-in-spec =
     Inv-loop
     μ-loop
     loop-holds
-    block-at-requires
+    block-end-requires
     enum-known-number
     returns
     enum-known-next

@@ -1,8 +1,6 @@
 use mathlib.Core.Path.{sym, ap, _∙_}
 use Rattle.resource_judge.proofs.Judging.{too-long, not-long}
-use mathlib.Core.Path.{sym, ap, _∙_}
 use native.Mathlib.Omega.{arith}
-use Rattle.resource_judge.proofs.Judging.{too-long, not-long}
 use lib.ListN.{length}
 use Rattle.algebra.specs.Table.{verdict}
 use borrow.Author.Needs.{needs}

@@ -1,6 +1,5 @@
 use mathlib.Core.Path.{refl, sym, ap, _∙_}
 use Rattle.resource_judge.specs.Answer.{toldRun}
-use mathlib.Core.Path.{refl, sym, ap, _∙_}
 use Rattle.resource_judge.specs.Answer.{toldRun, partsFrom}
 use Rattle.algebra.proofs.Sequence.{step-no, step-on}
 use borrow.Author.Needs.{needs}

@@ -1,11 +1,9 @@
 use mathlib.Core.Path.{sym, ap, _∙_}
 use Rattle.resource_read.proofs.Answers.{parts-inside, payload-part}
 use Rattle.resource_read.specs.Table.{payloadOf}
-use mathlib.Core.Path.{sym, ap, _∙_}
 use native.Mathlib.Omega.{arith}
 use Rattle.resource_read.proofs.Answers.{parts-inside}
 use Rattle.resource_read.specs.Answer.{toldShown}
-use Rattle.resource_read.specs.Table.{payloadOf}
 use borrow.Author.Needs.{needs}
 use Rattle.resource_read.proofs.data_at.Statement.{statement}
 use Rattle.resource_read.proofs.data_at.Tie as tie

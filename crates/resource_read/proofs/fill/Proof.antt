@@ -1,29 +1,13 @@
-use mathlib.Core.Path.{_≡_, refl, sym, ap, _∙_}
-use Rattle.resource_judge.specs.Answer.{toldFound}
-use Rattle.resource_read.proofs.Going.{never, turned, Filling, fill-end, fill-room, fill-kept, fill-next}
-use Rattle.resource_read.specs.Parts.{rest}
-use Rattle.resource_read.specs.Table.{entryRow}
+use native.Mathlib.Omega.{arith}
 use Prim.Native.Nat.{_-_, _*_, _≤_}
 use lib.ListN.{length}
-use Rattle.resource.specs.Rows.{width}
-use mathlib.Core.Path.{refl, sym, ap, _∙_}
-use Rattle.resource_judge.specs.Answer.{toldFound}
-use Rattle.resource_read.proofs.Going.{never, turned, Filling, fill-end, fill-room, fill-kept, fill-next}
-use Rattle.resource_read.specs.Parts.{rest}
-use Rattle.resource_read.specs.Table.{entryRow}
-use Prim.Native.Nat.{_-_}
-use lib.ListN.{length}
-use mathlib.Core.Path.{refl, sym, ap, _∙_}
-use native.Mathlib.Omega.{arith}
-use borrow.Author.Needs.{needs}
-use Rattle.resource_judge.specs.Answer.{toldFound}
-use Rattle.resource_read.proofs.Going.{never, turned, Filling, fill-end, fill-room, fill-kept, fill-next}
-use Rattle.resource_read.specs.Parts.{rest}
-use Rattle.resource_read.specs.Table.{entryRow}
-use Prim.Native.Nat.{_-_}
-use lib.ListN.{length}
 use lib.Seq.{sets}
+use mathlib.Core.Path.{_≡_, refl, _∙_}
 use Rattle.algebra.specs.Numbers.{joined}
+use Rattle.resource.specs.Rows.{width}
+use Rattle.resource_read.specs.Parts.{rest}
+use Rattle.resource_read.specs.Table.{entryRow}
+use Rattle.resource_read.proofs.Going.{turned, Filling, fill-end, fill-room, fill-kept, fill-next}
 use Rattle.resource_read.proofs.fill.Statement.{statement}
 use Rattle.resource_read.proofs.fill.Tie as tie
 
@@ -38,70 +22,78 @@ loop-holds c =
     let p = c .before .before .pre in
     (record { sound = p .0; room = omega (arith, p .1); is = refl }, refl, omega arith)
 
-block-at-requires : tie.Need-block-at-requires Inv-loop μ-loop
-block-at-requires c κs = search needs
+given-at-requires : tie.Need-given-at-requires Inv-loop μ-loop
+given-at-requires c κs = (c .before .loop .inv .0 .sound, c .loop-test .taken)
 
-enum-told : tie.Need-enum-told Inv-loop μ-loop
-enum-told c = search needs
-
-same-length : tie.Need-same-length Inv-loop μ-loop
-same-length c = c .before .before .before .before .loop .inv .1
-
-returns : tie.Need-returns Inv-loop μ-loop
-returns c =
-    let call = c .before .before in
-    let l = call .before .before .loop in
-    never (call .before .before .before .before .before .args .file .now) (l .at) (l .inv .0 .sound) (call .before .loop-test .taken) (sym (ap toldFound (c .enum-told .given .1)) ∙ call .block-at .ensures)
-
-enum-known-given : tie.Need-enum-known-given Inv-loop μ-loop
-enum-known-given c = search needs
-
-put-row-requires : tie.Need-put-row-requires Inv-loop μ-loop
-put-row-requires c κs =
-    let g = c .before .before in
-    let call = g .before .before in
+add-end : tie.Need-add-end Inv-loop μ-loop
+add-end c =
+    let call = c .before in
     let l = call .before .before .loop in
     let s = call .before .before .before .before .before .args .file .now in
     let more = call .before .loop-test .taken in
-    let x = turned s (l .at) (l .inv .0 .sound) more (sym (ap toldFound (g .given .given .1)) ∙ call .block-at .ensures) in
+    let x = turned s (l .at) (l .inv .0 .sound) more (call .given-at .ensures) in
+    omega (arith, x .sound .inside, x .sound .short)
+
+add-at : tie.Need-add-at Inv-loop μ-loop
+add-at c =
+    let call = c .before in
+    let l = call .before .before .loop in
+    let s = call .before .before .before .before .before .args .file .now in
+    let more = call .before .loop-test .taken in
+    let x = turned s (l .at) (l .inv .0 .sound) more (call .given-at .ensures) in
+    omega (arith, x .sound .inside, x .sound .short)
+
+mul-at : tie.Need-mul-at Inv-loop μ-loop
+mul-at c =
+    let call = c .before in
+    let l = call .before .before .loop in
+    let s = call .before .before .before .before .before .args .file .now in
+    let more = call .before .loop-test .taken in
+    let x = turned s (l .at) (l .inv .0 .sound) more (call .given-at .ensures) in
+    omega (arith, x .sound .inside, x .sound .short)
+
+put-row-requires : tie.Need-put-row-requires Inv-loop μ-loop
+put-row-requires c κs =
+    let call = c .before .before in
+    let l = call .before .before .loop in
+    let s = call .before .before .before .before .before .args .file .now in
+    let more = call .before .loop-test .taken in
+    let x = turned s (l .at) (l .inv .0 .sound) more (call .given-at .ensures) in
     (fill-room s (l .at) (l .to) _ _ (l .inv .0) more x, x .small)
 
 add-to : tie.Need-add-to Inv-loop μ-loop
 add-to c =
-    let g = c .before .before .before .before .before in
-    let call = g .before .before in
+    let call = c .before .before .before .before .before in
     let l = call .before .before .loop in
     let s = call .before .before .before .before .before .args .file .now in
     let more = call .before .loop-test .taken in
-    let x = turned s (l .at) (l .inv .0 .sound) more (sym (ap toldFound (g .given .given .1)) ∙ call .block-at .ensures) in
+    let x = turned s (l .at) (l .inv .0 .sound) more (call .given-at .ensures) in
     omega (arith, l .inv .2, l .inv .0 .sound .inside, l .inv .0 .sound .short)
 
 loop-less : tie.Need-loop-less Inv-loop μ-loop
 loop-less c =
-    let g = c .before .before .before .before .before in
-    let call = g .before .before in
+    let call = c .before .before .before .before .before in
     let l = call .before .before .loop in
     let s = call .before .before .before .before .before .args .file .now in
     let more = call .before .loop-test .taken in
-    let x = turned s (l .at) (l .inv .0 .sound) more (sym (ap toldFound (g .given .given .1)) ∙ call .block-at .ensures) in
+    let x = turned s (l .at) (l .inv .0 .sound) more (call .given-at .ensures) in
     omega (arith, x .moved, x .sound .inside)
 
 loop-again : tie.Need-loop-again Inv-loop μ-loop
 loop-again c =
-    let g = c .before .before .before .before .before in
-    let call = g .before .before in
+    let call = c .before .before .before .before .before in
     let l = call .before .before .loop in
     let s = call .before .before .before .before .before .args .file .now in
     let more = call .before .loop-test .taken in
-    let x = turned s (l .at) (l .inv .0 .sound) more (sym (ap toldFound (g .given .given .1)) ∙ call .block-at .ensures) in
+    let x = turned s (l .at) (l .inv .0 .sound) more (call .given-at .ensures) in
     let e = c .before .before .put-row .ensures in
     (fill-next s (l .at) (l .to) _ _ (l .inv .0) more x _ e, fill-kept s (l .at) (l .to) _ _ (l .inv .0) more x _ e ∙ l .inv .1, omega (arith, l .inv .2, x .moved))
 
-same-length-2 : tie.Need-same-length-2 Inv-loop μ-loop
-same-length-2 c = c .before .loop .inv .1
+same-length : tie.Need-same-length Inv-loop μ-loop
+same-length c = c .before .loop .inv .1
 
-returns-2 : tie.Need-returns-2 Inv-loop μ-loop
-returns-2 c =
+returns : tie.Need-returns Inv-loop μ-loop
+returns c =
     let l = c .before .loop in
     fill-end (c .before .before .before .before .args .file .now) (l .at) (l .to) _ _ (l .inv .0) (c .loop-test .left)
 
@@ -112,14 +104,13 @@ fill-spec =
     Inv-loop
     μ-loop
     loop-holds
-    block-at-requires
-    enum-told
-    same-length
-    returns
-    enum-known-given
+    given-at-requires
+    add-end
+    add-at
+    mul-at
     put-row-requires
     add-to
     loop-less
     loop-again
-    same-length-2
-    returns-2)
+    same-length
+    returns)

@@ -1,11 +1,9 @@
 use mathlib.Core.Path.{sym, ap, _∙_}
 use Rattle.resource_read.proofs.Answers.{parts-inside, name-part}
 use Rattle.resource_read.specs.Table.{nameOf}
-use mathlib.Core.Path.{sym, ap, _∙_}
 use native.Mathlib.Omega.{arith}
 use Rattle.resource_read.proofs.Answers.{parts-inside}
 use Rattle.resource_read.specs.Answer.{toldShown}
-use Rattle.resource_read.specs.Table.{nameOf}
 use borrow.Author.Needs.{needs}
 use Rattle.resource_read.proofs.name_at.Statement.{statement}
 use Rattle.resource_read.proofs.name_at.Tie as tie

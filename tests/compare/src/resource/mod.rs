@@ -2,8 +2,10 @@
 
 pub mod campaign;
 mod expected;
+pub mod listing;
 mod reading;
 mod tally;
 mod writing;
 
+pub use reading::{check_document, check_section};
 pub use tally::Tally;
