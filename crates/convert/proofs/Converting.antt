@@ -1,18 +1,18 @@
 -- The steps of the conversions on plain values. Assumes nothing.
-use Prim.Native.Nat.{ℕ, _-_, _%_, _≤_, _<_}
+use Prim.Native.Nat.{ℕ, _+_, _-_, _*_, _/_, _^_, _<_}
 use mathlib.Core.Path.{_≡_, sym, ap, _∙_, subst}
 use mathlib.Core.Bool.{Bool, true, false}
-use native.Mathlib.Omega.{arith}
+use native.Mathlib.Decide.{ℕ-discrete}
+use native.Mathlib.Nat.{mul-zero}
 use borrow.Author.Tests.{ne-eqb}
-use lib.Dec.{T}
 use lib.Ieee.{Float, binary32, ofBits}
 use Rattle.colour.specs.Spaces.{uses, full, known, ranged, allowed}
 use Rattle.colour.specs.Channels.{inUnit, allows}
-use Rattle.convert.specs.Scale.{channelOf}
+use Rattle.convert.specs.Scale.{channelOf, sampleOf, sampleOfBits}
 use Rattle.convert.specs.Convert.{Converted, gives, refused, unmatched, channelBy, toChannel, sampleOn, sampleBy, sampleIn}
 use Rattle.colour.specs.declared.model.Model.{Model}
 use Rattle.colour.proofs.Laws.{small-leb}
-use Rattle.colour.proofs.Unit.{unit-bits}
+use Rattle.colour.proofs.Unit.{unit-leb}
 
 -- ---- a sample to a channel
 
@@ -58,5 +58,13 @@ given-in m n x s g e h = h ∙ ap (λ (k : Model). sampleOn k x) (sym g) ∙ ap 
 pub allows-same : (m n : Model) (x : Float) → m ≡ n → allows m x ≡ true → allows n x ≡ true
 allows-same m n x g e = ap (λ (k : Model). allows k x) (sym g) ∙ e
 
-pub unit-room : (b : ℕ) → inUnit (ofBits binary32 b) ≡ true → b % 0x8000_0000 ≤ 0x3f80_0000
-unit-room b e = unit-bits b (subst T (sym e) tt)
+-- a channel from 0 to 1 by its bits: those of 1 or below, or minus zero's
+pub unit-sample : (n b : ℕ) → b < 2 ^ 32 → inUnit (ofBits binary32 b) ≡ true → sampleOfBits n b ≡ sampleOf n (ofBits binary32 b)
+unfolding sampleOf ofBits
+unit-sample n b small e = elim (ℕ-discrete b 0x8000_0000) [
+  | yes m ↦ subst (λ (z : ℕ). sampleOfBits n z ≡ sampleOf n (ofBits binary32 z)) (sym m) (minus n)
+  | no o ↦ rw (unit-leb b small o ∙ e)
+]
+  where
+    minus : (n : ℕ) → 0 ≡ (2 * (n * 0) + 1) / 2
+    minus n = rw (mul-zero n)

@@ -1,13 +1,15 @@
 // Samples of ACO spaces to channels of ASE models, and back. Every refusal is at place 0.
 mod scale;
 
+pub use scale::gray_sample;
+pub use scale::quotient;
+pub use scale::rgb_sample;
+
 ghost use mathlib.Core.Path.{_≡_};
 ghost use lib.Ieee.{binary32, ofBits};
 ghost use Rattle.colour.specs.Spaces.{rgb, cmyk, gray, known};
 ghost use Rattle.colour.specs.declared.channel.Channels.the-variants.{Gray};
 ghost use Rattle.convert.specs.Convert.{gives, andThen, unmatched, toChannel, toSample, sampleIn, toChannels, toldChannel, toldSample, toldChannels};
-use crate::scale::nearest;
-use crate::scale::quotient;
 use colour::CMYK;
 use colour::Channels;
 use colour::Colour;
@@ -79,13 +81,13 @@ fn sample_in(model: Model, bits: u32) -> Sample
         return Sample::Refused(5);
     }
     match model {
-        Model::Rgb => Sample::Is(nearest(Model::RGB.full, bits)),
+        Model::Rgb => Sample::Is(rgb_sample(bits)),
         Model::Cmyk => {
-            let sample = nearest(Model::CMYK.full, bits);
+            let sample = rgb_sample(bits);
             Sample::Is(Model::CMYK.full - sample)
         }
         Model::Lab => Sample::Refused(14),
-        Model::Gray => Sample::Is(nearest(Model::GRAY.full, bits)),
+        Model::Gray => Sample::Is(gray_sample(bits)),
     }
 }
 
