@@ -4,7 +4,6 @@ mod scale;
 pub use scale::gray_sample;
 pub use scale::quotient;
 pub use scale::rgb_sample;
-
 ghost use mathlib.Core.Path.{_≡_};
 ghost use lib.Ieee.{binary32, ofBits};
 ghost use Rattle.colour.specs.Spaces.{rgb, cmyk, gray, known};

@@ -26,22 +26,31 @@ returns c = behind (c .before .args .full) (c .before .args .bits) (c .if1 .take
 
 returns-2 : tie.Need-returns-2
 returns-2 c = within _ _ _ (c .before .if1 .left) (small (c .before .before .args .full) (c .before .before .args .bits) (c .before .before .fits .full .fits) (room (c .before .before .args .bits) (c .before .if1 .left)) (c .if2 .taken))
+
 add-digits : tie.Need-add-digits
 add-digits c = search needs
+
 mul-product : tie.Need-mul-product
 mul-product c = omega (arith, nm-lt (c .before .before .args .full) (c .before .before .args .bits) (c .before .before .fits .full .fits) (room (c .before .before .args .bits) (c .before .if1 .left)) (c .if2 .left))
+
 shl-product : tie.Need-shl-product
 shl-product c = search needs
+
 mul-result : tie.Need-mul-result
 mul-result c = omega (arith, p-lt (c .before .before .args .full) (c .before .before .args .bits) (c .before .before .fits .full .fits) (room (c .before .before .args .bits) (c .before .if1 .left)) (c .if2 .left))
+
 add-result : tie.Need-add-result
 add-result c = omega (arith, p-lt (c .before .before .args .full) (c .before .before .args .bits) (c .before .before .fits .full .fits) (room (c .before .before .args .bits) (c .before .if1 .left)) (c .if2 .left))
+
 mul-result-2 : tie.Need-mul-result-2
 mul-result-2 c = search needs
+
 div-result : tie.Need-div-result
 div-result c = search needs
+
 cast-result : tie.Need-cast-result
 cast-result c = omega (arith, p-most (c .before .before .args .full) (c .before .before .args .bits) (c .before .before .fits .full .fits) (room (c .before .before .args .bits) (c .before .if1 .left)) (c .if2 .left))
+
 returns-3 : tie.Need-returns-3
 returns-3 c = within _ _ _ (c .before .if1 .left) (nearest-is (c .before .before .args .full) (c .before .before .args .bits) (c .before .before .fits .full .fits) (room (c .before .before .args .bits) (c .before .if1 .left)) (c .if2 .left))
 
