@@ -3,6 +3,7 @@
 mod books;
 mod descriptors;
 mod resources;
+mod trays;
 mod walks;
 
 pub use books::AcbAnswer;
@@ -40,6 +41,9 @@ pub use resources::khuyurek_resource_length;
 pub use resources::khuyurek_resource_read;
 pub use resources::khuyurek_resource_record_at;
 pub use resources::khuyurek_resource_write;
+pub use trays::TrayAnswer;
+pub use trays::khuyurek_to_channels;
+pub use trays::khuyurek_to_samples;
 pub use walks::AcoStart;
 pub use walks::AcoStep;
 pub use walks::AseStart;
