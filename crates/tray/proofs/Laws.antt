@@ -8,6 +8,7 @@ use native.Mathlib.Omega.{arith}
 use native.Mathlib.Numerals.{add-one}
 use native.Mathlib.Nat.{add-zero, zero-add}
 use borrow.Author.Tests.{le-leb, lt-leb}
+use lib.Bits.{bitOr, or-add-and, and-le-l, and-le-r}
 use lib.ListN.{length, getD, drop, set, drop-of-length-le}
 use lib.Seq.{sets, sets-eq, drop-cons}
 use Rattle.algebra.specs.Reader.{pick}
@@ -126,3 +127,11 @@ passed-more ok xs i h e j l = go (native.Mathlib.Nat.eq-or-lt-of-le (below j l))
 
 pub all-first : (ok : ℕ → Bool) (xs : List ℕ) → Passed ok xs (length xs) → First ok xs (length xs)
 all-first ok xs h = record { inside = omega arith; passed = h; fails = λ l. absurd (omega arith) }
+
+-- ---- numbers joined by `|`: where that is 0, each is
+pub or-none : (a b : ℕ) → bitOr a b ≡ 0 → (a ≡ 0) × (b ≡ 0)
+or-none a b e = (omega (arith, or-add-and a b, and-le-l a b, and-le-r a b), omega (arith, or-add-and a b, and-le-l a b, and-le-r a b))
+
+pub marked-none : (t : Bool) → _≡_ {A = ℕ} (pick t 0 1) 0 → t ≡ true
+marked-none true e = refl
+marked-none false e = absurd (omega arith)

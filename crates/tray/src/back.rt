@@ -5,6 +5,7 @@ ghost use mathlib.Core.List.{map};
 ghost use Prim.Native.Nat.{_≤_};
 ghost use lib.ListN.{length};
 ghost use lib.Seq.{sets};
+ghost use Rattle.algebra.specs.Reader.{pick};
 ghost use Rattle.convert.specs.Convert.{Converted, gives, andThen, toSample};
 ghost use Rattle.convert.specs.Scale.{sampleOfBits};
 ghost use Rattle.tray.specs.Tray.{inOrder, samplesOf, told};
@@ -17,22 +18,28 @@ use convert::gray_sample;
 use convert::rgb_sample;
 use convert::to_sample;
 
-// Whether all channels are from 0 to 1. It goes on where one is not, so that the loop has one way
-// out and is compiled to vectors.
+// 1 where a channel is not from 0 to 1.
+fn outside(bits: u32) -> u32
+    ensures { λ r. ⌜ r ≡ pick (unit bits) 0 1 ⌝ }
+{
+    if is_channel(false, bits) {
+        return 0;
+    }
+    1
+}
+
+// Whether all channels are from 0 to 1. It goes on where one is not, and joins numbers, so that
+// the loop is compiled to vectors.
 fn all_unit(bits: &[u32]) -> bool
     ensures { λ r. ⌜ (r ≡ true → Passed unit (now (bits .entry)) (length (now (bits .entry)))) ⌝ }
 {
-    let mut outside: u32 = 0;
+    let mut any: u32 = 0;
     let mut i: usize = 0;
     while i < bits.len() {
-        if is_channel(false, bits[i]) {
-            i += 1;
-            continue;
-        }
-        outside = 1;
+        any |= outside(bits[i]);
         i += 1;
     }
-    outside == 0
+    any == 0
 }
 
 // The first channel that is not from 0 to 1, or their number.
