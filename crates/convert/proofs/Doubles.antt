@@ -1,19 +1,19 @@
 -- A fraction from 65,536 on, rounded to a double: the double's bits hold its whole part. Nothing here is about colours. Assumes nothing.
 use mathlib.Core.Path.{_≡_, refl, sym, ap, ap₂, _∙_, subst}
-use Prim.Native.Nat.{ℕ, suc, _+_, _-_, _*_, _/_, _%_, _^_, _≤_, _<_, compare}
+use Prim.Native.Nat.{ℕ, zero, suc, _+_, _-_, _*_, _/_, _%_, _^_, _≤_, _<_, compare}
 use native.Mathlib.Nat.{le-trans, le-of-eq, lt-of-lt-of-le, lt-of-le-of-lt, lt-irrefl, lt-of-not-le, le-antisymm, add-mul, zero-add, mul-comm, mul-assoc, mul-left-comm, mul-right-comm, mul-mul-mul-comm, mul-le-mul-right, mul-lt-mul-of-pos-right, lt-of-mul-lt-mul-right, mul-pos, mul-div-cancel, div-lt-iff-lt-mul, le-div-iff-mul-le}
 use native.Mathlib.Omega.{arith}
-use mathlib.Core.Bool.{Bool, true, false, cond, true≢false}
+use mathlib.Core.Bool.{Bool, true, false, cond, _&&_, Bool·beq, true≢false}
 use lib.IntN.{ℤ}
-use lib.Dec.{lit≤}
+use lib.Dec.{ltb, lit≤}
 use lib.Pow.{pow-add, pow-pos, pow-mono, shl-lt, shl-shr}
-use lib.Ieee.{Float, nan, inf, fin, Format, binary64, up, down, size, top, round, sum, add, mul, isNan, toBits}
+use lib.Ieee.{Float, nan, inf, fin, Format, binary64, prec, low, up, down, size, top, odd, units, round, sum, add, mul, isNan, toBits}
 use lib.Ieee.Digits.{size-lt, size-le}
-use lib.Ieee.Fits.{down-pos}
+use lib.Ieee.Fits.{down-pos, round-is}
 use lib.Ieee.Exact.{HasValue}
 use lib.Ieee.Nearest.{closest, closest-same, nearest-ge}
 use lib.Ieee.Order.{drop, kept}
-use lib.Ieee.Scale.{grid, overflow, round-val, round-same}
+use lib.Ieee.Scale.{finite, grid, overflow, round-val, round-same}
 use Rattle.convert.proofs.Rounding.{closest-within}
 
 -- ---- sums and products of floats that are not negative, by any fractions that they equal
@@ -54,6 +54,42 @@ module _ (f : Format) (a c b d : ℕ) (C : 0 < c) (D : 0 < d) where
   add-values (fin false m e) (fin false n k) h g =
       round-same f false (m * up e * down k + n * up k * down e) (down e * down k) (a * d + b * c) (c * d) (mul-pos (down-pos e) (down-pos k)) (mul-pos C D) (joint (m * up e) (n * up k) (down e) (down k) (h .1) (g .1))
 
+-- ---- a sum of two floats that are finite is no NaN
+
+odd-number : (d : ℕ) (s : Bool) (q k l : ℕ) → isNan (odd d s q k l) ≡ false
+unfolding isNan odd
+odd-number d s zero k l = refl
+odd-number d s (suc q) k l = refl
+
+units-number : (f : Format) (s : Bool) (q k : ℕ) → isNan (units f s q k) ≡ false
+unfolding units isNan
+units-number f s q k = go (ltb (q * 2 ^ k) (overflow f))
+  where
+    go : (b : Bool) → isNan (cond b (odd (suc (prec f)) s q k (low f)) (inf s)) ≡ false
+    go true = odd-number (suc (prec f)) s q k (low f)
+    go false = refl
+
+round-number : (f : Format) (s : Bool) (a c : ℕ) → isNan (round f s a c) ≡ false
+round-number f s a c = ap isNan (round-is f s a c) ∙ units-number f s _ _
+
+pub sum-number : (f : Format) (x y : Float) → finite x ≡ true → finite y ≡ true → isNan (add f x y) ≡ false
+unfolding add sum
+sum-number f nan y h g = let z : _≡_ {A = ℕ} 0 1 = cc in absurd (omega arith)
+sum-number f (inf s) y h g = let z : _≡_ {A = ℕ} 0 1 = cc in absurd (omega arith)
+sum-number f (fin s m e) nan h g = let z : _≡_ {A = ℕ} 0 1 = cc in absurd (omega arith)
+sum-number f (fin s m e) (inf t) h g = let z : _≡_ {A = ℕ} 0 1 = cc in absurd (omega arith)
+sum-number f (fin s m e) (fin t n k) h g = go (Bool·beq s t) (ltb (m * up e * down k) (n * up k * down e))
+  where
+    go : (b c : Bool) → isNan (cond b (round f s (m * up e * down k + n * up k * down e) (down e * down k)) (cond c (round f t (n * up k * down e - m * up e * down k) (down e * down k)) (round f (s && ltb (n * up k * down e) (m * up e * down k)) (m * up e * down k - n * up k * down e) (down e * down k)))) ≡ false
+    go true c = round-number f s _ _
+    go false true = round-number f t _ _
+    go false false = round-number f _ _ _
+
+pub value-finite : (x : Float) (s : Bool) (a c : ℕ) → HasValue x s a c → finite x ≡ true
+value-finite nan s a c h = absurd h
+value-finite (inf t) s a c h = absurd h
+value-finite (fin t m e) s a c h = refl
+
 -- ---- a float's bits, where it is q times 2 ^ h of the smallest doubles, and q has 53 digits
 
 size-is : (n j : ℕ) → 2 ^ j ≤ n → n < 2 ^ suc j → size n ≡ suc j
@@ -81,12 +117,6 @@ unfolding toBits
 bits-at nan q h v lo hi = absurd v
 bits-at (inf s) q h v lo hi = absurd v
 bits-at (fin s m e) q h v lo hi = packed s (m * up e * 2 ^ 1074 / down e) q h (v .0) (ap (λ (x : ℕ). x / down e) (v .1) ∙ mul-div-cancel (q * 2 ^ h) (down-pos e)) lo hi
-
-has-no-nan : (x : Float) (s : Bool) (a c : ℕ) → HasValue x s a c → isNan x ≡ false
-unfolding isNan
-has-no-nan nan s a c h = absurd h
-has-no-nan (inf t) s a c h = absurd h
-has-no-nan (fin t m e) s a c h = refl
 
 -- ---- a fraction from 65,536 + s to less than a unit of the double below the next number
 
@@ -145,9 +175,6 @@ module _ (num den s : ℕ) (D : 0 < den) (lo : (65536 + s) * den ≤ num) (hi : 
   rounded : HasValue (round binary64 false num den) false (q * 2 ^ 1038) (2 ^ 1074)
   rounded = subst (λ (g : ℕ). HasValue (round binary64 false num den) false g (2 ^ 1074)) grid-is
       (round-val binary64 num den (lt-of-le-of-lt (le-of-eq grid-is) (lt-of-lt-of-le (shl-lt 53 1038 q-most) (pow-mono {i = 53 + 1038} {j = 2098} (lit≤ tt)))))
-
-  pub no-nan : isNan (round binary64 false num den) ≡ false
-  no-nan = has-no-nan (round binary64 false num den) false (q * 2 ^ 1038) (2 ^ 1074) rounded
 
   pub whole-part : toBits binary64 (round binary64 false num den) / 2 ^ 36 % 65536 ≡ s
   whole-part = cut (toBits binary64 (round binary64 false num den)) q s (bits-at (round binary64 false num den) q 1038 rounded q-least q-most) least most S

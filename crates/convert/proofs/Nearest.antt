@@ -13,11 +13,11 @@ use lib.Pow.{pow-add, pow-pos, pow-mono, shl-lt}
 use lib.Ieee.{Float, binary32, binary64, ofBits, ofInt, round, mul, add, isNan, toBits}
 use lib.Ieee.Exact.{HasValue, round-exact}
 use lib.Ieee.Back.{round-whole}
-use lib.Ieee.Scale.{round-same}
+use lib.Ieee.Scale.{finite, round-same}
 use Rattle.convert.specs.Scale.{nearestUp, sampleOf}
 use Rattle.convert.specs.Parts.{Full, long, short}
 use Rattle.convert.proofs.Return.{nearestUp-same, sample-of-value}
-use Rattle.convert.proofs.Doubles.{mul-values, add-values, no-nan, whole-part}
+use Rattle.convert.proofs.Doubles.{mul-values, add-values, sum-number, value-finite, whole-part}
 use Rattle.colour.proofs.Unit.{U, E, below-ones, cross, lead-lt, digit-lt}
 use Rattle.algebra.proofs.Floats.{lead, value, bits-value}
 
@@ -166,10 +166,6 @@ module _ (n b : ℕ) (N : n ≤ 65535) (h : b ≤ 0x3f80_0000) where
     none : (x w z : ℕ) → w ≡ 131072 * z → 0 < z → x ≤ 65535 * z → 2 * x + w < 2 * w
     none x w z e Z h = omega arith
 
-    pub small-no-nan : isNan (raised n b) ≡ false
-    small-no-nan = ap isNan raised-is
-        ∙ no-nan (value binary32 b * n * 2 + 131073 * (2 ^ 149 * 1)) (2 ^ 149 * 1 * 2) 0 (mul-pos unit-pos two-pos) (least-small (value binary32 b * n) (2 ^ 149) (2 ^ 132)) (most-small (value binary32 b * n) (2 ^ 149) (2 ^ 132) wide (pow-pos 132) tiny) (lit≤ tt)
-
     pub small-sample : toBits binary64 (raised n b) / 2 ^ 36 % 65536 ≡ sampleOf n (ofBits binary32 b)
     small-sample =
         ap (λ (x : Float). toBits binary64 x / 2 ^ 36 % 65536) raised-is
@@ -263,9 +259,6 @@ module _ (n b : ℕ) (N : n ≤ 65535) (h : b ≤ 0x3f80_0000) where
       small-side : (p : ℕ) → p ≤ 65535 * 2 ^ 40 → (p + 2 ^ 39) / 2 ^ 40 ≤ 65535
       small-side p h = omega arith
 
-      pub large-no-nan : isNan (raised n b) ≡ false
-      large-no-nan = ap isNan raised-same ∙ no-nan (P n b + 131073 * 2 ^ 39) (2 ^ 40) ((P n b + 2 ^ 39) / 2 ^ 40) (pow-pos 40) (low-side (P n b)) (high-side (P n b) far) (small-side (P n b) p-most)
-
       pub large-sample : toBits binary64 (raised n b) / 2 ^ 36 % 65536 ≡ sampleOf n (ofBits binary32 b)
       large-sample =
           ap (λ (x : Float). toBits binary64 x / 2 ^ 36 % 65536) raised-same
@@ -282,8 +275,9 @@ module _ (n b : ℕ) (N : n ≤ 65535) (h : b ≤ 0x3f80_0000) where
 
 -- ---- of both
 
-pub raised-no-nan : (n b : ℕ) → Full n → b ≤ 0x3f80_0000 → isNan (raised n b) ≡ false
-raised-no-nan n b k h = elim (decLe 110 (E b)) [ yes g ↦ large-no-nan n b (scale-lt k) h g k | no g ↦ small-no-nan n b (scale-lt k) h (lt-of-not-le g) ]
+-- the product and anything finite have a sum
+pub product-number : (n b : ℕ) (y : Float) → Full n → b ≤ 0x3f80_0000 → finite y ≡ true → isNan (add binary64 (mul binary64 (ofBits binary32 b) (ofInt binary64 (pos n))) y) ≡ false
+product-number n b y k h g = sum-number binary64 (mul binary64 (ofBits binary32 b) (ofInt binary64 (pos n))) y (value-finite (mul binary64 (ofBits binary32 b) (ofInt binary64 (pos n))) false _ _ (exact n b (scale-lt k) h)) g
 
 pub raised-sample : (n b : ℕ) → Full n → b ≤ 0x3f80_0000 → toBits binary64 (raised n b) / 2 ^ 36 % 65536 ≡ sampleOf n (ofBits binary32 b)
 raised-sample n b k h = elim (decLe 110 (E b)) [ yes g ↦ large-sample n b (scale-lt k) h g k | no g ↦ small-sample n b (scale-lt k) h (lt-of-not-le g) ]

@@ -1,10 +1,10 @@
-use Rattle.convert.specs.Parts.{short}
+use Rattle.convert.specs.Parts.{long, short}
 use borrow.Author.Needs.{needs}
 use Rattle.convert.proofs.scale.gray_sample.Statement.{statement}
 use Rattle.convert.proofs.scale.gray_sample.Tie as tie
 
 nearest-requires : tie.Need-nearest-requires
-nearest-requires c κs = short
+nearest-requires c κs = search (needs, long, short)
 
 returns : tie.Need-returns
 returns c = search needs

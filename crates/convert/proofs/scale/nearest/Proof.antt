@@ -1,5 +1,5 @@
 use Prim.Native.Nat.{ℕ, _%_, _≤_, _<_}
-use mathlib.Core.Path.{_≡_, sym, _∙_, subst}
+use mathlib.Core.Path.{_≡_, refl, sym, _∙_, subst}
 use mathlib.Core.Bool.{Bool, not}
 use native.Mathlib.Omega.{arith}
 use borrow.Author.Needs.{needs}
@@ -10,7 +10,7 @@ use lib.Ieee.Bits.{nanBits-is, ofBits-fits}
 use lib.Ieee.Fits.{and-i, fits-widens}
 use Rattle.algebra.proofs.Floats.{finite-bits, no-nan}
 use Rattle.convert.specs.Scale.{sampleOf, sampleOfBits}
-use Rattle.convert.proofs.Nearest.{raised-no-nan, raised-sample}
+use Rattle.convert.proofs.Nearest.{product-number, raised-sample}
 use Rattle.convert.proofs.scale.nearest.Statement.{statement}
 use Rattle.convert.proofs.scale.nearest.Tie as tie
 
@@ -41,7 +41,8 @@ int-to-float-product : tie.Need-int-to-float-product
 int-to-float-product c = search needs
 
 float-to-bits-result : tie.Need-float-to-bits-result
-float-to-bits-result c = let s = c .before .before .before in subst (λ (x : Bool). T (not x)) (sym (raised-no-nan (s .args .full) (s .args .bits) (s .pre) (c .before .before .if1 .left))) tt
+unfolding ofBits
+float-to-bits-result c = let s = c .before .before .before in subst (λ (x : Bool). T (not x)) (sym (product-number (s .args .full) (s .args .bits) _ (s .pre) (c .before .before .if1 .left) refl)) tt
 
 cast-result : tie.Need-cast-result
 cast-result c = search needs
