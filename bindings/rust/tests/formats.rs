@@ -470,7 +470,10 @@ fn runs_come_back() {
         assert_eq!(channels.len(), samples.len());
         assert_eq!(to_samples(model, &channels), Ok(samples));
     }
-    assert_eq!(to_channels(Space::Gray, &[0, 1, 10_001]), Err(refusal(5, 2)));
+    assert_eq!(
+        to_channels(Space::Gray, &[0, 1, 10_001]),
+        Err(refusal(5, 2))
+    );
     assert_eq!(to_channels(Space::Lab, &[1, 2]), Err(refusal(14, 0)));
     assert_eq!(to_channels(Space::Hsb, &[]), Ok(vec![]));
     assert_eq!(to_samples(Model::Cmyk, &[0.5, 2.0]), Err(refusal(5, 1)));

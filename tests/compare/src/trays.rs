@@ -104,7 +104,10 @@ fn rooms(len: usize) -> impl Iterator<Item = usize> {
 }
 
 fn check_there(space: u16, samples: &[u16], room: usize, tally: &mut Counts) -> Checked {
-    let call = format!("{} samples of space {space} in {room} places", samples.len());
+    let call = format!(
+        "{} samples of space {space} in {room} places",
+        samples.len()
+    );
     check(
         &call,
         samples,
@@ -116,7 +119,10 @@ fn check_there(space: u16, samples: &[u16], room: usize, tally: &mut Counts) -> 
 }
 
 fn check_back(tag: u32, bits: &[u32], room: usize, tally: &mut Counts) -> Checked {
-    let call = format!("{} channels of model {tag:08X} in {room} places", bits.len());
+    let call = format!(
+        "{} channels of model {tag:08X} in {room} places",
+        bits.len()
+    );
     check(
         &call,
         bits,
