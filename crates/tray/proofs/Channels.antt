@@ -1,7 +1,6 @@
 -- Runs of channels, by their model. Assumes nothing.
 use Prim.Native.Nat.{ℕ, _-_, _^_, _≤_, _<_}
 use mathlib.Core.Path.{_≡_, refl, sym, ap, _∙_, subst}
-use mathlib.Core.Logic.{_⊎_, inl, inr}
 use mathlib.Core.Bool.{Bool, true, false, _||_}
 use mathlib.Core.List.{List, [], _∷_, map}
 use native.Mathlib.Omega.{arith}
@@ -9,20 +8,19 @@ use native.Mathlib.Nat.{zero-add}
 use borrow.Author.Tests.{eqb-true, ne-eqb}
 use lib.ListN.{length, getD}
 use lib.Dec.{eqb}
-use lib.Ieee.{Float, binary32, ofBits}
+use lib.Ieee.{binary32, ofBits}
 use lib.Ieee.Scale.{finite}
 use Rattle.algebra.specs.Reader.{pick}
 use Rattle.colour.specs.Models.{modelOf}
 use Rattle.colour.specs.Channels.{inUnit}
 use Rattle.colour.specs.declared.model.Model.the-variants as model
-use Rattle.colour.specs.declared.model.Known.{Known}
 use Rattle.colour.specs.declared.model.Known.the-variants.{Is, Unknown}
 use Rattle.convert.specs.Scale.{sampleOf, sampleOfBits}
 use Rattle.convert.specs.Convert.{Converted, gives, refused, andThen, sampleBy, sampleFound, toSample}
 use Rattle.convert.specs.Refusals.{Tagged, rgb, cmyk, gray}
 use Rattle.convert.proofs.Converting.{unit-sample}
 use Rattle.tray.specs.Tray.{inOrder}
-use Rattle.tray.specs.Parts.{Passed, First, unit, inked, converted, results, judged}
+use Rattle.tray.specs.Parts.{First, unit, inked, converted, results, judged}
 use Rattle.tray.proofs.Laws.{all-given, one-refused, results-are, none-given, first-refused}
 
 -- ---- one channel

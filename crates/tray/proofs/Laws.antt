@@ -13,7 +13,7 @@ use lib.ListN.{length, getD, drop, set, drop-of-length-le}
 use lib.Seq.{sets, sets-eq, drop-cons}
 use Rattle.algebra.specs.Reader.{pick}
 use Rattle.convert.specs.Convert.{Converted, gives, refused, andThen}
-use Rattle.tray.specs.Tray.{atPosition, inOrder, lent, tray}
+use Rattle.tray.specs.Tray.{atPosition, inOrder, lent}
 use Rattle.tray.specs.Parts.{Passed, First, results, judged}
 
 -- ---- all pass, or one is the first to fail

@@ -1,11 +1,11 @@
 -- Runs of samples, by their space. Assumes nothing.
-use Prim.Native.Nat.{ℕ, _+_, _-_, _≤_, _<_}
+use Prim.Native.Nat.{ℕ, _-_, _≤_, _<_}
 use mathlib.Core.Path.{_≡_, refl, sym, ap, _∙_, subst}
 use mathlib.Core.Bool.{Bool, true, false}
 use mathlib.Core.List.{List, [], _∷_, map}
 use native.Mathlib.Omega.{arith}
 use native.Mathlib.Nat.{zero-add}
-use borrow.Author.Tests.{le-leb, leb-true, leb-false}
+use borrow.Author.Tests.{le-leb}
 use lib.ListN.{length, getD}
 use lib.Dec.{leb}
 use lib.Ieee.{Float, binary32, toBits}
@@ -15,7 +15,7 @@ use Rattle.convert.specs.Scale.{channelOf}
 use Rattle.convert.specs.Convert.{Converted, gives, refused, andThen, unmatched, toChannel}
 use Rattle.convert.proofs.Converting.{other-channel}
 use Rattle.tray.specs.Tray.{inOrder, toBitsOf}
-use Rattle.tray.specs.Parts.{Passed, First, low, plain, turned, results, judged}
+use Rattle.tray.specs.Parts.{First, low, plain, turned, results, judged}
 use Rattle.tray.proofs.Laws.{all-given, one-refused, results-are, none-given, first-refused}
 
 -- ---- one sample

@@ -6,7 +6,7 @@ ghost use Prim.Native.Nat.{_≤_};
 ghost use lib.ListN.{length};
 ghost use lib.Seq.{sets};
 ghost use Rattle.algebra.specs.Reader.{pick};
-ghost use Rattle.convert.specs.Convert.{Converted, gives, andThen, toSample};
+ghost use Rattle.convert.specs.Convert.{gives, andThen, toSample};
 ghost use Rattle.convert.specs.Scale.{sampleOfBits};
 ghost use Rattle.tray.specs.Tray.{inOrder, samplesOf, told};
 ghost use Rattle.tray.specs.Parts.{Passed, First, unit, inked, converted, results, judged};

@@ -5,7 +5,7 @@ ghost use mathlib.Core.List.{map};
 ghost use Prim.Native.Nat.{_≤_};
 ghost use lib.ListN.{length};
 ghost use lib.Seq.{sets};
-ghost use Rattle.convert.specs.Convert.{Converted, gives, andThen, toChannel};
+ghost use Rattle.convert.specs.Convert.{gives, andThen, toChannel};
 ghost use Rattle.tray.specs.Tray.{inOrder, toBitsOf, channelsOf, told};
 ghost use Rattle.tray.specs.Parts.{Passed, First, low, plain, turned, results, judged};
 use crate::Tray;

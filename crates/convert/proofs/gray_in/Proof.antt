@@ -1,8 +1,8 @@
-use mathlib.Core.Path.{refl, sym, ap, _∙_}
+use mathlib.Core.Path.{sym, ap, _∙_}
 use borrow.Author.Tests.{not-true, not-false}
 use lib.Ieee.{binary32, ofBits}
 use Rattle.colour.specs.declared.model.Model.the-variants.{Gray}
-use Prim.Native.Nat.{ℕ, _-_}
+use Prim.Native.Nat.{_-_}
 use Rattle.convert.specs.Convert.{gives}
 use Rattle.convert.proofs.Converting.{refused-in, given-in, unit-sample}
 use borrow.Author.Needs.{needs}

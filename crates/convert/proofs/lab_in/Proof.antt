@@ -1,4 +1,4 @@
-use mathlib.Core.Path.{refl, sym, ap, _∙_}
+use mathlib.Core.Path.{refl, sym, _∙_}
 use borrow.Author.Tests.{not-true, not-false}
 use lib.Ieee.{binary32, ofBits}
 use Rattle.colour.specs.declared.model.Model.the-variants.{Lab}
