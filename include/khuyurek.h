@@ -509,6 +509,22 @@ khuyurek_channel khuyurek_to_channel(uint16_t space, uint16_t sample);
  * 5 for a channel that is not finite, or outside 0 to 1 save in Lab, then 14 for Lab. */
 khuyurek_sample khuyurek_to_sample(uint32_t model, uint32_t bits);
 
+/* number 0: converted, and position is 0. Else the refusal of the first element that is
+ * refused, with its position; 11 has position 0, and comes after every element's own. */
+typedef struct {
+    uint32_t number;
+    size_t position;
+} khuyurek_tray;
+
+/* A run of samples of one space to the bits of their channels, and a run of channels of
+ * one model, by their bits, to samples: each element as by the call for one, in order.
+ * The lent run needs as many places as there are elements; what it has behind them
+ * keeps its contents. No elements are accepted for any space or model, with any room. */
+khuyurek_tray khuyurek_to_channels(uint16_t space, const uint16_t *samples, size_t samples_len,
+                                   uint32_t *bits, size_t bits_len);
+khuyurek_tray khuyurek_to_samples(uint32_t model, const uint32_t *bits, size_t bits_len,
+                                  uint16_t *samples, size_t samples_len);
+
 #ifdef __cplusplus
 }
 #endif

@@ -1,7 +1,7 @@
 /* The header and the archive from C: P3, P6 and a book of one Lab colour are read, listed by their
  * record and written back; P4 is refused with its record and field, P7 with its place, a group left
  * open and a tag that is none by the writer; the book's colour, full name and page are shown; P12 is
- * read into its rows; a document's resource section is found, read and written back; P3 and P6 are walked; a few samples and channels are converted, and those that
+ * read into its rows; a document's resource section is found, read and written back; P3 and P6 are walked; a few samples and channels are converted, one by one and in runs, and those that
  * are refused are refused by their numbers. */
 #include <stdio.h>
 #include <string.h>
@@ -289,8 +289,30 @@ static int conversions(void) {
     return 0;
 }
 
+static int trays(void) {
+    uint16_t samples[3] = {0, 10000, 10001};
+    uint32_t bits[3] = {7, 7, 7};
+    khuyurek_tray tray = khuyurek_to_channels(8, samples, 3, bits, 3);
+    CHECK(tray.number == KHUYUREK_OUT_OF_RANGE && tray.position == 2 && bits[0] == 7);
+    CHECK(khuyurek_to_channels(8, samples, 3, bits, 2).number == KHUYUREK_OUT_OF_RANGE);
+    tray = khuyurek_to_channels(8, samples, 2, bits, 1);
+    CHECK(tray.number == KHUYUREK_NO_ROOM && tray.position == 0 && bits[0] == 7);
+    tray = khuyurek_to_channels(8, samples, 2, bits, 3);
+    CHECK(tray.number == 0 && tray.position == 0);
+    CHECK(bits[0] == 0 && bits[1] == ONE && bits[2] == 7);
+    CHECK(khuyurek_to_channels(3, samples, 0, bits, 0).number == 0);
+    CHECK(khuyurek_to_channels(3, samples, 1, bits, 0).number == KHUYUREK_UNKNOWN);
+    uint32_t channels[3] = {ONE, HALF, ONE + 1};
+    tray = khuyurek_to_samples(CMYK_MODEL, channels, 3, samples, 3);
+    CHECK(tray.number == KHUYUREK_OUT_OF_RANGE && tray.position == 2 && samples[2] == 10001);
+    tray = khuyurek_to_samples(CMYK_MODEL, channels, 2, samples, 3);
+    CHECK(tray.number == 0 && samples[0] == 0 && samples[1] == 32767 && samples[2] == 10001);
+    CHECK(khuyurek_to_samples(KHUYUREK_LAB, channels, 1, samples, 0).number == KHUYUREK_NO_COUNTERPART);
+    return 0;
+}
+
 int main(void) {
-    if (aco() || ase() || acb() || descriptor() || resources() || walks() || conversions()) {
+    if (aco() || ase() || acb() || descriptor() || resources() || walks() || conversions() || trays()) {
         return 1;
     }
     puts("C agrees");

@@ -16,3 +16,22 @@ pub fn to_sample(model: Model, channel: f32) -> Result<u16, Refusal> {
     Refusal::unless(sample.number, 0)?;
     Ok(sample.sample)
 }
+
+/// The channels of a run of samples of one space, as `to_channel` gives each. A
+/// refusal is that of the first sample that is refused, with its position as place.
+pub fn to_channels(space: Space, samples: &[u16]) -> Result<Vec<f32>, Refusal> {
+    let mut bits = vec![0; samples.len()];
+    let answer = raw::tray::to_channels(space.number(), samples, &mut bits);
+    Refusal::unless(answer.number, answer.position)?;
+    Ok(bits.into_iter().map(f32::from_bits).collect())
+}
+
+/// The samples of a run of channels of one model, as `to_sample` gives each. A
+/// refusal is that of the first channel that is refused, with its position as place.
+pub fn to_samples(model: Model, channels: &[f32]) -> Result<Vec<u16>, Refusal> {
+    let bits: Vec<u32> = channels.iter().map(|channel| channel.to_bits()).collect();
+    let mut samples = vec![0; bits.len()];
+    let answer = raw::tray::to_samples(model.tag(), &bits, &mut samples);
+    Refusal::unless(answer.number, answer.position)?;
+    Ok(samples)
+}

@@ -52,7 +52,7 @@ mod space;
 mod text;
 mod units;
 
-pub use convert::{to_channel, to_sample};
+pub use convert::{to_channel, to_channels, to_sample, to_samples};
 pub use khuyurek_sys as raw;
 pub use refusal::Refusal;
 pub use space::{Model, Space};

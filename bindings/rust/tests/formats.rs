@@ -5,7 +5,9 @@ use std::fs;
 use std::path::Path;
 
 use khuyurek::descriptor::{self, Tag, Value};
-use khuyurek::{acb, aco, ase, to_channel, to_sample, Model, Refusal, Space, Units};
+use khuyurek::{
+    acb, aco, ase, to_channel, to_channels, to_sample, to_samples, Model, Refusal, Space, Units,
+};
 
 const P2: [u8; 4] = [0, 1, 0, 0];
 const P3: [u8; 36] = [
@@ -454,6 +456,28 @@ fn samples_come_back() {
     assert_eq!(to_channel(Space::Gray, 10_001), Err(refusal(5, 0)));
     assert_eq!(to_sample(Model::Lab, 2.0), Err(refusal(14, 0)));
     assert_eq!(to_sample(Model::Gray, 2.0), Err(refusal(5, 0)));
+}
+
+#[test]
+fn runs_come_back() {
+    for (space, model, full) in [
+        (Space::Rgb, Model::Rgb, u16::MAX),
+        (Space::Cmyk, Model::Cmyk, u16::MAX),
+        (Space::Gray, Model::Gray, 10_000),
+    ] {
+        let samples: Vec<u16> = (0..=full).collect();
+        let channels = to_channels(space, &samples).unwrap();
+        assert_eq!(channels.len(), samples.len());
+        assert_eq!(to_samples(model, &channels), Ok(samples));
+    }
+    assert_eq!(
+        to_channels(Space::Gray, &[0, 1, 10_001]),
+        Err(refusal(5, 2))
+    );
+    assert_eq!(to_channels(Space::Lab, &[1, 2]), Err(refusal(14, 0)));
+    assert_eq!(to_channels(Space::Hsb, &[]), Ok(vec![]));
+    assert_eq!(to_samples(Model::Cmyk, &[0.5, 2.0]), Err(refusal(5, 1)));
+    assert_eq!(to_samples(Model::Lab, &[0.5]), Err(refusal(14, 0)));
 }
 
 // ---- names and refusals

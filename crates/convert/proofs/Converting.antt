@@ -1,18 +1,20 @@
 -- The steps of the conversions on plain values. Assumes nothing.
-use Prim.Native.Nat.{ℕ, _-_, _%_, _≤_, _<_}
+use Prim.Native.Nat.{ℕ, _+_, _-_, _*_, _/_, _^_, _<_}
 use mathlib.Core.Path.{_≡_, sym, ap, _∙_, subst}
 use mathlib.Core.Bool.{Bool, true, false}
-use native.Mathlib.Omega.{arith}
+use native.Mathlib.Decide.{ℕ-discrete}
+use native.Mathlib.Nat.{mul-zero}
 use borrow.Author.Tests.{ne-eqb}
-use lib.Dec.{T}
 use lib.Ieee.{Float, binary32, ofBits}
+use Rattle.colour.specs.Models.{modelOf}
 use Rattle.colour.specs.Spaces.{uses, full, known, ranged, allowed}
 use Rattle.colour.specs.Channels.{inUnit, allows}
-use Rattle.convert.specs.Scale.{channelOf}
-use Rattle.convert.specs.Convert.{Converted, gives, refused, unmatched, channelBy, toChannel, sampleOn, sampleBy, sampleIn}
+use Rattle.convert.specs.Scale.{channelOf, sampleOf, sampleOfBits}
+use Rattle.convert.specs.Convert.{Converted, gives, refused, unmatched, channelBy, toChannel, sampleOn, sampleBy, sampleIn, sampleFound, toSample}
 use Rattle.colour.specs.declared.model.Model.{Model}
+use Rattle.colour.specs.declared.model.Known.the-variants.{Unknown}
 use Rattle.colour.proofs.Laws.{small-leb}
-use Rattle.colour.proofs.Unit.{unit-bits}
+use Rattle.colour.proofs.Unit.{unit-leb}
 
 -- ---- a sample to a channel
 
@@ -52,11 +54,24 @@ other-channel x v n p q r e = rw (ne-eqb x 0 p, ne-eqb x 2 q, ne-eqb x 8 r, e)
 pub refused-in : (m : Model) (x : Float) → allows m x ≡ false → sampleBy false m x ≡ sampleIn m x
 refused-in m x e = ap (λ (t : Bool). sampleBy t m x) (sym e)
 
-pub given-in : (m n : Model) (x : Float) (s : Converted ℕ) → m ≡ n → allows m x ≡ true → s ≡ sampleOn n x → s ≡ sampleIn m x
-given-in m n x s g e h = h ∙ ap (λ (k : Model). sampleOn k x) (sym g) ∙ ap (λ (t : Bool). sampleBy t m x) (sym e)
+pub given-in : (m : Model) (x : Float) (s : Converted ℕ) → allows m x ≡ true → s ≡ sampleOn m x → s ≡ sampleIn m x
+given-in m x s e h = h ∙ ap (λ (t : Bool). sampleBy t m x) (sym e)
 
-pub allows-same : (m n : Model) (x : Float) → m ≡ n → allows m x ≡ true → allows n x ≡ true
-allows-same m n x g e = ap (λ (k : Model). allows k x) (sym g) ∙ e
+-- a model that is known by its tag, and a tag that is no model's
+pub same-tag : (t u b : ℕ) (s : Converted ℕ) → t ≡ u → s ≡ toSample u b → s ≡ toSample t b
+same-tag t u b s e h = h ∙ ap (λ (z : ℕ). toSample z b) (sym e)
 
-pub unit-room : (b : ℕ) → inUnit (ofBits binary32 b) ≡ true → b % 0x8000_0000 ≤ 0x3f80_0000
-unit-room b e = unit-bits b (subst T (sym e) tt)
+pub no-tag : (t b : ℕ) → (t ≡ 0x5247_4220 → ⊥) → (t ≡ 0x434d_594b → ⊥) → (t ≡ 0x4c41_4220 → ⊥) → (t ≡ 0x4772_6179 → ⊥) → sampleFound Unknown (ofBits binary32 b) ≡ toSample t b
+unfolding modelOf
+no-tag t b p q r s = rw (ne-eqb t 0x5247_4220 p, ne-eqb t 0x434d_594b q, ne-eqb t 0x4c41_4220 r, ne-eqb t 0x4772_6179 s)
+
+-- a channel from 0 to 1 by its bits: those of 1 or below, or minus zero's
+pub unit-sample : (n b : ℕ) → b < 2 ^ 32 → inUnit (ofBits binary32 b) ≡ true → sampleOfBits n b ≡ sampleOf n (ofBits binary32 b)
+unfolding sampleOf ofBits
+unit-sample n b small e = elim (ℕ-discrete b 0x8000_0000) [
+  | yes m ↦ subst (λ (z : ℕ). sampleOfBits n z ≡ sampleOf n (ofBits binary32 z)) (sym m) (minus n)
+  | no o ↦ rw (unit-leb b small o ∙ e)
+]
+  where
+    minus : (n : ℕ) → 0 ≡ (2 * (n * 0) + 1) / 2
+    minus n = rw (mul-zero n)

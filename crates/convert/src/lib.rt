@@ -1,23 +1,28 @@
 // Samples of ACO spaces to channels of ASE models, and back. Every refusal is at place 0.
 mod scale;
 
+pub use scale::gray_sample;
+pub use scale::quotient;
+pub use scale::rgb_sample;
 ghost use mathlib.Core.Path.{_≡_};
 ghost use lib.Ieee.{binary32, ofBits};
 ghost use Rattle.colour.specs.Spaces.{rgb, cmyk, gray, known};
-ghost use Rattle.colour.specs.declared.channel.Channels.the-variants.{Gray};
+ghost use Rattle.colour.specs.declared.channel.Channels.the-variants.{Gray as gray-channel};
+ghost use Rattle.colour.specs.declared.model.Model.the-variants.{Rgb, Cmyk, Lab, Gray};
 ghost use Rattle.convert.specs.Convert.{gives, andThen, unmatched, toChannel, toSample, sampleIn, toChannels, toldChannel, toldSample, toldChannels};
-use crate::scale::nearest;
-use crate::scale::quotient;
 use colour::CMYK;
 use colour::Channels;
 use colour::Colour;
 use colour::GRAY;
-use colour::Known;
 use colour::Made;
 use colour::Model;
 use colour::RGB;
 use colour::is_allowed;
+use colour::is_channel;
 use colour::is_known;
+
+// The refusal of a channel that its model does not allow.
+const OUTSIDE: u32 = 5;
 
 // A channel, or the number of a refusal.
 pub enum Channel {
@@ -71,36 +76,64 @@ pub fn to_channel(space: u16, sample: u16) -> Channel
     }
 }
 
-// The sample of a channel of a known model.
-fn sample_in(model: Model, bits: u32) -> Sample
-    ensures { λ r. ⌜ toldSample r ≡ sampleIn model (ofBits binary32 bits) ⌝ }
+fn rgb_in(bits: u32) -> Sample
+    ensures { λ r. ⌜ toldSample r ≡ sampleIn Rgb (ofBits binary32 bits) ⌝ }
 {
-    if !model.allows(bits) {
-        return Sample::Refused(5);
+    if !is_channel(false, bits) {
+        return Sample::Refused(OUTSIDE);
     }
-    match model {
-        Model::Rgb => Sample::Is(nearest(Model::RGB.full, bits)),
-        Model::Cmyk => {
-            let sample = nearest(Model::CMYK.full, bits);
-            Sample::Is(Model::CMYK.full - sample)
-        }
-        Model::Lab => Sample::Refused(14),
-        Model::Gray => Sample::Is(nearest(Model::GRAY.full, bits)),
-    }
+    Sample::Is(rgb_sample(bits))
 }
 
-// The sample of the channel with these bits, of the model with this tag.
+fn cmyk_in(bits: u32) -> Sample
+    ensures { λ r. ⌜ toldSample r ≡ sampleIn Cmyk (ofBits binary32 bits) ⌝ }
+{
+    if !is_channel(false, bits) {
+        return Sample::Refused(OUTSIDE);
+    }
+    Sample::Is(Model::CMYK.full - rgb_sample(bits))
+}
+
+fn lab_in(bits: u32) -> Sample
+    ensures { λ r. ⌜ toldSample r ≡ sampleIn Lab (ofBits binary32 bits) ⌝ }
+{
+    if !is_channel(true, bits) {
+        return Sample::Refused(OUTSIDE);
+    }
+    Sample::Refused(14)
+}
+
+fn gray_in(bits: u32) -> Sample
+    ensures { λ r. ⌜ toldSample r ≡ sampleIn Gray (ofBits binary32 bits) ⌝ }
+{
+    if !is_channel(false, bits) {
+        return Sample::Refused(OUTSIDE);
+    }
+    Sample::Is(gray_sample(bits))
+}
+
+// The sample of the channel with these bits, of the model with this tag, which is asked for once: a
+// model made of the tag would be asked for again.
 pub fn to_sample(tag: u32, bits: u32) -> Sample
     ensures { λ r. ⌜ toldSample r ≡ toSample tag bits ⌝ }
 {
-    match Model::from_tag(tag) {
-        Known::Is(model) => sample_in(model, bits),
-        Known::Unknown => Sample::Refused(4),
+    if tag == Model::RGB.tag {
+        return rgb_in(bits);
     }
+    if tag == Model::CMYK.tag {
+        return cmyk_in(bits);
+    }
+    if tag == Model::LAB.tag {
+        return lab_in(bits);
+    }
+    if tag == Model::GRAY.tag {
+        return gray_in(bits);
+    }
+    Sample::Refused(4)
 }
 
 fn gray_of(sample: u16) -> Made
-    ensures { λ r. ⌜ toldChannels r ≡ andThen (toChannel gray sample) (λ x. gives (Gray x)) ⌝ }
+    ensures { λ r. ⌜ toldChannels r ≡ andThen (toChannel gray sample) (λ x. gives (gray-channel x)) ⌝ }
 {
     match to_channel(GRAY, sample) {
         Channel::Is(x) => Made::Is(Channels::Gray(x)),

@@ -5,4 +5,5 @@ pub mod Convert
 pub mod Acb
 pub mod Descriptor
 pub mod Resource
+pub mod Trays
 pub mod Walk

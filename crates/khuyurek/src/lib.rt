@@ -6,6 +6,7 @@ mod descriptors;
 mod palettes;
 mod resources;
 mod swatches;
+mod trays;
 mod walks;
 
 pub use books::AcbAnswer;
@@ -61,6 +62,9 @@ pub use swatches::khuyurek_aco_length;
 pub use swatches::khuyurek_aco_read;
 pub use swatches::khuyurek_aco_record_at;
 pub use swatches::khuyurek_aco_write;
+pub use trays::TrayAnswer;
+pub use trays::khuyurek_to_channels;
+pub use trays::khuyurek_to_samples;
 pub use walks::AcoStart;
 pub use walks::AcoStep;
 pub use walks::AseStart;

@@ -12,6 +12,7 @@ mod resource;
 mod size;
 mod stack;
 mod timing;
+mod tray;
 
 use report::Report;
 use std::process::ExitCode;
@@ -79,6 +80,7 @@ fn main() -> ExitCode {
     }
     if wanted(Part::Conversions) {
         conversion::compare(&mut report, rounds);
+        tray::compare(&mut report, rounds);
     }
     report.print_summary();
     ExitCode::SUCCESS

@@ -29,6 +29,24 @@ pub fn cut_off(channel: f32) -> Option<u16> {
     in_range(channel).then_some(sum as u16)
 }
 
+/// A run of samples, one division each.
+#[inline(never)]
+pub fn divide_all(full: u16, samples: &[u16], bits: &mut [u32]) {
+    let full = f32::from(full);
+    for (bits, &sample) in bits.iter_mut().zip(samples) {
+        *bits = (f32::from(sample) / full).to_bits();
+    }
+}
+
+/// A run of channels, not judged: one product each, cut off.
+#[inline(never)]
+pub fn cut_off_all(full: u16, bits: &[u32], samples: &mut [u16]) {
+    let full = f64::from(full);
+    for (sample, &bits) in samples.iter_mut().zip(bits) {
+        *sample = (f64::from(f32::from_bits(bits)) * full + 0.5) as u16;
+    }
+}
+
 #[inline(always)]
 fn in_range(channel: f32) -> bool {
     (0.0..=1.0).contains(&channel)

@@ -3,6 +3,7 @@
 use crate::difference::{agree, Checked};
 use crate::expected;
 use crate::tally::Conversions;
+use crate::trays;
 use generate::{any_pattern, neighbourhoods, tags, Random, EACH_CLASS, PAIRS, SPACES, TAGS};
 
 const FEW_SAMPLES: [u16; 8] = [0, 1, 10_000, 10_001, 0x7FFF, 0x8000, 0xFFFE, 0xFFFF];
@@ -14,6 +15,7 @@ const UNKNOWN_SPACES: [u16; 9] = [3, 6, 9, 0x0010, 0x0100, 0x0200, 0x0802, 0x800
 enum Part {
     Tags,
     Patterns,
+    Runs,
 }
 
 /// Goes through the spaces, samples and tags, and through `patterns` bit
@@ -27,6 +29,7 @@ pub fn run(seed: u64, patterns: u64) -> Checked<Conversions> {
     every_sample(&mut tally)?;
     there_and_back()?;
     every_tag(&mut random(Part::Tags), &mut tally)?;
+    tally.runs = trays::run(&mut random(Part::Runs))?;
     for range in neighbourhoods() {
         range
             .into_iter()

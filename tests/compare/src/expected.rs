@@ -76,6 +76,17 @@ pub fn channel(result: Result<f32, u32>) -> Channel {
     }
 }
 
+/// A run's refusal has the element's position in the place's stead.
+pub fn tray(result: Result<(), Refusal>) -> proved::tray::Answer {
+    match result {
+        Ok(()) => proved::tray::Answer::default(),
+        Err(refusal) => proved::tray::Answer {
+            number: refusal.number,
+            position: refusal.place,
+        },
+    }
+}
+
 pub fn sample(result: Result<u16, u32>) -> Sample {
     match result {
         Ok(sample) => Sample { number: 0, sample },

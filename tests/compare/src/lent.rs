@@ -20,6 +20,12 @@ impl Canary for u32 {
     }
 }
 
+impl Canary for u16 {
+    fn at(index: usize) -> u16 {
+        0xC0DE ^ (index as u16).wrapping_mul(0x9E35)
+    }
+}
+
 impl Canary for u8 {
     fn at(index: usize) -> u8 {
         0xA5 ^ (index as u8).wrapping_mul(0x1D)

@@ -14,6 +14,7 @@ mod reading;
 mod real;
 mod resource;
 mod tally;
+mod trays;
 mod walk;
 mod writing;
 

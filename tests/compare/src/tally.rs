@@ -36,6 +36,14 @@ const BACK: [u32; 4] = [
     number::NO_COUNTERPART,
 ];
 
+const RUNS: [u32; 5] = [
+    0,
+    number::UNKNOWN_MODEL,
+    number::OUT_OF_RANGE,
+    number::NO_ROOM,
+    number::NO_COUNTERPART,
+];
+
 /// Counts by refusal number; 0 counts what was accepted.
 #[derive(Default)]
 pub struct Counts([u64; NUMBERS]);
@@ -137,6 +145,8 @@ pub struct Conversions {
     pub patterns: u64,
     there: Counts,
     back: Counts,
+    /// Whole runs, both ways.
+    pub runs: Counts,
 }
 
 impl Conversions {
@@ -152,11 +162,12 @@ impl Conversions {
     pub fn all_reached(&self) -> Result<(), String> {
         let there = self.there.missing(&THERE);
         let back = self.back.missing(&BACK);
-        if there.is_empty() && back.is_empty() {
+        let runs = self.runs.missing(&RUNS);
+        if there.is_empty() && back.is_empty() && runs.is_empty() {
             return Ok(());
         }
         Err(format!(
-            "answers not reached: there {there:?}, back {back:?}; {self}"
+            "answers not reached: there {there:?}, back {back:?}, runs {runs:?}; {self}"
         ))
     }
 }
@@ -166,8 +177,8 @@ impl Display for Conversions {
         write!(
             f,
             "samples to channels by number {}; channels to samples by number {}; \
-             {} patterns for each known model",
-            self.there, self.back, self.patterns
+             {} patterns for each known model; runs by number {}",
+            self.there, self.back, self.patterns, self.runs
         )
     }
 }

@@ -23,6 +23,7 @@ mod reader;
 mod refusal;
 pub mod resource;
 mod step;
+mod tray;
 mod walk;
 mod writer;
 
@@ -33,6 +34,7 @@ pub use name::UNIT_LEN;
 pub use reader::{judge, read, record, Accepted, Swatch};
 pub use refusal::{number, Refusal};
 pub use step::Step;
+pub use tray::{to_channels, to_samples};
 pub use walk::{walk, walk_start};
 pub use writer::{length, write};
 

@@ -1,7 +1,7 @@
 //! The rules of samples and channels, each with its answer written out.
 
 use generate::{CMYK_TAG, GRAY_TAG, LAB_TAG, ONE, PAIRS, RGB_TAG, TAGS};
-use reference::{to_channel, to_sample};
+use reference::{to_channel, to_channels, to_sample, to_samples};
 
 const FULL: u32 = 65_535;
 const GRAY_FULL: u32 = 10_000;
@@ -174,4 +174,45 @@ fn all_over_the_range_the_sample_is_the_nearest() {
     (0..=ONE).step_by(STEP).for_each(check_nearest);
     (0..1_000).for_each(check_nearest);
     (ONE - 1_000..=ONE).for_each(check_nearest);
+}
+
+#[test]
+fn runs_are_their_elements_in_order() {
+    let samples = [0, 1, 32_768, 65_535];
+    let mut bits = [7; 5];
+    assert_eq!(to_channels(2, &samples, &mut bits), Ok(()));
+    for (&sample, &bits) in samples.iter().zip(&bits) {
+        assert_eq!(to_channel(2, sample).map(f32::to_bits), Ok(bits));
+    }
+    assert_eq!(bits[4], 7);
+    let mut back = [9; 4];
+    assert_eq!(to_samples(CMYK_TAG, &bits[..4], &mut back), Ok(()));
+    assert_eq!(back, samples);
+}
+
+#[test]
+fn runs_give_their_first_refusal_and_store_nothing() {
+    let refused = |result: Result<(), reference::Refusal>| {
+        result.map_err(|refusal| (refusal.number, refusal.place))
+    };
+    let mut bits = [7; 3];
+    let high = [0, 10_001, 65_535];
+    assert_eq!(refused(to_channels(8, &high, &mut bits)), Err((5, 1)));
+    assert_eq!(refused(to_channels(8, &high, &mut [])), Err((5, 1)));
+    assert_eq!(refused(to_channels(8, &high[..1], &mut [])), Err((11, 0)));
+    assert_eq!(refused(to_channels(7, &high, &mut bits)), Err((14, 0)));
+    assert_eq!(refused(to_channels(9, &[], &mut [])), Ok(()));
+    assert_eq!(bits, [7; 3]);
+    let mut samples = [7; 2];
+    let channels = [HALF, NANS[0]];
+    assert_eq!(
+        refused(to_samples(RGB_TAG, &channels, &mut samples)),
+        Err((5, 1))
+    );
+    assert_eq!(
+        refused(to_samples(LAB_TAG, &channels, &mut samples)),
+        Err((14, 0))
+    );
+    assert_eq!(refused(to_samples(0, &channels, &mut [])), Err((4, 0)));
+    assert_eq!(samples, [7; 2]);
 }
