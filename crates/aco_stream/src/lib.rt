@@ -29,11 +29,11 @@ pub const STORE: usize = 40960;
 
 // What is kept between two chunks.
 pub struct Stream {
-    stage: Stage,
-    total: usize,
-    got: usize,
-    carry: [u8; 14],
-    ended: bool,
+    pub stage: Stage,
+    pub total: usize,
+    pub got: usize,
+    pub carry: [u8; 14],
+    pub ended: bool,
 }
 
 // What an item is found to be: a number and the next place, or a refusal.

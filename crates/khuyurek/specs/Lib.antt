@@ -3,3 +3,5 @@ pub mod Acb
 pub mod Descriptor
 pub mod Resource
 pub mod Walk
+pub mod Stream
+pub mod StreamParts

@@ -3,6 +3,7 @@
 mod books;
 mod descriptors;
 mod resources;
+mod stream;
 mod walks;
 
 pub use books::AcbAnswer;
@@ -40,6 +41,12 @@ pub use resources::khuyurek_resource_length;
 pub use resources::khuyurek_resource_read;
 pub use resources::khuyurek_resource_record_at;
 pub use resources::khuyurek_resource_write;
+pub use stream::AcoFed;
+pub use stream::AcoFinished;
+pub use stream::AcoStream;
+pub use stream::khuyurek_aco_stream_feed;
+pub use stream::khuyurek_aco_stream_finish;
+pub use stream::khuyurek_aco_stream_start;
 pub use walks::AcoStart;
 pub use walks::AcoStep;
 pub use walks::AseStart;
