@@ -10,7 +10,7 @@ use Rattle.aco_chunks.specs.declared.Stage.{Stage}
 use Rattle.aco_chunks.specs.declared.Stage.the-variants as v
 use Rattle.aco_chunks.specs.Chunks.{answer}
 use Rattle.aco_stream.specs.declared.Stream.{Stream}
-use Rattle.aco_stream.specs.Answer.{progress, usable, roomy, room}
+use Rattle.aco_stream.specs.Answer.{progress, usable, roomy, room, known}
 use Rattle.khuyurek.specs.declared.stream.AcoStream.{AcoStream}
 use Rattle.khuyurek.specs.declared.stream.AcoFinished.{AcoFinished}
 use Rattle.khuyurek.specs.Exported.{answerOf}
@@ -58,7 +58,7 @@ endedNumbers x =
 
 -- the end: 5 for a stream that is not usable, then 11, which change nothing; else the file's verdict, and the stream has ended
 abbrev pub finishedBy : Bool → Bool → AcoStream → List ℕ → AcoFinished
-finishedBy true true x store = record { answer = answerOf (answer (progress (streamOf x) (take room store))); stream = endedNumbers x }
+finishedBy true true x store = record { answer = answerOf (known (answer (progress (streamOf x) (take room store)))); stream = endedNumbers x }
 finishedBy true false x store = record { answer = answerOf (refused 11 0 0 0); stream = x }
 finishedBy false large x store = record { answer = answerOf (refused 5 0 0 0); stream = x }
 
