@@ -10,15 +10,19 @@ use borrow.Author.Tests.{lt-ltb, le-ltb}
 use native.Mathlib.Omega.{arith}
 use native.Mathlib.Numerals.{add-one}
 use native.Mathlib.Nat.{add-zero}
-use Rattle.algebra.specs.Reader.{Res, pick, ok, refuse, limit}
+use Rattle.algebra.specs.Numbers.{num, nums}
+use Rattle.algebra.specs.Text.{anyZero}
+use Rattle.algebra.specs.Reader.{Res, pick, ok, refuse, field, orZero, limit}
+use Rattle.algebra.proofs.Laws.{field-in}
 use Rattle.algebra.specs.Store.{part, stored}
 use Rattle.algebra.proofs.Stores.{length-stored, stored-append}
-use Rattle.algebra.proofs.Places.{length-part}
+use Rattle.algebra.proofs.Places.{length-part, num-part}
 use Rattle.aco_chunks.specs.declared.Stage.{Stage}
 use Rattle.aco_chunks.specs.declared.Stage.the-variants as v
-use Rattle.aco_chunks.specs.Chunks.{Progress, colourItem, colours, after, kept}
-use Rattle.aco_stream.specs.Parts.{Due, Sounds, isOk, coloursPassed}
-use Rattle.aco_stream.proofs.Feeds.{Rest, turn-item}
+use Rattle.aco_chunks.specs.Chunks.{Progress, colourItem, colours, entries, entryHead, loaded, after, kept}
+use Rattle.aco_stream.specs.Parts.{Due, Sounds, isOk, coloursPassed, Closed, NamedAt, Recorded, recordPassed}
+use Rattle.aco_stream.proofs.Feeds.{Rest, turn-item, units-turn}
+use Rattle.aco_stream.proofs.Steps.{last-closes}
 
 -- ---- colours without a fault
 
@@ -101,3 +105,71 @@ passed-some n i k h = sym (ap (λ (b : Bool). pick b (v.Colour n (i + k)) (v.Sec
 
 pub passed-all : (n i k : ℕ) → n ≤ i + k → v.Second n ≡ colours n (i + k)
 passed-all n i k h = sym (ap (λ (b : Bool). pick b (v.Colour n (i + k)) (v.Second n)) (le-ltb (i + k) n h))
+
+-- ---- a record of list 2
+
+pub pos : {m : ℕ} → (m ≡ 0 → ⊥) → 0 < m
+pos h = omega arith
+
+pub closes : (m : ℕ) (bytes : List ℕ) (at q : ℕ) → 0 < m → q ≡ at + m * 2 → at + m * 2 ≤ length bytes → anyZero (nums 2 (m - 1) bytes at) ≡ false → orZero (field 2 bytes (at + (m - 1) * 2)) ≡ 0 → 0 < q → Closed m bytes at q
+closes m bytes at q o e w n l h =
+    let f : field 2 bytes (at + (m - 1) * 2) ≡ ok (num 2 bytes (at + (m - 1) * 2)) (at + (m - 1) * 2 + 2) = field-in 2 bytes (at + (m - 1) * 2) (omega (arith, o, w)) in
+    record { some = o; ends = e; inside = omega (arith, e, w); none = n; last = sym (ap orZero f) ∙ l }
+
+module _ (start : ℕ) (store bytes : List ℕ) (fits : start + length bytes ≤ limit) (n i : ℕ) where
+  -- its name's last unit
+  last-turn : (p at : ℕ) (z : Bool) → z ≡ false → at + 2 ≤ length bytes → num 2 bytes at ≡ 0 → Rest (v.Unit n i p 1 z) (start + at) [] store at bytes ≡ Rest (entries n (i + 1)) (start + (at + 2)) [] store (at + 2) bytes
+  last-turn p at z y h o =
+      let f : field 2 (part bytes at 2) 0 ≡ ok (num 2 (part bytes at 2) 0) 2 = field-in 2 (part bytes at 2) 0 (let len = length-part bytes at 2 h in omega arith) in
+      let u : num 2 (part bytes at 2) 0 ≡ 0 = num-part bytes at 2 2 0 (omega arith) ∙ ap (num 2 bytes) (add-zero at) ∙ o in
+      turn-item (Rest (v.Unit n i p 1 z) (start + at) [] store at bytes) (v.Unit n i p 1 z) start [] store at bytes refl fits (omega arith) refl refl (at + 2) refl h (omega arith) (part bytes at 2) refl
+      ∙ ap (λ (r : Res ℕ). Rest (after (v.Unit n i p 1 z) (start + at) r) (start + (at + 2)) [] store (at + 2) bytes) f
+      ∙ ap (λ (g : Stage). Rest g (start + (at + 2)) [] store (at + 2) bytes) (sym (last-closes n i p 1 z (num 2 (part bytes at 2) 0) refl u y))
+
+  -- its name
+  name-turn : (p m at q : ℕ) → Closed m bytes at q → Rest (v.Unit n i p m false) (start + at) [] store at bytes ≡ Rest (entries n (i + 1)) (start + q) [] store q bytes
+  name-turn p m at q k =
+      let o = k .some in
+      let e = k .ends in
+      let w = k .inside in
+      let z = anyZero (nums 2 (m - 1) bytes at) in
+      let j : m - (m - 1) ≡ 1 = omega (arith, o) in
+      let t : at + (m - 1) * 2 + 2 ≡ q = omega (arith, o, e) in
+      units-turn start store bytes fits n i p (m - 1) m false at (omega arith) (omega (arith, o, e, w))
+      ∙ ap (λ (x : ℕ). Rest (v.Unit n i p x (pick (anyZero (nums 2 (m - 1) bytes at)) true false)) (start + (at + (m - 1) * 2)) [] store (at + (m - 1) * 2) bytes) j
+      ∙ last-turn p (at + (m - 1) * 2) (pick (anyZero (nums 2 (m - 1) bytes at)) true false) (ap (λ (b : Bool). pick b true false) (k .none)) (omega (arith, o, e, w)) (k .last)
+      ∙ ap (λ (x : ℕ). Rest (entries n (i + 1)) (start + x) [] store x bytes) t
+
+  record-turn : (at q : ℕ) → Recorded (v.Entry n i) store bytes at q → Rest (v.Entry n i) (start + at) [] store at bytes ≡ Rest (entries n (i + 1)) (start + q) [] store q bytes
+  record-turn at q r =
+      turn-item (Rest (v.Entry n i) (start + at) [] store at bytes) (v.Entry n i) start [] store at bytes refl fits (omega (arith, r .0)) refl refl (at + 14) refl (r .0) (omega arith) (part bytes at 14) refl
+      ∙ go (entryHead i (loaded store (10 * i)) (part bytes at 14) 0) (r .1)
+    where
+      go : (m : Res ℕ) → NamedAt m bytes (at + 14) q → Rest (after (v.Entry n i) (start + at) m) (start + (at + 14)) [] store (at + 14) bytes ≡ Rest (entries n (i + 1)) (start + q) [] store q bytes
+      go (ok m e) k = name-turn (start + at + 10) m (at + 14) q k
+      go (refuse x p s f) k = absurd k
+
+-- the same of any stage
+pub turn-record : (all : Progress) (g : Stage) (start : ℕ) (carry store : List ℕ) (at : ℕ) (bytes : List ℕ) → all ≡ Rest g (start + at) carry store at bytes → carry ≡ [] → start + length bytes ≤ limit
+    → (q : ℕ) → Recorded g store bytes at q → all ≡ Rest (recordPassed g) (start + q) [] store q bytes
+turn-record all (v.Entry n i) start carry store at bytes inv c fits q r = inv ∙ ap (λ (c : List ℕ). Rest (v.Entry n i) (start + at) c store at bytes) c ∙ record-turn start store bytes fits n i at q r
+turn-record all v.First start carry store at bytes inv c fits q r = absurd r
+turn-record all (v.Colour n i) start carry store at bytes inv c fits q r = absurd r
+turn-record all (v.Second n) start carry store at bytes inv c fits q r = absurd r
+turn-record all (v.Unit n i y z o) start carry store at bytes inv c fits q r = absurd r
+turn-record all (v.End n) start carry store at bytes inv c fits q r = absurd r
+turn-record all (v.Fault x y e f) start carry store at bytes inv c fits q r = absurd r
+
+-- it ends behind where it began, in the bytes
+pub record-inside : (g : Stage) (store bytes : List ℕ) (at q : ℕ) → Recorded g store bytes at q → (at < q) × (q ≤ length bytes)
+record-inside (v.Entry n i) store bytes at q r = go (entryHead i (loaded store (10 * i)) (part bytes at 14) 0) (r .1)
+  where
+    go : (m : Res ℕ) → NamedAt m bytes (at + 14) q → (at < q) × (q ≤ length bytes)
+    go (ok m e) k = (omega (arith, k .ends), k .inside)
+    go (refuse x p s f) k = absurd k
+record-inside v.First store bytes at q r = absurd r
+record-inside (v.Colour n i) store bytes at q r = absurd r
+record-inside (v.Second n) store bytes at q r = absurd r
+record-inside (v.Unit n i y z o) store bytes at q r = absurd r
+record-inside (v.End n) store bytes at q r = absurd r
+record-inside (v.Fault x y e f) store bytes at q r = absurd r

@@ -6,11 +6,13 @@ use mathlib.Core.Bool.{Bool, true, false}
 use lib.ListN.{length}
 use Rattle.algebra.specs.Reader.{Res, ok, refuse, pick}
 use Rattle.algebra.specs.Store.{part}
+use Rattle.algebra.specs.Numbers.{num, nums}
+use Rattle.algebra.specs.Text.{anyZero}
 use Rattle.algebra.specs.Table.{refused}
 use Rattle.aco_chunks.specs.declared.Stage.{Stage}
 use Rattle.aco_chunks.specs.declared.Stage.the-variants as v
 use Rattle.aco_stream.specs.declared.Stream.{Stream}
-use Rattle.aco_chunks.specs.Chunks.{FileVerdict, colourItem, colours, chunk, answer}
+use Rattle.aco_chunks.specs.Chunks.{FileVerdict, colourItem, colours, entries, entryHead, loaded, chunk, answer}
 use Rattle.aco_stream.specs.Answer.{progress, usable, roomy, ended, known}
 
 -- ---- several units at once: all but a name's last
@@ -64,6 +66,40 @@ coloursPassed (v.Entry n i) k = v.Entry n i
 coloursPassed (v.Unit n i at m y) k = v.Unit n i at m y
 coloursPassed (v.End n) k = v.End n
 coloursPassed (v.Fault x p r f) k = v.Fault x p r f
+
+-- ---- a record of list 2 at once
+
+-- m units from `at` end at q, the last is zero and no other
+pub record Closed (m : ℕ) (bytes : List ℕ) (at q : ℕ) : Type 0 where
+  pub some : 0 < m
+  pub ends : q ≡ at + m * 2
+  pub inside : q ≤ length bytes
+  pub none : anyZero (nums 2 (m - 1) bytes at) ≡ false
+  pub last : num 2 bytes (at + (m - 1) * 2) ≡ 0
+
+abbrev pub NamedAt : Res ℕ → List ℕ → ℕ → ℕ → Type 0
+NamedAt (ok m e) bytes at q = Closed m bytes at q
+NamedAt (refuse x p r f) bytes at q = ⊥
+
+-- a record from `at` is without a fault and ends at q
+abbrev pub Recorded : Stage → List ℕ → List ℕ → ℕ → ℕ → Type 0
+Recorded v.First store bytes at q = ⊥
+Recorded (v.Colour n i) store bytes at q = ⊥
+Recorded (v.Second n) store bytes at q = ⊥
+Recorded (v.Entry n i) store bytes at q = (at + 14 ≤ length bytes) × NamedAt (entryHead i (loaded store (10 * i)) (part bytes at 14) 0) bytes (at + 14) q
+Recorded (v.Unit n i p m z) store bytes at q = ⊥
+Recorded (v.End n) store bytes at q = ⊥
+Recorded (v.Fault x p r f) store bytes at q = ⊥
+
+-- it is passed
+abbrev pub recordPassed : Stage → Stage
+recordPassed v.First = v.First
+recordPassed (v.Colour n i) = v.Colour n i
+recordPassed (v.Second n) = v.Second n
+recordPassed (v.Entry n i) = entries n (i + 1)
+recordPassed (v.Unit n i p m z) = v.Unit n i p m z
+recordPassed (v.End n) = v.End n
+recordPassed (v.Fault x p r f) = v.Fault x p r f
 
 -- ---- a stream that has not ended
 

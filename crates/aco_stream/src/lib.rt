@@ -10,7 +10,7 @@ ghost use lib.ListN.{length};
 ghost use Rattle.algebra.specs.Reader.{limit, ok};
 ghost use Rattle.aco_chunks.specs.Chunks.{size, item, next, after, kept, entryHead, loaded, colours, entries, unitDone, isFault, chunk, cut, ending};
 ghost use Rattle.aco_stream.specs.Answer.{progress, told, known, Starts, Feeds, Finishes};
-ghost use Rattle.aco_stream.specs.Parts.{Sparing, unitsPassed, Due, Sounds, coloursPassed, openStream, FeedsIn, FinishesIn};
+ghost use Rattle.aco_stream.specs.Parts.{Sparing, unitsPassed, Due, Sounds, coloursPassed, Closed, Recorded, recordPassed, openStream, FeedsIn, FinishesIn};
 ghost use Rattle.algebra.specs.Numbers.{nums};
 ghost use Rattle.algebra.specs.Text.{anyZero};
 ghost use mathlib.Core.Bool.{false};
@@ -369,6 +369,75 @@ fn colours_passed(stage: Stage, k: usize) -> Stage
     }
 }
 
+// Where m units from `at` end, if they are all there, the last is zero and no other; else 0.
+fn name_end(bytes: &[u8], at: usize, m: u32) -> usize
+    requires { ⌜ (at ≤ length (now bytes)) × (length (now bytes) ≤ limit) ⌝ }
+    ensures { λ r. ⌜ (0 < r → Closed m (now (bytes .entry)) at r) ⌝ }
+{
+    let rest = bytes.len() - at;
+    if m == 0 {
+        return 0;
+    }
+    if rest / 2 < (m as usize) {
+        return 0;
+    }
+    let k = m - 1;
+    let last = at + 2 * (k as usize);
+    if fields::u16_or_zero(bytes, last) != 0 {
+        return 0;
+    }
+    match names::text_at(bytes, at, k) {
+        Step::Next(_) => last + 2,
+        Step::Refused(_, _) => 0,
+    }
+}
+
+// Where the record of list 2 from `at` ends, if all of it is there and without a fault; else 0.
+fn record_end(stage: Stage, store: &[u8], bytes: &[u8], at: usize) -> usize
+    requires { ⌜ (at ≤ length (now bytes)) × (length (now bytes) ≤ limit) ⌝ }
+    ensures { λ r. ⌜ (0 < r → Recorded stage (now (store .entry)) (now (bytes .entry)) at r) ⌝ }
+{
+    match stage {
+        Stage::Entry(_, index) => {
+            if bytes.len() - at < 14 {
+                return 0;
+            }
+            let body = at + 14;
+            match entry_of(&bytes[at..body], store, index) {
+                Item::Is(m, _) => name_end(bytes, body, m),
+                Item::Refused(_, _, _, _) => 0,
+            }
+        }
+        Stage::First => 0,
+        Stage::Colour(_, _) => 0,
+        Stage::Second(_) => 0,
+        Stage::Unit(_, _, _, _, _) => 0,
+        Stage::End(_) => 0,
+        Stage::Fault(_, _, _, _) => 0,
+    }
+}
+
+// A record is passed.
+fn record_passed(stage: Stage) -> Stage
+    ensures { λ r. ⌜ r ≡ recordPassed stage ⌝ }
+{
+    match stage {
+        Stage::Entry(count, index) => entries_of(count, index),
+        Stage::First => Stage::First,
+        Stage::Colour(count, index) => Stage::Colour(count, index),
+        Stage::Second(count) => Stage::Second(count),
+        Stage::Unit(count, index, place, left, zero) => Stage::Unit(
+            count,
+            index,
+            place,
+            left,
+            zero,
+        ),
+        Stage::End(count) => Stage::End(count),
+        Stage::Fault(number, place, record, field) => Stage::Fault(number, place, record, field),
+    }
+}
+
 fn is_fault(stage: Stage) -> bool
     ensures { λ r. ⌜ r ≡ isFault stage ⌝ }
 {
@@ -437,9 +506,15 @@ fn run(state: Stream, store: &mut [u8], bytes: &[u8]) -> Stream
                         stage = colours_passed(stage, m);
                         at = e;
                     } else {
-                        let e = at + want;
-                        stage = settle(stage, store, &bytes[at..e], start + at);
-                        at = e;
+                        let q = record_end(stage, store, bytes, at);
+                        if 0 < q {
+                            stage = record_passed(stage);
+                            at = q;
+                        } else {
+                            let e = at + want;
+                            stage = settle(stage, store, &bytes[at..e], start + at);
+                            at = e;
+                        }
                     }
                 }
             } else {

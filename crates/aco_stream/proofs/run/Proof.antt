@@ -9,7 +9,7 @@ use native.Mathlib.Nat.{add-zero}
 use Rattle.algebra.specs.Reader.{ok, limit}
 use Rattle.aco_chunks.specs.declared.Stage.{Stage}
 use Rattle.aco_chunks.specs.Chunks.{size, chunk, after, kept, item}
-use Rattle.aco_stream.specs.Parts.{unitsPassed, coloursPassed}
+use Rattle.aco_stream.specs.Parts.{unitsPassed, coloursPassed, recordPassed}
 use borrow.Author.Tests.{leb-true}
 use Rattle.algebra.specs.Numbers.{nums}
 use Rattle.algebra.specs.Text.{anyZero}
@@ -18,7 +18,7 @@ use Rattle.aco_stream.specs.declared.Stream.{Stream}
 use Rattle.aco_stream.specs.Answer.{progress}
 use Rattle.aco_stream.proofs.run.Statement.{statement}
 use Rattle.aco_stream.proofs.run.Tie as tie
-use Rattle.aco_stream.proofs.Passing.{turn-colours, due-inside}
+use Rattle.aco_stream.proofs.Passing.{turn-colours, due-inside, turn-record, record-inside}
 
 abbrev Inv-loop : tie.InvT-loop
 Inv-loop store₀ bytes start end stage₀ got₀ carry₀ at₀ store stage got carry at =
@@ -127,12 +127,18 @@ colours-passed-requires c κs =
     let s = c .before .before .before .before .before .before .sound-in in
     omega (arith, d, i .1, i .2, s .ensures .0)
 
+record-end-requires : tie.Need-record-end-requires Inv-loop μ-loop
+record-end-requires c κs = let i = c .before .before .before .before .before .before .before .before .before .before .before .before .loop .inv in (omega (arith, i .0, i .1), omega (arith, i .2))
+
+record-passed-requires : tie.Need-record-passed-requires Inv-loop μ-loop
+record-passed-requires c κs = search needs
+
 add-e-2 : tie.Need-add-e-2 Inv-loop μ-loop
 add-e-2 c =
-    let l = c .before .before .before .before .before .before .before .before .before .before .before .loop in
-    let a = c .before .before .before .before .before .before .before .before .before .before .before .before .before .before .before .args in
+    let l = c .before .before .before .before .before .before .before .before .before .before .before .before .before .before .loop in
+    let a = c .before .before .before .before .before .before .before .before .before .before .before .before .before .before .before .before .before .before .args in
     let i = l .inv in
-    omega (arith, leb-true (c .before .before .before .before .before .before .before .size-of .result) (length (a .bytes .now) - l .at) (c .before .before .before .before .before .if3 .taken))
+    omega (arith, leb-true (c .before .before .before .before .before .before .before .before .before .before .size-of .result) (length (a .bytes .now) - l .at) (c .before .before .before .before .before .before .before .before .if3 .taken))
 
 sub-settle : tie.Need-sub-settle Inv-loop μ-loop
 sub-settle c = search needs
@@ -142,20 +148,20 @@ part-settle-start c = search needs
 
 part-settle-end : tie.Need-part-settle-end Inv-loop μ-loop
 part-settle-end c =
-    let l = c .before .before .before .before .before .before .before .before .before .before .before .before .loop in
-    let a = c .before .before .before .before .before .before .before .before .before .before .before .before .before .before .before .before .args in
+    let l = c .before .before .before .before .before .before .before .before .before .before .before .before .before .before .before .loop in
+    let a = c .before .before .before .before .before .before .before .before .before .before .before .before .before .before .before .before .before .before .before .args in
     let i = l .inv in
-    omega (arith, leb-true (c .before .before .before .before .before .before .before .before .size-of .result) (length (a .bytes .now) - l .at) (c .before .before .before .before .before .before .if3 .taken), c .before .before .before .before .before .before .before .before .before .before .before .loop-test .taken)
+    omega (arith, leb-true (c .before .before .before .before .before .before .before .before .before .before .before .size-of .result) (length (a .bytes .now) - l .at) (c .before .before .before .before .before .before .before .before .before .if3 .taken), c .before .before .before .before .before .before .before .before .before .before .before .before .before .before .loop-test .taken)
 
 add-settle : tie.Need-add-settle Inv-loop μ-loop
 add-settle c = search needs
 
 settle-requires : tie.Need-settle-requires Inv-loop μ-loop
 settle-requires c κs =
-    let l = c .before .before .before .before .before .before .before .before .before .before .before .before .before .loop in
-    let a = c .before .before .before .before .before .before .before .before .before .before .before .before .before .before .before .before .before .args in
+    let l = c .before .before .before .before .before .before .before .before .before .before .before .before .before .before .before .before .loop in
+    let a = c .before .before .before .before .before .before .before .before .before .before .before .before .before .before .before .before .before .before .before .before .args in
     let i = l .inv in
-    (omega (arith, i .2, i .0, i .1), omega (arith, length-take-most (l .at + c .before .before .before .before .before .before .before .before .before .size-of .result - l .at) (drop (l .at) (a .bytes .now)), c .before .before .before .before .before .before .before .before .before .size-of .ensures, size-most (l .stage)))
+    (omega (arith, i .2, i .0, i .1), omega (arith, length-take-most (l .at + c .before .before .before .before .before .before .before .before .before .before .before .before .size-of .result - l .at) (drop (l .at) (a .bytes .now)), c .before .before .before .before .before .before .before .before .before .before .before .before .size-of .ensures, size-most (l .stage)))
 
 loop-less-2 : tie.Need-loop-less-2 Inv-loop μ-loop
 loop-less-2 c = search needs
@@ -209,27 +215,55 @@ loop-again-3 c =
     )
 
 loop-less-4 : tie.Need-loop-less-4 Inv-loop μ-loop
-loop-less-4 c = search needs
+loop-less-4 c =
+    let l = c .before .before .before .before .before .before .before .before .before .before .before .before .before .before .before .loop in
+    let a = c .before .before .before .before .before .before .before .before .before .before .before .before .before .before .before .before .before .before .before .args in
+    let i = l .inv in
+    let e = c .before .before .record-end in
+    let r = e .ensures (c .before .if6 .taken) in
+    let w = record-inside (l .stage) (l .store) (a .bytes .now) (l .at) (e .result) r in
+    omega (arith, w .0, w .1, i .0, i .1)
 
 loop-again-4 : tie.Need-loop-again-4 Inv-loop μ-loop
 loop-again-4 c =
-    let l = c .before .before .before .before .before .before .before .before .before .before .before .before .before .before .before .before .loop in
-    let a = c .before .before .before .before .before .before .before .before .before .before .before .before .before .before .before .before .before .before .before .before .args in
+    let l = c .before .before .before .before .before .before .before .before .before .before .before .before .before .before .before .loop in
+    let a = c .before .before .before .before .before .before .before .before .before .before .before .before .before .before .before .before .before .before .before .args in
     let i = l .inv in
-    let z = c .before .before .before .before .before .before .before .before .before .before .before .if2 .taken in
-    let w = c .before .before .before .before .before .before .before .before .before .before .before .before .size-of .ensures in
-    let f = leb-true (c .before .before .before .before .before .before .before .before .before .before .before .before .size-of .result) (length (a .bytes .now) - l .at) (c .before .before .before .before .before .before .before .before .before .before .if3 .taken) in
+    let e = c .before .before .record-end in
+    let r = e .ensures (c .before .if6 .taken) in
+    let w = record-inside (l .stage) (l .store) (a .bytes .now) (l .at) (e .result) r in
+    let z = ap (λ (k : ℕ). take k (l .carry)) (c .before .before .before .before .before .before .before .before .before .before .if2 .taken) in (
+      omega (arith, w .1, i .1),
+      i .1,
+      i .2,
+      omega (arith, size-some (c .record-passed .result), c .before .before .before .before .before .before .before .before .before .before .if2 .taken),
+      i .4,
+      i .5,
+      settled (chunk (G (a .state .stage) (a .state .total) (take (a .state .got) (a .state .carry)) (a .store .now)) (a .bytes .now)) (c .record-passed .result) (recordPassed (l .stage)) (a .state .total + e .result) (take (l .got) (l .carry)) (l .store) (l .store) (e .result) (a .bytes .now) (turn-record (chunk (G (a .state .stage) (a .state .total) (take (a .state .got) (a .state .carry)) (a .store .now)) (a .bytes .now)) (l .stage) (a .state .total) (take (l .got) (l .carry)) (l .store) (l .at) (a .bytes .now) (i .6) z (i .2) (e .result) r) (c .record-passed .ensures) z refl,
+    )
+
+loop-less-5 : tie.Need-loop-less-5 Inv-loop μ-loop
+loop-less-5 c = search needs
+
+loop-again-5 : tie.Need-loop-again-5 Inv-loop μ-loop
+loop-again-5 c =
+    let l = c .before .before .before .before .before .before .before .before .before .before .before .before .before .before .before .before .before .before .before .loop in
+    let a = c .before .before .before .before .before .before .before .before .before .before .before .before .before .before .before .before .before .before .before .before .before .before .before .args in
+    let i = l .inv in
+    let z = c .before .before .before .before .before .before .before .before .before .before .before .before .before .before .if2 .taken in
+    let w = c .before .before .before .before .before .before .before .before .before .before .before .before .before .before .before .size-of .ensures in
+    let f = leb-true (c .before .before .before .before .before .before .before .before .before .before .before .before .before .before .before .size-of .result) (length (a .bytes .now) - l .at) (c .before .before .before .before .before .before .before .before .before .before .before .before .before .if3 .taken) in
     let y = c .before .before .settle in
-    let e : l .at + c .before .before .before .before .before .before .before .before .before .before .before .before .size-of .result ≡ l .at + size (l .stage) = omega arith in
-    let n : l .at + c .before .before .before .before .before .before .before .before .before .before .before .before .size-of .result - l .at ≡ size (l .stage) = omega arith in (
+    let e : l .at + c .before .before .before .before .before .before .before .before .before .before .before .before .before .before .before .size-of .result ≡ l .at + size (l .stage) = omega arith in
+    let n : l .at + c .before .before .before .before .before .before .before .before .before .before .before .before .before .before .before .size-of .result - l .at ≡ size (l .stage) = omega arith in (
       omega (arith, i .1, i .0),
       i .1,
       i .2,
       omega (arith, size-some (y .result)),
-      ap length (y .ensures .1) ∙ length-kept (l .stage) (item (l .store) (l .stage) (take (l .at + c .before .before .before .before .before .before .before .before .before .before .before .before .size-of .result - l .at) (drop (l .at) (a .bytes .now))) 0) (take (l .at + c .before .before .before .before .before .before .before .before .before .before .before .before .size-of .result - l .at) (drop (l .at) (a .bytes .now))) (l .store) ∙ i .4,
+      ap length (y .ensures .1) ∙ length-kept (l .stage) (item (l .store) (l .stage) (take (l .at + c .before .before .before .before .before .before .before .before .before .before .before .before .before .before .before .size-of .result - l .at) (drop (l .at) (a .bytes .now))) 0) (take (l .at + c .before .before .before .before .before .before .before .before .before .before .before .before .before .before .before .size-of .result - l .at) (drop (l .at) (a .bytes .now))) (l .store) ∙ i .4,
       i .5,
-      settled (chunk (G (a .state .stage) (a .state .total) (take (a .state .got) (a .state .carry)) (a .store .now)) (a .bytes .now)) (y .result) (after (l .stage) (a .state .total + l .at) (item (l .store) (l .stage) (take (l .at + c .before .before .before .before .before .before .before .before .before .before .before .before .size-of .result - l .at) (drop (l .at) (a .bytes .now))) 0)) (a .state .total + (l .at + c .before .before .before .before .before .before .before .before .before .before .before .before .size-of .result)) (take (l .got) (l .carry)) (kept (l .stage) (item (l .store) (l .stage) (take (l .at + c .before .before .before .before .before .before .before .before .before .before .before .before .size-of .result - l .at) (drop (l .at) (a .bytes .now))) 0) (take (l .at + c .before .before .before .before .before .before .before .before .before .before .before .before .size-of .result - l .at) (drop (l .at) (a .bytes .now))) (l .store)) (y .last .1 .0) (l .at + c .before .before .before .before .before .before .before .before .before .before .before .before .size-of .result) (a .bytes .now)
-          (turn-item (chunk (G (a .state .stage) (a .state .total) (take (a .state .got) (a .state .carry)) (a .store .now)) (a .bytes .now)) (l .stage) (a .state .total) (take (l .got) (l .carry)) (l .store) (l .at) (a .bytes .now) (i .6) (i .2) (omega (arith, c .before .before .before .before .before .before .before .before .before .before .before .before .before .before .before .loop-test .taken, i .1)) (sym (c .before .before .before .before .before .before .before .before .before .before .before .before .before .before .is-fault .ensures) ∙ c .before .before .before .before .before .before .before .before .before .before .before .before .before .if1 .left) (ap (λ (k : ℕ). take k (l .carry)) z) (l .at + c .before .before .before .before .before .before .before .before .before .before .before .before .size-of .result) e (omega (arith, i .1, i .0, c .before .before .before .before .before .before .before .before .before .before .before .before .before .before .before .loop-test .taken)) (size-some (l .stage)) (take (l .at + c .before .before .before .before .before .before .before .before .before .before .before .before .size-of .result - l .at) (drop (l .at) (a .bytes .now))) (ap (λ (k : ℕ). take k (drop (l .at) (a .bytes .now))) n)) (y .ensures .0) (ap (λ (k : ℕ). take k (l .carry)) z) (y .ensures .1),
+      settled (chunk (G (a .state .stage) (a .state .total) (take (a .state .got) (a .state .carry)) (a .store .now)) (a .bytes .now)) (y .result) (after (l .stage) (a .state .total + l .at) (item (l .store) (l .stage) (take (l .at + c .before .before .before .before .before .before .before .before .before .before .before .before .before .before .before .size-of .result - l .at) (drop (l .at) (a .bytes .now))) 0)) (a .state .total + (l .at + c .before .before .before .before .before .before .before .before .before .before .before .before .before .before .before .size-of .result)) (take (l .got) (l .carry)) (kept (l .stage) (item (l .store) (l .stage) (take (l .at + c .before .before .before .before .before .before .before .before .before .before .before .before .before .before .before .size-of .result - l .at) (drop (l .at) (a .bytes .now))) 0) (take (l .at + c .before .before .before .before .before .before .before .before .before .before .before .before .before .before .before .size-of .result - l .at) (drop (l .at) (a .bytes .now))) (l .store)) (y .last .1 .0) (l .at + c .before .before .before .before .before .before .before .before .before .before .before .before .before .before .before .size-of .result) (a .bytes .now)
+          (turn-item (chunk (G (a .state .stage) (a .state .total) (take (a .state .got) (a .state .carry)) (a .store .now)) (a .bytes .now)) (l .stage) (a .state .total) (take (l .got) (l .carry)) (l .store) (l .at) (a .bytes .now) (i .6) (i .2) (omega (arith, c .before .before .before .before .before .before .before .before .before .before .before .before .before .before .before .before .before .before .loop-test .taken, i .1)) (sym (c .before .before .before .before .before .before .before .before .before .before .before .before .before .before .before .before .before .is-fault .ensures) ∙ c .before .before .before .before .before .before .before .before .before .before .before .before .before .before .before .before .if1 .left) (ap (λ (k : ℕ). take k (l .carry)) z) (l .at + c .before .before .before .before .before .before .before .before .before .before .before .before .before .before .before .size-of .result) e (omega (arith, i .1, i .0, c .before .before .before .before .before .before .before .before .before .before .before .before .before .before .before .before .before .before .loop-test .taken)) (size-some (l .stage)) (take (l .at + c .before .before .before .before .before .before .before .before .before .before .before .before .before .before .before .size-of .result - l .at) (drop (l .at) (a .bytes .now))) (ap (λ (k : ℕ). take k (drop (l .at) (a .bytes .now))) n)) (y .ensures .0) (ap (λ (k : ℕ). take k (l .carry)) z) (y .ensures .1),
     )
 
 shared-slice-read-carry : tie.Need-shared-slice-read-carry Inv-loop μ-loop
@@ -276,11 +310,11 @@ settle-requires-2 c κs =
     let n : length (take (l .got + 1) (set (l .carry) (l .got) (getD (a .bytes .now) (l .at) 0))) ≡ l .got + 1 = length-take-le (l .got + 1) (set (l .carry) (l .got) (getD (a .bytes .now) (l .at) 0)) (omega (arith, length-set (l .carry) (l .got) (getD (a .bytes .now) (l .at) 0), i .5, i .3, size-most (l .stage))) in
     (omega (arith, c .before .before .item-start .ensures, i .2, c .before .before .before .before .before .before .before .before .before .loop-test .taken), omega (arith, i .3, size-most (l .stage)))
 
-loop-less-5 : tie.Need-loop-less-5 Inv-loop μ-loop
-loop-less-5 c = search needs
+loop-less-6 : tie.Need-loop-less-6 Inv-loop μ-loop
+loop-less-6 c = search needs
 
-loop-again-5 : tie.Need-loop-again-5 Inv-loop μ-loop
-loop-again-5 c =
+loop-again-6 : tie.Need-loop-again-6 Inv-loop μ-loop
+loop-again-6 c =
     let l = c .before .before .before .before .before .before .before .before .before .before .before .before .before .loop in
     let a = c .before .before .before .before .before .before .before .before .before .before .before .before .before .before .before .before .before .args in
     let i = l .inv in
@@ -295,14 +329,14 @@ loop-again-5 c =
       ap length (y .ensures .1) ∙ length-kept (l .stage) (item (l .store) (l .stage) (take (l .got + 1) (set (l .carry) (l .got) (getD (a .bytes .now) (l .at) 0))) 0) (take (l .got + 1) (set (l .carry) (l .got) (getD (a .bytes .now) (l .at) 0))) (l .store) ∙ i .4,
       simp length-set (i .5),
       settled (chunk (G (a .state .stage) (a .state .total) (take (a .state .got) (a .state .carry)) (a .store .now)) (a .bytes .now)) (y .result) (after (l .stage) (c .before .before .before .before .before .item-start .result) (item (l .store) (l .stage) (take (l .got + 1) (set (l .carry) (l .got) (getD (a .bytes .now) (l .at) 0))) 0)) (a .state .total + (l .at + 1)) (take 0 (set (l .carry) (l .got) (getD (a .bytes .now) (l .at) 0))) (kept (l .stage) (item (l .store) (l .stage) (take (l .got + 1) (set (l .carry) (l .got) (getD (a .bytes .now) (l .at) 0))) 0) (take (l .got + 1) (set (l .carry) (l .got) (getD (a .bytes .now) (l .at) 0))) (l .store)) (y .last .1 .0) (l .at + 1) (a .bytes .now)
-          (turn-full (chunk (G (a .state .stage) (a .state .total) (take (a .state .got) (a .state .carry)) (a .store .now)) (a .bytes .now)) (l .stage) (a .state .total) (take (l .got) (l .carry)) (l .store) (l .at) (a .bytes .now) (i .6) (i .2) (omega (arith, c .before .before .before .before .before .before .before .before .before .before .before .before .loop-test .taken, i .1)) (sym (c .before .before .before .before .before .before .before .before .before .before .before .is-fault .ensures) ∙ c .before .before .before .before .before .before .before .before .before .before .if1 .left) (omega (arith, c .before .before .before .before .before .before .if6 .taken)) (take (l .got + 1) (set (l .carry) (l .got) (getD (a .bytes .now) (l .at) 0))) (carried (l .carry) (l .got) (getD (a .bytes .now) (l .at) 0) (omega (arith, i .5, i .3, size-most (l .stage)))) (c .before .before .before .before .before .item-start .result) (omega (arith, c .before .before .before .before .before .item-start .ensures))) (y .ensures .0) refl (y .ensures .1),
+          (turn-full (chunk (G (a .state .stage) (a .state .total) (take (a .state .got) (a .state .carry)) (a .store .now)) (a .bytes .now)) (l .stage) (a .state .total) (take (l .got) (l .carry)) (l .store) (l .at) (a .bytes .now) (i .6) (i .2) (omega (arith, c .before .before .before .before .before .before .before .before .before .before .before .before .loop-test .taken, i .1)) (sym (c .before .before .before .before .before .before .before .before .before .before .before .is-fault .ensures) ∙ c .before .before .before .before .before .before .before .before .before .before .if1 .left) (omega (arith, c .before .before .before .before .before .before .if7 .taken)) (take (l .got + 1) (set (l .carry) (l .got) (getD (a .bytes .now) (l .at) 0))) (carried (l .carry) (l .got) (getD (a .bytes .now) (l .at) 0) (omega (arith, i .5, i .3, size-most (l .stage)))) (c .before .before .before .before .before .item-start .result) (omega (arith, c .before .before .before .before .before .item-start .ensures))) (y .ensures .0) refl (y .ensures .1),
     )
 
-loop-less-6 : tie.Need-loop-less-6 Inv-loop μ-loop
-loop-less-6 c = search needs
+loop-less-7 : tie.Need-loop-less-7 Inv-loop μ-loop
+loop-less-7 c = search needs
 
-loop-again-6 : tie.Need-loop-again-6 Inv-loop μ-loop
-loop-again-6 c =
+loop-again-7 : tie.Need-loop-again-7 Inv-loop μ-loop
+loop-again-7 c =
     let l = c .before .before .before .before .before .before .before .loop in
     let a = c .before .before .before .before .before .before .before .before .before .before .before .args in
     let i = l .inv in
@@ -310,10 +344,10 @@ loop-again-6 c =
       omega (arith, i .1),
       i .1,
       i .2,
-      omega (arith, i .3, c .if6 .left),
+      omega (arith, i .3, c .if7 .left),
       i .4,
       simp length-set (i .5),
-      turn-push _ (l .stage) (a .state .total) (take (l .got) (l .carry)) (l .store) (l .at) (a .bytes .now) (i .6) (i .2) (omega (arith, c .before .before .before .before .before .before .loop-test .taken, i .1)) (sym (c .before .before .before .before .before .is-fault .ensures) ∙ c .before .before .before .before .if1 .left) (omega (arith, i .3, length-take-le (l .got) (l .carry) (omega (arith, i .5, i .3, size-most (l .stage))), c .if6 .left)) _ (carried (l .carry) (l .got) _ (omega (arith, i .5, i .3, size-most (l .stage)))),
+      turn-push _ (l .stage) (a .state .total) (take (l .got) (l .carry)) (l .store) (l .at) (a .bytes .now) (i .6) (i .2) (omega (arith, c .before .before .before .before .before .before .loop-test .taken, i .1)) (sym (c .before .before .before .before .before .is-fault .ensures) ∙ c .before .before .before .before .if1 .left) (omega (arith, i .3, length-take-le (l .got) (l .carry) (omega (arith, i .5, i .3, size-most (l .stage))), c .if7 .left)) _ (carried (l .carry) (l .got) _ (omega (arith, i .5, i .3, size-most (l .stage)))),
     )
 
 add-opened : tie.Need-add-opened Inv-loop μ-loop
@@ -364,6 +398,8 @@ run-spec =
     part-keep-end
     keep-requires
     colours-passed-requires
+    record-end-requires
+    record-passed-requires
     add-e-2
     sub-settle
     part-settle-start
@@ -376,6 +412,8 @@ run-spec =
     loop-again-3
     loop-less-4
     loop-again-4
+    loop-less-5
+    loop-again-5
     shared-slice-read-carry
     array-write-carry
     add-got
@@ -385,10 +423,10 @@ run-spec =
     array-share-prefix-carry
     slice-aggregate-settle
     settle-requires-2
-    loop-less-5
-    loop-again-5
     loop-less-6
     loop-again-6
+    loop-less-7
+    loop-again-7
     add-opened
     opened-requires
     same-length

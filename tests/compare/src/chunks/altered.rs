@@ -62,7 +62,12 @@ fn check_calls(
         ..fed.stream
     };
     agree(|| "an altered stream's end".into(), &ended, &finished.stream)?;
-    tally.altered(finished.answer.number.min(number::NO_COUNTERPART));
+    agree(
+        || "the number is one of a file".into(),
+        &true,
+        &(finished.answer.number <= number::BADLY_CLOSED),
+    )?;
+    tally.altered(finished.answer.number);
     Ok(())
 }
 
@@ -87,7 +92,7 @@ fn alter(stream: &mut Stream, random: &mut Random) {
         1 => random.below(20) as u64,
         _ => random.u64(),
     };
-    match random.below(14) {
+    match random.below(15) {
         0 => stream.total = any as usize,
         1 => stream.got = any as usize,
         2 => stream.place = any as usize,
@@ -101,6 +106,7 @@ fn alter(stream: &mut Stream, random: &mut Random) {
         10 => stream.index = any as u16,
         11 => (stream.record, stream.field) = (any as u16, (any >> 16) as u16),
         12 => stream.got = (any % 14) as usize,
+        13 => stream.number = any as u32,
         _ => stream.carry[random.below(14)] = any as u8,
     }
 }
