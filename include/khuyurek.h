@@ -132,6 +132,67 @@ khuyurek_length khuyurek_aco_write(const uint32_t *records, size_t records_len,
                                    const uint8_t *text, size_t text_len,
                                    uint8_t *out, size_t out_len);
 
+/* ---- ACO in chunks
+ *
+ * A file that arrives in chunks, cut anywhere, chunks of no bytes among them: start,
+ * feed for each chunk, finish. Each call is lent the same store and handed the stream
+ * that the call before handed back. At the end the store begins with the colours of
+ * list 1 that stand whole before the first fault (1 aside), ten bytes each as sent,
+ * and past them holds what it held; it is the one buffer that a refused file changes.
+ */
+
+/* The bytes of a store: a shorter one is 11. What follows them is neither looked at
+ * nor changed. */
+#define KHUYUREK_ACO_STORE 40960
+
+/* What is kept between two chunks. Its numbers are the library's own: hand them back
+ * as they came. With any other numbers a call still gives a number of the table and
+ * stays inside the store. total: how many bytes came; past the limit it stops. */
+typedef struct {
+    size_t total;
+    size_t got;
+    size_t place;
+    uint32_t stage;
+    uint32_t ended;
+    uint32_t number;
+    uint32_t at;
+    uint32_t left;
+    uint32_t zero;
+    uint16_t count;
+    uint16_t index;
+    uint16_t record;
+    uint16_t field;
+    uint8_t carry[14];
+} khuyurek_aco_stream;
+
+/* number 0: taken, with the stream for the next call. Else the refusal, whose place
+ * is 0, and the stream as it came. */
+typedef struct {
+    uint32_t number;
+    khuyurek_aco_stream stream;
+} khuyurek_aco_fed;
+
+/* The answer of the whole file, and the stream, which has ended; after 11, and 5 for
+ * a stream that had ended before, the stream as it came. */
+typedef struct {
+    khuyurek_aco_answer answer;
+    khuyurek_aco_stream stream;
+} khuyurek_aco_finished;
+
+/* A short store is 11, with a stream that has ended. */
+khuyurek_aco_fed khuyurek_aco_stream_start(const uint8_t *store, size_t store_len);
+
+/* Number 0 whatever the chunk holds; 5 for a stream that has ended, then 11. */
+khuyurek_aco_fed khuyurek_aco_stream_feed(khuyurek_aco_stream stream,
+                                          uint8_t *store, size_t store_len,
+                                          const uint8_t *chunk, size_t chunk_len);
+
+/* 5 for a stream that has ended, then 11; else what khuyurek_aco_judge answers of all
+ * chunks joined. */
+khuyurek_aco_finished khuyurek_aco_stream_finish(khuyurek_aco_stream stream,
+                                                 const uint8_t *store,
+                                                 size_t store_len);
+
 /* ---- ASE */
 
 /* The numbers of a record in a table or run: the block's type, place of the name's

@@ -1,7 +1,7 @@
 /* The header and the archive from C: P3, P6 and a book of one Lab colour are read, listed by their
  * record and written back; P4 is refused with its record and field, P7 with its place, a group left
  * open and a tag that is none by the writer; the book's colour, full name and page are shown; P12 is
- * read into its rows; a document's resource section is found, read and written back; P3 and P6 are walked; a few samples and channels are converted, one by one and in runs, and those that
+ * read into its rows; a document's resource section is found, read and written back; P3 and P6 are walked, and P3 is taken in chunks; a few samples and channels are converted, one by one and in runs, and those that
  * are refused are refused by their numbers. */
 #include <stdio.h>
 #include <string.h>
@@ -84,6 +84,37 @@ static int aco(void) {
     khuyurek_aco_answer differs = khuyurek_aco_judge(p4, sizeof p4);
     CHECK(differs.number == KHUYUREK_LISTS_DISAGREE && differs.place == 24);
     CHECK(differs.record == 0 && differs.field == 3);
+    return 0;
+}
+
+static int chunks(void) {
+    static uint8_t store[KHUYUREK_ACO_STORE + 1];
+    memset(store, 7, sizeof store);
+    khuyurek_aco_fed fed = khuyurek_aco_stream_start(store, KHUYUREK_ACO_STORE - 1);
+    CHECK(fed.number == KHUYUREK_NO_ROOM);
+    CHECK(khuyurek_aco_stream_feed(fed.stream, store, sizeof store, P3, 1).number
+          == KHUYUREK_OUT_OF_RANGE);
+    fed = khuyurek_aco_stream_start(store, KHUYUREK_ACO_STORE);
+    CHECK(fed.number == 0);
+    for (size_t i = 0; i < sizeof P3; i++) {
+        fed = khuyurek_aco_stream_feed(fed.stream, store, KHUYUREK_ACO_STORE, P3 + i, 1);
+        CHECK(fed.number == 0 && fed.stream.total == i + 1);
+        fed = khuyurek_aco_stream_feed(fed.stream, store, sizeof store, P3, 0);
+        CHECK(fed.number == 0 && store[0] == (i < 13 ? 7 : 0));
+    }
+    khuyurek_aco_finished end = khuyurek_aco_stream_finish(fed.stream, store, KHUYUREK_ACO_STORE);
+    CHECK(end.answer.number == 0 && end.answer.colours == 1 && end.answer.lists == 2);
+    CHECK(memcmp(store, P3 + 4, 10) == 0 && store[10] == 7 && store[KHUYUREK_ACO_STORE] == 7);
+    end = khuyurek_aco_stream_finish(end.stream, store, KHUYUREK_ACO_STORE);
+    CHECK(end.answer.number == KHUYUREK_OUT_OF_RANGE && end.answer.colours == 0);
+
+    fed = khuyurek_aco_stream_start(store, sizeof store);
+    fed = khuyurek_aco_stream_feed(fed.stream, store, sizeof store, P3, 20);
+    fed = khuyurek_aco_stream_feed(fed.stream, store, sizeof store, P3 + 18, 10);
+    end = khuyurek_aco_stream_finish(fed.stream, store, sizeof store);
+    CHECK(end.answer.number == KHUYUREK_LISTS_DISAGREE && end.answer.place == 20);
+    CHECK(end.answer.record == 0 && end.answer.field == 1);
+    CHECK(sizeof(khuyurek_aco_stream) <= 128);
     return 0;
 }
 
@@ -312,7 +343,7 @@ static int trays(void) {
 }
 
 int main(void) {
-    if (aco() || ase() || acb() || descriptor() || resources() || walks() || conversions() || trays()) {
+    if (aco() || chunks() || ase() || acb() || descriptor() || resources() || walks() || conversions() || trays()) {
         return 1;
     }
     puts("C agrees");

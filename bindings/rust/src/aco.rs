@@ -36,14 +36,14 @@ pub struct Palette<'a> {
 
 /// Judges a file.
 pub fn judge(file: &[u8]) -> Result<Counts, Refusal> {
-    counts(raw::judge(file))
+    Counts::of(raw::judge(file))
 }
 
 /// Reads a file.
 pub fn read(file: &[u8]) -> Result<Palette<'_>, Refusal> {
     let Counts { colours, lists } = judge(file)?;
     let mut table = vec![0; WIDTH * colours];
-    counts(raw::read(file, &mut table))?;
+    Counts::of(raw::read(file, &mut table))?;
     Ok(Palette { file, lists, table })
 }
 
@@ -58,12 +58,14 @@ pub fn record_at(file: &[u8], index: usize) -> Result<Swatch<'_>, Refusal> {
     })
 }
 
-fn counts(answer: raw::Answer) -> Result<Counts, Refusal> {
-    Refusal::unless_differing(answer.number, answer.place, answer.record, answer.field)?;
-    Ok(Counts {
-        colours: answer.colours,
-        lists: answer.lists,
-    })
+impl Counts {
+    pub(crate) fn of(answer: raw::Answer) -> Result<Counts, Refusal> {
+        Refusal::unless_differing(answer.number, answer.place, answer.record, answer.field)?;
+        Ok(Counts {
+            colours: answer.colours,
+            lists: answer.lists,
+        })
+    }
 }
 
 impl<'a> Palette<'a> {

@@ -49,6 +49,7 @@ pub mod descriptor;
 mod refusal;
 pub mod resource;
 mod space;
+pub mod stream;
 mod text;
 mod units;
 

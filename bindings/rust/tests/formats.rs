@@ -6,7 +6,8 @@ use std::path::Path;
 
 use khuyurek::descriptor::{self, Tag, Value};
 use khuyurek::{
-    acb, aco, ase, to_channel, to_channels, to_sample, to_samples, Model, Refusal, Space, Units,
+    acb, aco, ase, stream, to_channel, to_channels, to_sample, to_samples, Model, Refusal, Space,
+    Units,
 };
 
 const P2: [u8; 4] = [0, 1, 0, 0];
@@ -133,6 +134,69 @@ fn aco_is_written() {
     let long = vec![0; khuyurek::LIMIT];
     swatch.name = Units::new(&long);
     assert_eq!(aco::write_length(&[swatch]), Err(refusal(1, 0)));
+}
+
+/// What a stream answers to chunks and to their end, and the store.
+fn streamed(chunks: &[&[u8]]) -> (Result<aco::Counts, Refusal>, Vec<u8>) {
+    let mut store = vec![0xA5; stream::STORE];
+    let mut stream = stream::start(&store).unwrap();
+    for chunk in chunks {
+        assert_eq!(stream.feed(&mut store, chunk), Ok(()));
+    }
+    (stream.finish(&store), store)
+}
+
+#[test]
+fn aco_is_taken_in_chunks() {
+    let file = example("swatches.aco");
+    let counts = aco::judge(&file);
+    for cut in 0..=file.len() {
+        let (front, back) = file.split_at(cut);
+        let (answer, store) = streamed(&[front, &[], back]);
+        assert_eq!(answer, counts);
+        assert_eq!(store[..50], file[4..54]);
+        assert!(store[50..].iter().all(|byte| *byte == 0xA5));
+        // What has come is judged as a file of its own.
+        assert_eq!(streamed(&[front]).0, aco::judge(front));
+    }
+    let mut p4 = P3;
+    p4[25] = 0x81;
+    let bytes: Vec<&[u8]> = p4.chunks(1).collect();
+    assert_eq!(streamed(&bytes).0, aco::judge(&p4));
+}
+
+#[test]
+fn streams_end() {
+    let mut store = vec![0xA5; stream::STORE];
+    let short = &mut vec![0; stream::STORE - 1][..];
+    assert_eq!(stream::start(short), Err(refusal(11, 0)));
+    let mut stream = stream::start(&store).unwrap();
+    let begun = stream;
+    assert_eq!(stream.feed(short, &P3), Err(refusal(11, 0)));
+    assert_eq!(stream.finish(short), Err(refusal(11, 0)));
+    assert_eq!(stream, begun);
+    stream.feed(&mut store, &P3).unwrap();
+    assert_eq!(stream.total(), P3.len());
+    assert_eq!(stream.finish(&store), aco::judge(&P3));
+    let ended = stream;
+    let held = store.clone();
+    assert_eq!(stream.feed(&mut store, &P3), Err(refusal(5, 0)));
+    assert_eq!(stream.feed(short, &[]), Err(refusal(5, 0)));
+    assert_eq!(stream.finish(&store), Err(refusal(5, 0)));
+    assert_eq!((stream, store), (ended, held));
+}
+
+#[test]
+fn too_many_bytes_are_1_whatever_came_before() {
+    let mut store = vec![0; stream::STORE];
+    let mut stream = stream::start(&store).unwrap();
+    let chunk = vec![9; khuyurek::LIMIT];
+    stream.feed(&mut store, &chunk).unwrap();
+    let mut longer = stream;
+    assert_eq!(stream.finish(&store), Err(refusal(3, 0)));
+    longer.feed(&mut store, &[0]).unwrap();
+    longer.feed(&mut store, &chunk).unwrap();
+    assert_eq!(longer.finish(&store), Err(refusal(1, 0)));
 }
 
 // ---- ASE

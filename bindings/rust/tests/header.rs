@@ -86,6 +86,23 @@ fn widths_and_limit_are_the_librarys() {
     }
 }
 
+#[test]
+fn store_is_the_librarys() {
+    let store = khuyurek::stream::STORE;
+    let header = source("include/khuyurek.h");
+    let line = format!("#define KHUYUREK_ACO_STORE {store}");
+    assert!(header.lines().any(|found| found == line), "{line}");
+    let library = source("crates/aco_stream/src/lib.rt");
+    let line = format!("pub const STORE: usize = {store};");
+    assert!(library.lines().any(|found| found == line), "{line}");
+}
+
+/// A stream is handed over by value and is kept small.
+#[test]
+fn stream_is_small() {
+    assert!(size_of::<khuyurek::raw::stream::Stream>() <= 128);
+}
+
 /// The header and docs/INTERFACE.md name the refusals of README's table, in its words.
 #[test]
 fn refusals_are_the_tables() {

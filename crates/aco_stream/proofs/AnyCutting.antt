@@ -1,5 +1,5 @@
 -- However a palette is cut into chunks, `start`, `feed` and `finish` come to what reading the whole file gives, and the store holds the colours that are sound. Assumes nothing.
-use Prim.Native.Nat.{ℕ, _+_, _*_, _≤_}
+use Prim.Native.Nat.{ℕ, _+_, _*_, _≤_, _<_}
 use mathlib.Core.Path.{_≡_, refl, sym, ap, ap₂, _∙_, subst}
 use mathlib.Core.List.{List, [], _∷_, _++_, append-assoc}
 use mathlib.Core.Bool.{Bool, true, false}
@@ -9,14 +9,19 @@ use lib.Seq.{length-take-le, drop-append-le}
 use native.Mathlib.Omega.{arith}
 use Rattle.algebra.specs.Numbers.{All}
 use Rattle.algebra.specs.Store.{part}
-use Rattle.aco.specs.Reading.{aco}
+use Rattle.algebra.specs.Reader.{Res, ok, refuse}
+use Rattle.algebra.specs.Refusal.{Of}
+use Rattle.algebra.proofs.Placed.{of-each}
+use Rattle.aco.specs.Reading.{Contents, aco}
+use Rattle.aco.specs.Refusals.{refusals}
+use Rattle.aco.proofs.Placed.{refused-placed}
 use Rattle.algebra.specs.Table.{verdict}
 use Rattle.aco_judge.specs.Answer.{report}
 use Rattle.aco_stream.specs.declared.Stream.{Stream}
 use Rattle.aco_chunks.specs.Chunks.{FileVerdict, Progress, chunk, chunks, begin, answer}
 use Rattle.aco_chunks.specs.Promise.{join, soundColours, held}
-use Rattle.aco_stream.specs.Answer.{progress, usable, roomy, room, Starts, StartsBy, Feeds, FeedsBy, Finishes, FinishesBy}
-use Rattle.aco_stream.proofs.Calls.{is-roomy}
+use Rattle.aco_stream.specs.Answer.{progress, usable, roomy, room, known, Starts, StartsBy, Feeds, FeedsBy, Finishes, FinishesBy}
+use Rattle.aco_stream.proofs.Calls.{is-roomy, known-near}
 use Rattle.aco_chunks.proofs.Cutting.{any-cutting}
 use Rattle.aco_chunks.proofs.Small.{few-sound}
 
@@ -47,6 +52,19 @@ runs-keep (c ∷ cs) ns i s store₀ store t after h r =
     let k = runs-keep cs (r .4) (i + 1) (r .0) store₀ (r .1) t after m (r .6) in
     (k .0, k .1 ∙ ap (λ (g : Progress). chunks g cs) (f .2), subst (All (λ k n. n ≡ 0) i) (sym (r .5)) (f .0, k .2))
 
+-- a file's number is one that files have
+file-known : (s : List ℕ) → known (verdict report (aco s)) ≡ verdict report (aco s)
+file-known s = go (aco s) refl
+  where
+    few : {x : ℕ} → Of refusals x → (0 < x) × (x ≤ 8)
+    few h = of-each (λ x. (0 < x) × (x ≤ 8)) refusals ((omega arith, omega arith), ((omega arith, omega arith), ((omega arith, omega arith), ((omega arith, omega arith), ((omega arith, omega arith), ((omega arith, omega arith), ((omega arith, omega arith), ((omega arith, omega arith), tt)))))))) h
+
+    go : (m : Res Contents) → aco s ≡ m → known (verdict report m) ≡ verdict report m
+    go (ok f q) e = refl
+    go (refuse x p r f) e =
+        let n = few (refused-placed s e .0) in
+        sym (known-near x p r f (λ z. omega (arith, n .0)) (n .1))
+
 pub record Agrees (cs : List (List ℕ)) (store : List ℕ) (n : ℕ) (ns : List ℕ) (w : FileVerdict) (after : List ℕ) : Type 0 where
   -- the start is answered 0, and so is every chunk
   pub started : n ≡ 0
@@ -68,7 +86,7 @@ calls-agree cs store l s n b ns t after r z w f =
     record {
       started = b′ .0;
       fed = k .2;
-      answers = h .0 ∙ ap answer g ∙ a .0;
+      answers = h .0 ∙ ap known (ap answer g ∙ a .0) ∙ file-known (join cs);
       holds =
           sym (take-append-drop room after) ∙ ap₂ (λ (x y : List ℕ). x ++ y) (ap (λ (x : Progress). x .store) g ∙ a .1) (m .rest)
           ∙ held-front (join cs) store l;

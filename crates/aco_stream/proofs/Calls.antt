@@ -1,18 +1,18 @@
 -- What each call promises, by the state that it is handed. Assumes nothing.
 use Prim.Native.Nat.{ℕ, _+_, _*_, _-_, _≤_, _<_}
 use mathlib.Core.Path.{_≡_, refl, sym, ap, ap₂, _∙_, subst}
-use mathlib.Core.List.{List, _++_}
+use mathlib.Core.List.{List, _++_, append-nil}
 use mathlib.Core.Bool.{Bool, true, false}
 use lib.Dec.{ltb, leb}
 use lib.ListN.{length, take, drop, take-append-drop}
-use lib.Seq.{length-take-le, take-append-seam, drop-append-seam, length-front}
-use borrow.Author.Tests.{lt-ltb, le-ltb, le-leb, lt-leb}
+use lib.Seq.{length-take-le, take-append-seam, drop-append-seam, length-front, take-length, drop-length}
+use borrow.Author.Tests.{lt-ltb, le-ltb, le-leb, lt-leb, ltb-true, ltb-false, leb-true, leb-false, ne-eqb}
 use native.Mathlib.Omega.{arith}
 use Rattle.algebra.specs.Reader.{pick}
 use Rattle.algebra.specs.Table.{refused}
 use Rattle.aco_stream.specs.declared.Stream.{Stream}
 use Rattle.aco_chunks.specs.Chunks.{FileVerdict, size, begin, chunk, answer}
-use Rattle.aco_stream.specs.Answer.{progress, usable, roomy, room, ended, Starts, StartsBy, Feeds, FeedsBy, Finishes, FinishesBy}
+use Rattle.aco_stream.specs.Answer.{progress, usable, roomy, room, ended, known, Starts, StartsBy, Feeds, FeedsBy, Finishes, FinishesBy}
 use Rattle.aco_stream.specs.Parts.{FeedsIn, FeedsInBy, FinishesIn, FinishesInBy}
 
 module _ (s : Stream) where
@@ -30,6 +30,19 @@ is-roomy store l = le-leb 40960 (length store) l
 
 pub not-roomy : (store : List ℕ) → length store < 40960 → roomy store ≡ false
 not-roomy store l = lt-leb 40960 (length store) l
+
+-- ---- numbers of files and others
+
+module _ (x p r f : ℕ) (some : x ≡ 0 → ⊥) where
+  pub known-far : 8 < x → refused 5 0 0 0 ≡ known (refused x p r f)
+  known-far l =
+      sym (ap (λ (b : Bool). pick b (refused 5 0 0 0) (pick (ltb 8 x) (refused 5 0 0 0) (refused x p r f))) (ne-eqb x 0 some)
+      ∙ ap (λ (b : Bool). pick b (refused 5 0 0 0) (refused x p r f)) (lt-ltb 8 x l))
+
+  pub known-near : x ≤ 8 → refused x p r f ≡ known (refused x p r f)
+  known-near l =
+      sym (ap (λ (b : Bool). pick b (refused 5 0 0 0) (pick (ltb 8 x) (refused 5 0 0 0) (refused x p r f))) (ne-eqb x 0 some)
+      ∙ ap (λ (b : Bool). pick b (refused 5 0 0 0) (refused x p r f)) (le-ltb 8 x l))
 
 module _ (s : Stream) (store : List ℕ) where
   pub starts-11 : length store < 40960 → s .ended ≡ true → Starts store s 11
@@ -55,7 +68,7 @@ module _ (s : Stream) (store : List ℕ) where
   pub finishes-11 : usable s ≡ true → roomy store ≡ false → FinishesIn s store s (refused 11 0 0 0)
   finishes-11 e r = subst (λ (b : Bool). FinishesInBy b (roomy store) s store s (refused 11 0 0 0)) (sym e) (subst (λ (b : Bool). FinishesInBy true b s store s (refused 11 0 0 0)) (sym r) (refl, refl))
 
-  pub finishes-0 : usable s ≡ true → roomy store ≡ true → (w : FileVerdict) → w ≡ answer (progress s store) → FinishesIn s store (ended s) w
+  pub finishes-0 : usable s ≡ true → roomy store ≡ true → (w : FileVerdict) → w ≡ known (answer (progress s store)) → FinishesIn s store (ended s) w
   finishes-0 e r w h = subst (λ (b : Bool). FinishesInBy b (roomy store) s store (ended s) w) (sym e) (subst (λ (b : Bool). FinishesInBy true b s store (ended s) w) (sym r) (h, refl))
 
 -- ---- a store that is too short is handed on as it is, of another its first bytes
@@ -100,6 +113,28 @@ module _ (s : Stream) (store bytes : List ℕ) (t : Stream) (number : ℕ) where
       go false true false q z f = (f .0, f .1, same (f .2))
       go false false true q z f = (f .0, f .1, same (f .2))
       go false false false q z f = (f .0, f .1, same (f .2))
+
+-- a front of the store is lent on: all of one that is too short, else its first bytes
+pub feeds-front : (s : Stream) (store bytes : List ℕ) (t : Stream) (number n : ℕ) (front : List ℕ) → (40960 < length store → n ≡ 40960) → (length store ≤ 40960 → n ≡ length store) → length front ≡ length (take n store) → FeedsIn s (take n store) bytes t number front → Feeds s store bytes t number (front ++ drop n store)
+feeds-front s store bytes t number n front long short m f = go (leb 40960 (length store)) refl
+  where
+    go : (b : Bool) → leb 40960 (length store) ≡ b → Feeds s store bytes t number (front ++ drop n store)
+    go true e =
+        let l = leb-true 40960 (length store) e in
+        let q : n ≡ 40960 = at-least l in
+        subst (λ (k : ℕ). Feeds s store bytes t number (front ++ drop k store)) (sym q) (feeds-long s store bytes t number front l (m ∙ ap (λ (k : ℕ). length (take k store)) q) (subst (λ (k : ℕ). FeedsIn s (take k store) bytes t number front) q f))
+      where
+        at-least : 40960 ≤ length store → n ≡ 40960
+        at-least l = either (ltb 40960 (length store)) refl
+          where
+            either : (c : Bool) → ltb 40960 (length store) ≡ c → n ≡ 40960
+            either true h = long (ltb-true 40960 (length store) h)
+            either false h = let g = ltb-false 40960 (length store) h in short g ∙ omega arith
+    go false e =
+        let l = leb-false 40960 (length store) e in
+        let q : n ≡ length store = short (omega arith) in
+        let a : front ++ drop n store ≡ front = ap (λ (k : ℕ). front ++ drop k store) q ∙ ap (λ (x : List ℕ). front ++ x) (drop-length store) ∙ append-nil front in
+        subst (Feeds s store bytes t number) (sym a) (feeds-short s store bytes t number front l (subst (λ (x : List ℕ). FeedsIn s x bytes t number front) (ap (λ (k : ℕ). take k store) q ∙ take-length store) f))
 
 module _ (s : Stream) (store : List ℕ) (t : Stream) (w : FileVerdict) where
   pub finishes-short : length store < 40960 → FinishesIn s store t w → Finishes s store t w

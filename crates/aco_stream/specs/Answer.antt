@@ -2,7 +2,7 @@
 use Prim.Native.Nat.{ℕ, _<_}
 use mathlib.Core.Path.{_≡_}
 use mathlib.Core.Bool.{Bool, true, false}
-use lib.Dec.{leb, ltb}
+use lib.Dec.{leb, ltb, eqb}
 use mathlib.Core.List.{List}
 use lib.ListN.{take, drop, length}
 use Rattle.aco_stream.specs.declared.Stream.{Stream}
@@ -60,9 +60,14 @@ FeedsBy false large s store bytes t number after = (number ≡ 5) × (t ≡ s) �
 abbrev pub Feeds : Stream → List ℕ → List ℕ → Stream → ℕ → List ℕ → Type 0
 Feeds s store bytes t number after = FeedsBy (usable s) (roomy store) s store bytes t number after
 
+-- a fault of a number that no file has stands only in an altered stream
+abbrev pub known : FileVerdict → FileVerdict
+known (accepted w) = accepted w
+known (refused x p r f) = pick (eqb x 0) (refused 5 0 0 0) (pick (ltb 8 x) (refused 5 0 0 0) (refused x p r f))
+
 -- the end: the same refusals, else the file's verdict, and the stream has ended
 abbrev pub FinishesBy : Bool → Bool → Stream → List ℕ → Stream → FileVerdict → Type 0
-FinishesBy true true s store t w = (w ≡ answer (progress s (take room store))) × (t ≡ ended s)
+FinishesBy true true s store t w = (w ≡ known (answer (progress s (take room store)))) × (t ≡ ended s)
 FinishesBy true false s store t w = (w ≡ refused 11 0 0 0) × (t ≡ s)
 FinishesBy false large s store t w = (w ≡ refused 5 0 0 0) × (t ≡ s)
 

@@ -9,8 +9,8 @@ ghost use Prim.Native.Nat.{_+_, _-_, _*_, _≤_, _<_};
 ghost use lib.ListN.{length};
 ghost use Rattle.algebra.specs.Reader.{limit, ok};
 ghost use Rattle.aco_chunks.specs.Chunks.{size, item, next, after, kept, entryHead, loaded, colours, entries, unitDone, isFault, chunk, cut, ending};
-ghost use Rattle.aco_stream.specs.Answer.{progress, told, Starts, Feeds, Finishes};
-ghost use Rattle.aco_stream.specs.Parts.{Sparing, unitsPassed, openStream, FeedsIn, FinishesIn};
+ghost use Rattle.aco_stream.specs.Answer.{progress, told, known, Starts, Feeds, Finishes};
+ghost use Rattle.aco_stream.specs.Parts.{Sparing, unitsPassed, Due, Sounds, coloursPassed, Closed, Recorded, recordPassed, openStream, FeedsIn, FinishesIn};
 ghost use Rattle.algebra.specs.Numbers.{nums};
 ghost use Rattle.algebra.specs.Text.{anyZero};
 ghost use mathlib.Core.Bool.{false};
@@ -29,11 +29,11 @@ pub const STORE: usize = 40960;
 
 // What is kept between two chunks.
 pub struct Stream {
-    stage: Stage,
-    total: usize,
-    got: usize,
-    carry: [u8; 14],
-    ended: bool,
+    pub stage: Stage,
+    pub total: usize,
+    pub got: usize,
+    pub carry: [u8; 14],
+    pub ended: bool,
 }
 
 // What an item is found to be: a number and the next place, or a refusal.
@@ -292,6 +292,152 @@ fn units_of(stage: Stage, bytes: &[u8], at: usize, k: u32) -> Stage
     }
 }
 
+// How many colours of list 1 stand whole in `left` bytes, are due, and have room in a store.
+fn colours_due(stage: Stage, left: usize, room: usize) -> usize
+    ensures { λ r. ⌜ Due stage r left room ⌝ }
+{
+    match stage {
+        Stage::Colour(count, index) => due_of(count as usize, index as usize, left / 10, room / 10),
+        Stage::First => 0,
+        Stage::Second(_) => 0,
+        Stage::Entry(_, _) => 0,
+        Stage::Unit(_, _, _, _, _) => 0,
+        Stage::End(_) => 0,
+        Stage::Fault(_, _, _, _) => 0,
+    }
+}
+
+// The least of `whole`, count - index and room - index.
+fn due_of(count: usize, index: usize, whole: usize, room: usize) -> usize
+    requires { ⌜ (count ≤ 65535) × (index ≤ 65535) ⌝ }
+    ensures { λ r. ⌜ (r ≤ whole) × (0 < r → (index + r ≤ count) × (index + r ≤ room)) ⌝ }
+{
+    let end = least(count, room);
+    if end <= index {
+        return 0;
+    }
+    least(end - index, whole)
+}
+
+// How many of n colours from `at` have no fault, up to the first that has one.
+fn sound_in(bytes: &[u8], at: usize, n: usize) -> usize
+    requires { ⌜ (at + 10 * n ≤ length (now bytes)) × (length (now bytes) ≤ limit) ⌝ }
+    ensures { λ r. ⌜ (r ≤ n) × (Sounds r (now (bytes .entry)) at) ⌝ }
+{
+    let mut k: usize = 0;
+    let mut p = at;
+    while k < n {
+        let e = p + 10;
+        match aco_judge::colour_at(&bytes[p..e], 0) {
+            Step::Next(_) => {
+                p = e;
+                k += 1;
+            }
+            Step::Refused(_, _) => {
+                return k;
+            }
+        }
+    }
+    k
+}
+
+// k colours are passed.
+fn colours_passed(stage: Stage, k: usize) -> Stage
+    requires { ⌜ k ≤ limit ⌝ }
+    ensures { λ r. ⌜ r ≡ coloursPassed stage k ⌝ }
+{
+    match stage {
+        Stage::Colour(count, index) => {
+            let next = (index as usize) + k;
+            if next < (count as usize) {
+                return Stage::Colour(count, next as u16);
+            }
+            Stage::Second(count)
+        }
+        Stage::First => Stage::First,
+        Stage::Second(count) => Stage::Second(count),
+        Stage::Entry(count, index) => Stage::Entry(count, index),
+        Stage::Unit(count, index, place, left, zero) => Stage::Unit(
+            count,
+            index,
+            place,
+            left,
+            zero,
+        ),
+        Stage::End(count) => Stage::End(count),
+        Stage::Fault(number, place, record, field) => Stage::Fault(number, place, record, field),
+    }
+}
+
+// Where m units from `at` end, if they are all there, the last is zero and no other; else 0.
+fn name_end(bytes: &[u8], at: usize, m: u32) -> usize
+    requires { ⌜ (at ≤ length (now bytes)) × (length (now bytes) ≤ limit) ⌝ }
+    ensures { λ r. ⌜ (0 < r → Closed m (now (bytes .entry)) at r) ⌝ }
+{
+    let rest = bytes.len() - at;
+    if m == 0 {
+        return 0;
+    }
+    if rest / 2 < (m as usize) {
+        return 0;
+    }
+    let k = m - 1;
+    let last = at + 2 * (k as usize);
+    if fields::u16_or_zero(bytes, last) != 0 {
+        return 0;
+    }
+    match names::text_at(bytes, at, k) {
+        Step::Next(_) => last + 2,
+        Step::Refused(_, _) => 0,
+    }
+}
+
+// Where the record of list 2 from `at` ends, if all of it is there and without a fault; else 0.
+fn record_end(stage: Stage, store: &[u8], bytes: &[u8], at: usize) -> usize
+    requires { ⌜ (at ≤ length (now bytes)) × (length (now bytes) ≤ limit) ⌝ }
+    ensures { λ r. ⌜ (0 < r → Recorded stage (now (store .entry)) (now (bytes .entry)) at r) ⌝ }
+{
+    match stage {
+        Stage::Entry(_, index) => {
+            if bytes.len() - at < 14 {
+                return 0;
+            }
+            let body = at + 14;
+            match entry_of(&bytes[at..body], store, index) {
+                Item::Is(m, _) => name_end(bytes, body, m),
+                Item::Refused(_, _, _, _) => 0,
+            }
+        }
+        Stage::First => 0,
+        Stage::Colour(_, _) => 0,
+        Stage::Second(_) => 0,
+        Stage::Unit(_, _, _, _, _) => 0,
+        Stage::End(_) => 0,
+        Stage::Fault(_, _, _, _) => 0,
+    }
+}
+
+// A record is passed.
+fn record_passed(stage: Stage) -> Stage
+    ensures { λ r. ⌜ r ≡ recordPassed stage ⌝ }
+{
+    match stage {
+        Stage::Entry(count, index) => entries_of(count, index),
+        Stage::First => Stage::First,
+        Stage::Colour(count, index) => Stage::Colour(count, index),
+        Stage::Second(count) => Stage::Second(count),
+        Stage::Unit(count, index, place, left, zero) => Stage::Unit(
+            count,
+            index,
+            place,
+            left,
+            zero,
+        ),
+        Stage::End(count) => Stage::End(count),
+        Stage::Fault(number, place, record, field) => Stage::Fault(number, place, record, field),
+    }
+}
+
 fn is_fault(stage: Stage) -> bool
     ensures { λ r. ⌜ r ≡ isFault stage ⌝ }
 {
@@ -353,9 +499,23 @@ fn run(state: Stream, store: &mut [u8], bytes: &[u8]) -> Stream
                     stage = units_of(stage, bytes, at, k);
                     at += 2 * (k as usize);
                 } else {
-                    let e = at + want;
-                    stage = settle(stage, store, &bytes[at..e], start + at);
-                    at = e;
+                    let m = sound_in(bytes, at, colours_due(stage, left, store.len()));
+                    if 0 < m {
+                        let e = at + 10 * m;
+                        keep(stage, store, &bytes[at..e]);
+                        stage = colours_passed(stage, m);
+                        at = e;
+                    } else {
+                        let q = record_end(stage, store, bytes, at);
+                        if 0 < q {
+                            stage = record_passed(stage);
+                            at = q;
+                        } else {
+                            let e = at + want;
+                            stage = settle(stage, store, &bytes[at..e], start + at);
+                            at = e;
+                        }
+                    }
                 }
             } else {
                 carry[got] = bytes[at];
@@ -370,6 +530,16 @@ fn run(state: Stream, store: &mut [u8], bytes: &[u8]) -> Stream
         }
     }
     opened(stage, start + end, got, carry)
+}
+
+// The smaller of two numbers.
+fn least(a: usize, b: usize) -> usize
+    ensures { λ r. ⌜ (r ≤ a) × (r ≤ b) × (a < b → r ≡ a) × (b ≤ a → r ≡ b) ⌝ }
+{
+    if a < b {
+        return a;
+    }
+    b
 }
 
 // What a chunk is answered: 0, or 5 for a state that has ended or is none, or 11.
@@ -416,15 +586,15 @@ fn feed_in(state: Stream, store: &mut [u8], bytes: &[u8]) -> Fed
         };
     }
     let room = LIMIT - total;
-    if bytes.len() <= room {
-        let next = run(state, store, bytes);
+    let n = least(room, bytes.len());
+    let mut next = run(state, store, &bytes[..n]);
+    if room < bytes.len() {
+        next.total = LIMIT + 1;
         return Fed {
             state: next,
             number: 0,
         };
     }
-    let mut next = run(state, store, &bytes[..room]);
-    next.total = LIMIT + 1;
     Fed {
         state: next,
         number: 0,
@@ -478,6 +648,24 @@ fn ending_of(stage: Stage, store: &[u8], bytes: &[u8], from: usize) -> Answer
     }
 }
 
+// A fault of a number that no file has stands only in an altered stream: 5 in its place.
+fn known_of(a: Answer) -> Answer
+    ensures { λ r. ⌜ told r ≡ known (told a) ⌝ }
+{
+    match a {
+        Answer::Accepted(colours, lists) => Answer::Accepted(colours, lists),
+        Answer::Refused(number, place, record, field) => {
+            if number == 0 {
+                return Answer::Refused(5, 0, 0, 0);
+            }
+            if 8 < number {
+                return Answer::Refused(5, 0, 0, 0);
+            }
+            Answer::Refused(number, place, record, field)
+        }
+    }
+}
+
 fn finish_in(state: Stream, store: &[u8]) -> Finished
     ensures { λ r. ⌜ FinishesIn state (now (store .entry)) (r .state) (told (r .answer)) ⌝ }
 {
@@ -512,9 +700,10 @@ fn finish_in(state: Stream, store: &[u8]) -> Finished
         };
     }
     let from = item_start(total, got);
+    let found = ending_of(stage, store, &carry[..got], from);
     Finished {
         state: last,
-        answer: ending_of(stage, store, &carry[..got], from),
+        answer: known_of(found),
     }
 }
 
@@ -522,10 +711,8 @@ fn finish_in(state: Stream, store: &[u8]) -> Finished
 pub fn feed(state: Stream, store: &mut [u8], bytes: &[u8]) -> Fed
     ensures { λ r. ⌜ Feeds state (now (store .entry)) (now (bytes .entry)) (r .state) (r .number) (now (store .exit)) ⌝ }
 {
-    if store.len() < STORE {
-        return feed_in(state, store, bytes);
-    }
-    feed_in(state, &mut store[..STORE], bytes)
+    let n = least(STORE, store.len());
+    feed_in(state, &mut store[..n], bytes)
 }
 
 // The end: what the whole file is found to be.

@@ -7,3 +7,5 @@ pub mod Descriptor
 pub mod Resource
 pub mod Trays
 pub mod Walk
+pub mod Stream
+pub mod StreamParts

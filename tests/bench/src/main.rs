@@ -4,6 +4,7 @@
 mod acb;
 mod aco;
 mod ase;
+mod chunks;
 mod conversion;
 mod descriptor;
 mod plain;
@@ -28,6 +29,7 @@ const NAMES: [(&str, usize); 2] = [("short names", SHORT_NAME), ("long names", L
 #[derive(Clone, Copy, PartialEq, Eq)]
 enum Part {
     Aco,
+    Chunks,
     Ase,
     Acb,
     Descriptors,
@@ -39,6 +41,7 @@ fn main() -> ExitCode {
     let args: Vec<String> = std::env::args().skip(1).collect();
     let (part, rest) = match args.first().map(String::as_str) {
         Some("aco") => (Some(Part::Aco), &args[1..]),
+        Some("chunks") => (Some(Part::Chunks), &args[1..]),
         Some("ase") => (Some(Part::Ase), &args[1..]),
         Some("acb") => (Some(Part::Acb), &args[1..]),
         Some("descriptor") => (Some(Part::Descriptors), &args[1..]),
@@ -51,7 +54,7 @@ fn main() -> ExitCode {
         None => DEFAULT_ROUNDS,
         Some(Ok(rounds)) if rounds > 0 => rounds,
         Some(_) => {
-            eprintln!("usage: bench [aco|ase|acb|descriptor|resource|convert] [ROUNDS]");
+            eprintln!("usage: bench [aco|chunks|ase|acb|descriptor|resource|convert] [ROUNDS]");
             return ExitCode::FAILURE;
         }
     };
@@ -61,6 +64,9 @@ fn main() -> ExitCode {
     let mut report = Report::default();
     if wanted(Part::Aco) {
         aco::compare(&mut report, rounds);
+    }
+    if wanted(Part::Chunks) {
+        chunks::compare(rounds);
     }
     if wanted(Part::Ase) {
         ase::compare(&mut report, rounds);

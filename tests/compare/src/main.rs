@@ -3,6 +3,7 @@
 mod acb;
 mod ase;
 mod campaign;
+mod chunks;
 mod converting;
 mod descriptor;
 mod difference;
@@ -25,6 +26,7 @@ use std::process::ExitCode;
 
 const USAGE: &str = "usage: compare [SEED [FILES]]
        compare ase [SEED [FILES]]
+       compare chunks [SEED [FILES]]
        compare walk [SEED [FILES]]
        compare acb [SEED [FILES]]
        compare descriptor [SEED [FILES]]
@@ -47,6 +49,12 @@ fn main() -> ExitCode {
     let rest = args.get(1..).unwrap_or_default();
     let outcome = match args.first().map(String::as_str) {
         Some("ase") => compare_library("ASE", rest, ase::campaign::run, ase::Tally::all_reached),
+        Some("chunks") => compare_library(
+            "chunks",
+            rest,
+            chunks::campaign::run,
+            chunks::Tally::all_reached,
+        ),
         Some("walk") => {
             compare_library("walks", rest, walk::campaign::run, walk::Tally::all_reached)
         }

@@ -11,6 +11,7 @@ pub mod acb;
 pub mod ase;
 mod bytes;
 mod channels;
+mod cuttings;
 mod damage;
 pub mod descriptor;
 mod fixed;
@@ -24,6 +25,7 @@ pub use channels::{
     any_pattern, neighbourhoods, tags, CMYK_TAG, EACH_CLASS, GRAY_TAG, LAB_TAG, ONE, PAIRS,
     RGB_TAG, TAGS,
 };
+pub use cuttings::{chunks, Cutting};
 pub use damage::{damage, Damage};
 pub use fixed::{fixed_files, Answer, Fixed, P2, P3, P3_LISTING, P4};
 pub use palette::{Colour, Layout, Palette, SPACES};

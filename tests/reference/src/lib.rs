@@ -11,6 +11,7 @@
 
 pub mod acb;
 pub mod ase;
+pub mod chunks;
 mod colour;
 mod convert;
 mod cursor;

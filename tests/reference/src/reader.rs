@@ -9,7 +9,7 @@ use crate::refusal::{number, Refusal};
 use crate::{LIMIT, ROW_LEN};
 
 /// The field number that stands for the count where the lists' counts differ.
-const COUNT_FIELD: usize = 5;
+pub(crate) const COUNT_FIELD: usize = 5;
 
 /// What judging an accepted file says of it.
 #[derive(Clone, Copy, Debug, PartialEq, Eq)]
@@ -137,7 +137,7 @@ fn compare_colour(
 /// The refusal for a list 2 colour that is cut or differs, whichever its
 /// fields come to first.
 #[cold]
-fn first_difference(colour: &[u8; COLOUR_LEN], rest: &[u8], place: usize, index: usize) -> Refusal {
+pub(crate) fn first_difference(colour: &[u8; COLOUR_LEN], rest: &[u8], place: usize, index: usize) -> Refusal {
     for field in 0..FIELDS {
         let offset = field * FIELD_LEN;
         match field_at(rest, offset) {

@@ -1,5 +1,6 @@
 //! The proved library's calls, through its C interface. Those for ACB, ASE,
-//! descriptors, resources and runs of samples are in their own modules.
+//! descriptors, resources, runs of samples and ACO files in chunks are in
+//! their own modules.
 //!
 //! This crate has the only declarations of the C functions in Rust, and all
 //! `unsafe` code over them. What makes it sound:
@@ -18,6 +19,7 @@ pub mod acb;
 pub mod ase;
 pub mod descriptor;
 pub mod resource;
+pub mod stream;
 pub mod tray;
 
 use std::fmt::{self, Debug, Formatter};
