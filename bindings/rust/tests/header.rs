@@ -233,9 +233,12 @@ fn structs_of(path: &str) -> Structs {
     rust_structs(&without_comments(&source(path)), &Structs::new())
 }
 
-/// What the library's source exports; a struct of its root is known in its modules.
+/// What the library's source exports; a struct of its root is known in its
+/// modules, and ACO's answer, which chunks give too.
 fn exported() -> Functions {
     let root = structs_of("crates/khuyurek/src/lib.rt");
+    let swatches = without_comments(&source("crates/khuyurek/src/swatches.rt"));
+    let root = rust_structs(&swatches, &root);
     let mut functions = Functions::new();
     for text in &sources("crates/khuyurek/src", "rt") {
         let structs = rust_structs(text, &root);

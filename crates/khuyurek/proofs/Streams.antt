@@ -11,7 +11,7 @@ use Rattle.aco_chunks.specs.declared.Stage.the-variants as v
 use Rattle.aco_chunks.specs.Chunks.{FileVerdict, size}
 use Rattle.aco_stream.specs.declared.Stream.{Stream}
 use Rattle.aco_stream.specs.Answer.{usable, roomy, Feeds, FeedsBy, Finishes, FinishesBy}
-use Rattle.khuyurek.specs.declared.AcoAnswer.{AcoAnswer}
+use Rattle.khuyurek.specs.declared.swatches.AcoAnswer.{AcoAnswer}
 use Rattle.khuyurek.specs.declared.stream.AcoStream.{AcoStream}
 use Rattle.khuyurek.specs.declared.stream.AcoFinished.{AcoFinished}
 use Rattle.khuyurek.specs.Exported.{answerOf}
