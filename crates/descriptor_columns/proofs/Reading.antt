@@ -183,17 +183,18 @@ module _ (s : List ℕ) where
       go (ok rs q) v = let z : _≡_ {A = ℕ} 0 1 = cc in absurd (omega (arith, z))
       go (refuse y q r f) v = (v, λ g c. refl)
 
-  pub refuses : (x p : ℕ) → A.refused x p ≡ verdict (descriptor s) → {a b c d e : List ℕ} → Read s (A.refused x p) a b c d e a b c d e
+  pub refuses : (x p : ℕ) → A.refused x p ≡ verdict (descriptor s) → {a b c d e : List ℕ} → (A.refused x p ≡ answered (descriptor s) (a ∷ b ∷ c ∷ d ∷ e ∷ [])) × Read s a b c d e a b c d e
   refuses x p v {a} {b} {c} {d} {e} =
-      let i = refused-all x p v (a ∷ b ∷ c ∷ d ∷ e ∷ []) in
-      record {
-        answer = i .0;
-        firsts = i .1 (λ rs. columnsOf rs .firsts) a;
-        lengths = i .1 (λ rs. columnsOf rs .lengths) b;
-        nexts = i .1 (λ rs. columnsOf rs .nexts) c;
-        depths = i .1 (λ rs. columnsOf rs .depths) d;
-        kinds = i .1 (λ rs. columnsOf rs .kinds) e;
-      }
+      let i = refused-all x p v (a ∷ b ∷ c ∷ d ∷ e ∷ []) in (
+        i .0,
+        record {
+          firsts = i .1 (λ rs. columnsOf rs .firsts) a;
+          lengths = i .1 (λ rs. columnsOf rs .lengths) b;
+          nexts = i .1 (λ rs. columnsOf rs .nexts) c;
+          depths = i .1 (λ rs. columnsOf rs .depths) d;
+          kinds = i .1 (λ rs. columnsOf rs .kinds) e;
+        },
+      )
 
   pub refuses-values : (x p : ℕ) → A.refused x p ≡ verdict (descriptor s) → (f : List ℕ) → _≡_ {A = Verdict × List ℕ} (A.refused x p, f) (valued s f)
   refuses-values x p v f = let i = refused-all x p v (f ∷ []) in ap (λ (y : Verdict). (y, f)) (i .0) ∙ ap (λ (y : List ℕ). (answered (descriptor s) (f ∷ []), y)) (i .1 valuesOf f)
@@ -237,33 +238,35 @@ module _ (s : List ℕ) where
         ∙ puts-column (g (length s) n) (headsOf (r .all)) c (omega (arith, l, same))
         ∙ ap (λ (x : List ℕ). onto x c) e
 
-    pub short : {a b c d e : List ℕ} → false ≡ fits n (a ∷ b ∷ c ∷ d ∷ e ∷ []) → Read s (A.refused 11 0) a b c d e a b c d e
+    pub short : {a b c d e : List ℕ} → false ≡ fits n (a ∷ b ∷ c ∷ d ∷ e ∷ []) → (A.refused 11 0 ≡ answered (descriptor s) (a ∷ b ∷ c ∷ d ∷ e ∷ [])) × Read s a b c d e a b c d e
     short {a} {b} {c} {d} {e} h =
-        let i = short-all (a ∷ b ∷ c ∷ d ∷ e ∷ []) h in
-        record {
-          answer = i .0;
-          firsts = i .1 (λ rs. columnsOf rs .firsts) a;
-          lengths = i .1 (λ rs. columnsOf rs .lengths) b;
-          nexts = i .1 (λ rs. columnsOf rs .nexts) c;
-          depths = i .1 (λ rs. columnsOf rs .depths) d;
-          kinds = i .1 (λ rs. columnsOf rs .kinds) e;
-        }
+        let i = short-all (a ∷ b ∷ c ∷ d ∷ e ∷ []) h in (
+          i .0,
+          record {
+            firsts = i .1 (λ rs. columnsOf rs .firsts) a;
+            lengths = i .1 (λ rs. columnsOf rs .lengths) b;
+            nexts = i .1 (λ rs. columnsOf rs .nexts) c;
+            depths = i .1 (λ rs. columnsOf rs .depths) d;
+            kinds = i .1 (λ rs. columnsOf rs .kinds) e;
+          },
+        )
 
     pub enough : {a b c d e a′ b′ c′ d′ e′ : List ℕ} → true ≡ fits n (a ∷ b ∷ c ∷ d ∷ e ∷ []) → n ≤ length a → n ≤ length b → n ≤ length c → n ≤ length d → n ≤ length e
-        → Whole s a b c d e a′ b′ c′ d′ e′ → Read s (A.accepted n) a b c d e a′ b′ c′ d′ e′
+        → Whole s a b c d e a′ b′ c′ d′ e′ → (A.accepted n ≡ answered (descriptor s) (a ∷ b ∷ c ∷ d ∷ e ∷ [])) × Read s a b c d e a′ b′ c′ d′ e′
     unfolding rs
     enough {a} {b} {c} {d} {e} h la lb lc ld le w =
         let i = enough-all (a ∷ b ∷ c ∷ d ∷ e ∷ []) h in
-        let hs : List Head = headsOf (r .all) in
-        record {
-          answer = i .0;
-          firsts = w .firsts ∙ as-column (λ e n. firstIn) (λ rs. columnsOf rs .firsts) a la (firsts-given (length s) 0 (λ j. 0) hs) ∙ i .1 (λ rs. columnsOf rs .firsts) a;
-          lengths = w .lengths ∙ as-column (λ e n. lengthIn e) (λ rs. columnsOf rs .lengths) b lb (lengths-given (length s) 0 (λ j. 0) hs) ∙ i .1 (λ rs. columnsOf rs .lengths) b;
-          nexts =
-              w .nexts ∙ as-column (λ e n. nextIn n) (λ rs. columnsOf rs .nexts) c lc (ap (λ (j : ℕ). column (nextIn j) 0 hs) (sym count) ∙ nexts-given (length s) (length rs) 0 (λ j. 0) hs) ∙ i .1 (λ rs. columnsOf rs .nexts) c;
-          depths = w .depths ∙ as-column (λ e n. depthIn) (λ rs. columnsOf rs .depths) d ld (depths-given (length s) 0 (λ j. 0) hs) ∙ i .1 (λ rs. columnsOf rs .depths) d;
-          kinds = w .kinds ∙ as-column (λ e n. kindIn) (λ rs. columnsOf rs .kinds) e le (kinds-given (length s) 0 (λ j. 0) hs) ∙ i .1 (λ rs. columnsOf rs .kinds) e;
-        }
+        let hs : List Head = headsOf (r .all) in (
+          i .0,
+          record {
+            firsts = w .firsts ∙ as-column (λ e n. firstIn) (λ rs. columnsOf rs .firsts) a la (firsts-given (length s) 0 (λ j. 0) hs) ∙ i .1 (λ rs. columnsOf rs .firsts) a;
+            lengths = w .lengths ∙ as-column (λ e n. lengthIn e) (λ rs. columnsOf rs .lengths) b lb (lengths-given (length s) 0 (λ j. 0) hs) ∙ i .1 (λ rs. columnsOf rs .lengths) b;
+            nexts =
+                w .nexts ∙ as-column (λ e n. nextIn n) (λ rs. columnsOf rs .nexts) c lc (ap (λ (j : ℕ). column (nextIn j) 0 hs) (sym count) ∙ nexts-given (length s) (length rs) 0 (λ j. 0) hs) ∙ i .1 (λ rs. columnsOf rs .nexts) c;
+            depths = w .depths ∙ as-column (λ e n. depthIn) (λ rs. columnsOf rs .depths) d ld (depths-given (length s) 0 (λ j. 0) hs) ∙ i .1 (λ rs. columnsOf rs .depths) d;
+            kinds = w .kinds ∙ as-column (λ e n. kindIn) (λ rs. columnsOf rs .kinds) e le (kinds-given (length s) 0 (λ j. 0) hs) ∙ i .1 (λ rs. columnsOf rs .kinds) e;
+          },
+        )
 
     pub short-values : (f : List ℕ) → false ≡ fits n (f ∷ []) → _≡_ {A = Verdict × List ℕ} (A.refused 11 0, f) (valued s f)
     short-values f h = let i = short-all (f ∷ []) h in ap (λ (y : Verdict). (y, f)) (i .0) ∙ ap (λ (y : List ℕ). (answered (descriptor s) (f ∷ []), y)) (i .1 valuesOf f)

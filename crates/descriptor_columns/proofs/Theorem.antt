@@ -33,7 +33,7 @@ unfolding parentsFrom
 parents-append before [] qs = refl
 parents-append before (r ∷ rs) qs = ap (λ (l : List ℕ). parentOf (r .depth) before ∷ l) (parents-append (r .depth ∷ before) rs qs)
 
-map-append : (f : Row → ℕ) (rs qs : List Row) → map f (rs ++ qs) ≡ map f rs ++ map f qs
+pub map-append : (f : Row → ℕ) (rs qs : List Row) → map f (rs ++ qs) ≡ map f rs ++ map f qs
 map-append f [] qs = refl
 map-append f (r ∷ rs) qs = ap (λ (l : List ℕ). f r ∷ l) (map-append f rs qs)
 
@@ -81,12 +81,12 @@ parents-are s rs q e = tiled-parents (rows-laid s rs q e .tiled) [] refl no-pare
 
 -- ---- rows back
 
-getD-map : (f : Row → ℕ) (rs : List Row) (i : ℕ) (d : Row) → i < length rs → getD (map f rs) i 0 ≡ f (getD rs i d)
+pub getD-map : (f : Row → ℕ) (rs : List Row) (i : ℕ) (d : Row) → i < length rs → getD (map f rs) i 0 ≡ f (getD rs i d)
 getD-map f [] i d l = absurd (omega arith)
 getD-map f (r ∷ rs) zero d l = refl
 getD-map f (r ∷ rs) (suc i) d l = getD-map f rs i d (omega arith)
 
-map-length : (f : Row → ℕ) (rs : List Row) → length (map f rs) ≡ length rs
+pub map-length : (f : Row → ℕ) (rs : List Row) → length (map f rs) ≡ length rs
 map-length f [] = refl
 map-length f (r ∷ rs) = ap suc (map-length f rs)
 

@@ -29,9 +29,8 @@ abbrev pub filled : (column : List Row → List ℕ) → Res (List Row) → (run
 filled column (ok rs q) runs run = pick (fits (length rs) runs) (onto (column rs) run) run
 filled column (refuse x p r f) runs run = run
 
--- of a file s, the answer v, and five lent runs before and after
-pub record Read (s : List ℕ) (v : Verdict) (a b c d e a′ b′ c′ d′ e′ : List ℕ) : Type 0 where
-  pub answer : v ≡ answered (descriptor s) (a ∷ b ∷ c ∷ d ∷ e ∷ [])
+-- of a file s, and five lent runs before and after
+pub record Read (s : List ℕ) (a b c d e a′ b′ c′ d′ e′ : List ℕ) : Type 0 where
   pub firsts : a′ ≡ filled (λ rs. columnsOf rs .firsts) (descriptor s) (a ∷ b ∷ c ∷ d ∷ e ∷ []) a
   pub lengths : b′ ≡ filled (λ rs. columnsOf rs .lengths) (descriptor s) (a ∷ b ∷ c ∷ d ∷ e ∷ []) b
   pub nexts : c′ ≡ filled (λ rs. columnsOf rs .nexts) (descriptor s) (a ∷ b ∷ c ∷ d ∷ e ∷ []) c

@@ -10,9 +10,10 @@ ghost use lib.Dec.{eqb};
 ghost use lib.ListN.{length, set};
 ghost use mathlib.Core.List.{_∷_, []};
 ghost use Rattle.algebra.specs.Reader.{pick};
+ghost use Rattle.descriptor.specs.Reading.{descriptor};
 ghost use Rattle.descriptor_judge.specs.Answer.{told};
 ghost use Rattle.descriptor_columns.specs.Columns.{parentsOf};
-ghost use Rattle.descriptor_columns.specs.Filled.{Read, valued, parented, fits, onto};
+ghost use Rattle.descriptor_columns.specs.Filled.{answered, Read, valued, parented, fits, onto};
 ghost use Rattle.descriptor_columns.specs.Filling.{Begun, Done, Rooted, Whole, rest, puts, valueIn};
 ghost use Rattle.descriptor_columns.specs.Parents.{Parented, parentAt};
 use descriptor_judge::Answer;
@@ -311,7 +312,7 @@ pub fn read(
     depth: &mut [u32],
     kind: &mut [u32],
 ) -> Answer
-    ensures { λ r. ⌜ Read (now (file .entry)) (told r) (now (first .entry)) (now (size .entry)) (now (next .entry)) (now (depth .entry)) (now (kind .entry)) (now (first .exit)) (now (size .exit)) (now (next .exit)) (now (depth .exit)) (now (kind .exit)) ⌝ }
+    ensures { λ r. ⌜ (told r ≡ answered (descriptor (now (file .entry))) (now (first .entry) ∷ now (size .entry) ∷ now (next .entry) ∷ now (depth .entry) ∷ now (kind .entry) ∷ [])) × (Read (now (file .entry)) (now (first .entry)) (now (size .entry)) (now (next .entry)) (now (depth .entry)) (now (kind .entry)) (now (first .exit)) (now (size .exit)) (now (next .exit)) (now (depth .exit)) (now (kind .exit))) ⌝ }
 {
     match descriptor_judge::judge(file) {
         Answer::Refused { number, place } => Answer::Refused { number, place },
