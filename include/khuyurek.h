@@ -436,10 +436,6 @@ khuyurek_section khuyurek_document_resources(const uint8_t *document, size_t doc
 
 /* ---- descriptors */
 
-/* The numbers of a row: kind (its four characters as one number), parent, first byte,
- * length, depth. */
-#define KHUYUREK_DESCRIPTOR_WIDTH 5
-
 /* number 0: accepted, with the number of rows. Else the refusal and its place. */
 typedef struct {
     uint32_t number;
@@ -471,11 +467,34 @@ typedef struct {
 
 khuyurek_descriptor_answer khuyurek_descriptor_judge(const uint8_t *file, size_t file_len);
 
-/* Needs KHUYUREK_DESCRIPTOR_WIDTH * rows numbers of the table, else 11; the rest of it
- * keeps its contents. A file has at most file_len / 5 rows, so that a table of
- * KHUYUREK_DESCRIPTOR_WIDTH * (file_len / 5) numbers is never refused for room. */
+/* The rows of a file in five runs, a number a row in each: first byte, length, next sibling,
+ * depth, kind (its four characters as one number). The next sibling of the root and of a last
+ * child is the number of rows. 11 where the shortest run has fewer numbers than the file has
+ * rows; past the rows every run keeps its contents. A file has at most file_len / 5 rows, so
+ * that runs of file_len / 5 numbers are never refused for room. */
 khuyurek_descriptor_answer khuyurek_descriptor_read(const uint8_t *file, size_t file_len,
-                                                    uint32_t *table, size_t table_len);
+                                                    uint32_t *first, size_t first_len,
+                                                    uint32_t *length, size_t length_len,
+                                                    uint32_t *next, size_t next_len,
+                                                    uint32_t *depth, size_t depth_len,
+                                                    uint32_t *kind, size_t kind_len);
+
+/* The first byte of every row's value, in one pass; a value ends where its row ends. 11 where
+ * the run is shorter than the rows; past them it keeps its contents. */
+khuyurek_descriptor_answer khuyurek_descriptor_values(const uint8_t *file, size_t file_len,
+                                                      uint32_t *values, size_t values_len);
+
+/* number 0: accepted, with the number of rows. Else the refusal. */
+typedef struct {
+    uint32_t number;
+    size_t rows;
+} khuyurek_parents;
+
+/* The parent of every row from the depths alone: the last row before it that is less deep, 0
+ * where there is none. Any depths; 11 where parents is shorter than depth, and 1 where there
+ * are more than 4,294,967,295 depths. Past the rows parents keeps its contents. */
+khuyurek_parents khuyurek_descriptor_parents(const uint32_t *depth, size_t depth_len,
+                                             uint32_t *parents, size_t parents_len);
 
 /* Judges the whole file, then 12 where it has no such row. */
 khuyurek_descriptor_value khuyurek_descriptor_value_at(const uint8_t *file,

@@ -218,23 +218,39 @@ static int acb(void) {
 }
 
 static int descriptor(void) {
-    uint32_t table[4 * KHUYUREK_DESCRIPTOR_WIDTH + 1] = {0};
-    table[4 * KHUYUREK_DESCRIPTOR_WIDTH] = 99;
+    uint32_t first[5] = {[4] = 99}, length[5] = {[4] = 99}, next[5] = {[4] = 99};
+    uint32_t depth[5] = {[4] = 99}, kind[5] = {[4] = 99};
 
     CHECK(khuyurek_descriptor_judge(P12, sizeof P12).rows == 4);
     khuyurek_descriptor_answer read = khuyurek_descriptor_read(
-        P12, sizeof P12, table, 4 * KHUYUREK_DESCRIPTOR_WIDTH + 1);
+        P12, sizeof P12, first, 5, length, 5, next, 5, depth, 5, kind, 5);
     CHECK(read.number == 0 && read.place == 0 && read.rows == 4);
-    const uint32_t *list = table + KHUYUREK_DESCRIPTOR_WIDTH;
-    CHECK(list[0] == LIST_KIND && list[1] == 0 && list[2] == 17 && list[3] == 23 && list[4] == 1);
-    const uint32_t *last = table + 3 * KHUYUREK_DESCRIPTOR_WIDTH;
-    CHECK(last[0] == BOOL_KIND && last[1] == 1 && last[2] == 35 && last[3] == 5 && last[4] == 2);
-    CHECK(table[4 * KHUYUREK_DESCRIPTOR_WIDTH] == 99);
-    /* As many rows as any file of this length has. */
-    uint32_t most[KHUYUREK_DESCRIPTOR_WIDTH * (sizeof P12 / 5)];
-    CHECK(khuyurek_descriptor_read(P12, sizeof P12, most, sizeof most / sizeof *most).rows == 4);
-    CHECK(khuyurek_descriptor_read(P12, sizeof P12, table, 4 * KHUYUREK_DESCRIPTOR_WIDTH - 1).number
+    CHECK(first[0] == 0 && length[0] == 40 && next[0] == 4 && depth[0] == 0);
+    CHECK(first[1] == 17 && length[1] == 23 && next[1] == 4 && depth[1] == 1);
+    CHECK(first[2] == 30 && length[2] == 5 && next[2] == 3 && depth[2] == 2);
+    CHECK(first[3] == 35 && length[3] == 5 && next[3] == 4 && depth[3] == 2);
+    CHECK(kind[1] == LIST_KIND && kind[2] == BOOL_KIND && kind[3] == BOOL_KIND);
+    CHECK(first[4] == 99 && length[4] == 99 && next[4] == 99 && depth[4] == 99 && kind[4] == 99);
+    /* One run is a number short. */
+    CHECK(khuyurek_descriptor_read(P12, sizeof P12, first, 4, length, 4, next, 3, depth, 4, kind, 4)
+              .number
           == KHUYUREK_NO_ROOM);
+    /* As many rows as any file of this length has. */
+    uint32_t most[5][sizeof P12 / 5];
+    CHECK(khuyurek_descriptor_read(P12, sizeof P12, most[0], sizeof P12 / 5, most[1],
+                                   sizeof P12 / 5, most[2], sizeof P12 / 5, most[3],
+                                   sizeof P12 / 5, most[4], sizeof P12 / 5)
+              .rows
+          == 4);
+    uint32_t values[5] = {[4] = 99}, parents[5] = {[4] = 99};
+    CHECK(khuyurek_descriptor_values(P12, sizeof P12, values, 5).rows == 4);
+    CHECK(values[0] == 4 && values[1] == 26 && values[2] == 34 && values[3] == 39);
+    CHECK(values[4] == 99);
+    CHECK(khuyurek_descriptor_values(P12, sizeof P12, values, 3).number == KHUYUREK_NO_ROOM);
+    CHECK(khuyurek_descriptor_parents(depth, 4, parents, 5).rows == 4);
+    CHECK(parents[0] == 0 && parents[1] == 0 && parents[2] == 1 && parents[3] == 1);
+    CHECK(parents[4] == 99);
+    CHECK(khuyurek_descriptor_parents(depth, 4, parents, 3).number == KHUYUREK_NO_ROOM);
 
     khuyurek_descriptor_value value = khuyurek_descriptor_value_at(P12, sizeof P12, 1);
     CHECK(value.number == 0 && value.first == 26 && value.length == 14);

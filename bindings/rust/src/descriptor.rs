@@ -5,9 +5,6 @@ use std::fmt::{self, Debug, Display, Formatter, Write};
 use crate::raw::descriptor as raw;
 use crate::Refusal;
 
-/// How many numbers a row has in a table.
-pub const WIDTH: usize = 5;
-
 /// Four characters: a row's kind or a unit. Shown without the spaces at its end.
 #[derive(Clone, Copy, PartialEq, Eq, Hash)]
 pub struct Tag(pub [u8; 4]);
@@ -26,6 +23,8 @@ pub struct Row {
     pub length: usize,
     /// How deep it stands; the root has 0.
     pub depth: usize,
+    /// The number of its next sibling; none where it is the last child, or the root.
+    pub next: Option<usize>,
 }
 
 /// A row's value by its kind.
@@ -45,11 +44,24 @@ pub enum Value {
     Other,
 }
 
-/// The rows of an accepted file, in a table of the exact length.
+/// The columns of an accepted file's rows, each with a number for every row.
+#[derive(Clone, Debug)]
+pub struct Columns {
+    pub first: Vec<u32>,
+    pub length: Vec<u32>,
+    /// The next sibling's number; the number of rows for a last child and the root.
+    pub next: Vec<u32>,
+    pub depth: Vec<u32>,
+    /// The kind's four characters as one number.
+    pub kind: Vec<u32>,
+}
+
+/// The rows of an accepted file.
 #[derive(Clone, Debug)]
 pub struct Rows<'a> {
     file: &'a [u8],
-    table: Vec<u32>,
+    columns: Columns,
+    parents: Vec<u32>,
 }
 
 /// Judges a file: the number of its rows.
@@ -59,9 +71,30 @@ pub fn judge(file: &[u8]) -> Result<usize, Refusal> {
 
 /// Reads a file.
 pub fn read(file: &[u8]) -> Result<Rows<'_>, Refusal> {
-    let mut table = vec![0; WIDTH * judge(file)?];
-    rows(raw::read(file, &mut table))?;
-    Ok(Rows { file, table })
+    let run = vec![0; judge(file)?];
+    let mut columns = Columns {
+        first: run.clone(),
+        length: run.clone(),
+        next: run.clone(),
+        depth: run.clone(),
+        kind: run.clone(),
+    };
+    rows(raw::read(file, columns.lent()))?;
+    let mut parents = run;
+    let answer = raw::parents(&columns.depth, &mut parents);
+    Refusal::unless(answer.number, 0)?;
+    Ok(Rows {
+        file,
+        columns,
+        parents,
+    })
+}
+
+/// Where the value of every row begins. It ends where its row ends.
+pub fn values(file: &[u8]) -> Result<Vec<u32>, Refusal> {
+    let mut values = vec![0; judge(file)?];
+    rows(raw::values(file, &mut values))?;
+    Ok(values)
 }
 
 /// A row's value, the part of the file after its type or form. The whole file is
@@ -96,18 +129,29 @@ impl<'a> Rows<'a> {
     /// How many rows there are, never none.
     #[allow(clippy::len_without_is_empty)]
     pub fn len(&self) -> usize {
-        self.table.len() / WIDTH
+        self.parents.len()
     }
 
     /// The rows in file order.
     pub fn iter(&self) -> impl ExactSizeIterator<Item = Row> + '_ {
-        self.table.chunks_exact(WIDTH).map(Row::from_numbers)
+        (0..self.len()).map(|row| self.row(row))
     }
 
     /// A row by its number, from 0.
     pub fn get(&self, row: usize) -> Option<Row> {
-        let numbers = self.table.chunks_exact(WIDTH).nth(row)?;
-        Some(Row::from_numbers(numbers))
+        (row < self.len()).then(|| self.row(row))
+    }
+
+    fn row(&self, row: usize) -> Row {
+        let next = self.columns.next[row] as usize;
+        Row {
+            kind: Tag(self.columns.kind[row].to_be_bytes()),
+            parent: self.parents[row] as usize,
+            first: self.columns.first[row] as usize,
+            length: self.columns.length[row] as usize,
+            depth: self.columns.depth[row] as usize,
+            next: (next < self.len()).then_some(next),
+        }
     }
 
     /// All bytes of a row, a part of the file.
@@ -115,20 +159,20 @@ impl<'a> Rows<'a> {
         self.file.get(row.first..)?.get(..row.length)
     }
 
-    /// The table.
-    pub fn numbers(&self) -> &[u32] {
-        &self.table
+    /// The columns.
+    pub fn columns(&self) -> &Columns {
+        &self.columns
     }
 }
 
-impl Row {
-    fn from_numbers(numbers: &[u32]) -> Row {
-        Row {
-            kind: Tag(numbers[0].to_be_bytes()),
-            parent: numbers[1] as usize,
-            first: numbers[2] as usize,
-            length: numbers[3] as usize,
-            depth: numbers[4] as usize,
+impl Columns {
+    fn lent(&mut self) -> raw::Columns<'_> {
+        raw::Columns {
+            first: &mut self.first,
+            length: &mut self.length,
+            next: &mut self.next,
+            depth: &mut self.depth,
+            kind: &mut self.kind,
         }
     }
 }

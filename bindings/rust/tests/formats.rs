@@ -392,6 +392,10 @@ fn descriptor_is_read() {
         row("bool", 1, 35, 5, 2),
     ];
     assert_eq!(told, expected);
+    let nexts: Vec<_> = rows.iter().map(|r| r.next).collect();
+    assert_eq!(nexts, [None, None, Some(3), None]);
+    assert_eq!(rows.columns().next, [4, 4, 3, 4]);
+    assert_eq!(descriptor::values(&P12), Ok(vec![4, 26, 34, 39]));
     let last = rows.get(3).unwrap();
     assert_eq!(rows.bytes(&last), Some(&b"bool\x01"[..]));
     assert_eq!(rows.get(4), None);

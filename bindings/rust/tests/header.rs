@@ -56,12 +56,6 @@ fn widths_and_limit_are_the_librarys() {
         ("ASE", "ase", "ase", khuyurek::ase::WIDTH),
         ("ACB", "acb", "acb", khuyurek::acb::WIDTH),
         (
-            "DESCRIPTOR",
-            "descriptor_read",
-            "descriptor_judge",
-            khuyurek::descriptor::WIDTH,
-        ),
-        (
             "RESOURCE",
             "resource",
             "resource",

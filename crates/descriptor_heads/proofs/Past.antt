@@ -128,3 +128,35 @@ module _ (s : List ℕ) where
       let i = pick-inv (leb d deepest) (memberHead d c s at) 10 at 0 0 e in
       let l = accepted (at-lies d c at) o q (i .1) in
       (leb-true d deepest (i .0), i .1, l .0, l .1)
+
+-- ---- a head's value begins before its end
+
+abbrev Valued : Opened → ℕ → Type 0
+Valued o q = o .head .value ≤ q
+
+module _ (s : List ℕ) where
+  item-valued : (d first at : ℕ) → at ≤ length s → Accepts Valued (itemHead d first s at)
+  unfolding itemHead
+  item-valued d first at l = accepts-then (field 4 s at) _ (field-past s 4 at l) (λ t v h. go t v h (sortOf t) refl)
+    where
+      go : (t v : ℕ) → Past s (at + 4) t v → (x : Known Sort) → sortOf t ≡ x
+          → Accepts Valued (known x at (λ sort. then (opens sort s v) (λ o q. ok (record { head = record { kind = t; first = first; depth = d; value = v }; below = o .0; count = o .1 }) q)))
+      go t v h (is sort) e = accepts-then (opens sort s v) _ (opens-past s t v sort e (h .high)) (λ o q w. yes _ q (omega (arith, w .low)))
+      go t v h unknown e = no
+
+  at-valued : (d : ℕ) (c : Due) (at : ℕ) → at ≤ length s → Accepts Valued (memberHead d c s at)
+  unfolding memberHead
+  at-valued d items at l = item-valued d at at l
+  at-valued d pairs at l = accepts-then (id s at) _ (id-past s at l) (λ u q h. item-valued d at q (h .high))
+  at-valued d forms at l = accepts-then (field 4 s at) _ (field-past s 4 at l) (λ t v h. go t v h (formOf t) refl)
+    where
+      go : (t v : ℕ) → Past s (at + 4) t v → (x : Known (Reader Unit)) → formOf t ≡ x → Accepts Valued (known x at (λ r. then (refValue r s v) (λ u q. ok (bare t at d v) q)))
+      go t v h (is r) e = accepts-then (refValue r s v) _ (ref-past r (form-takes t r e) s v (h .high)) (λ u q w. yes _ q (omega (arith, w .low)))
+      go t v h unknown e = no
+  at-valued d (columns m) at l =
+      let j : ℕ → Judged = columnType in
+      accepts-then (id s at) _ (id-past s at l)
+      (λ u q h. accepts-then (judged 4 j s q) _ (judged-past s 4 j q (h .high)) (λ t v x. accepts-then (column m s v) _ (column-past s m v (x .high)) (λ u r w. yes _ r (omega (arith, w .low)))))
+
+  pub head-valued : (d : ℕ) (c : Due) (at : ℕ) → at ≤ length s → (o : Opened) (q : ℕ) → memberHead d c s at ≡ ok o q → o .head .value ≤ q
+  head-valued d c at l o q e = accepted (at-valued d c at l) o q e

@@ -8,6 +8,7 @@ pub mod Whole
 pub mod Unique
 pub mod RoundTrip
 pub mod Values
+pub mod Nexts
 pub mod Rows
 pub mod Examples
 pub mod Cut

@@ -70,6 +70,25 @@ fileRows t = record { kind = 0x4F62_6A63; parent = 0; first = 0; size = length (
 abbrev pub rowCount : Descriptor → ℕ
 rowCount t = length (fileRows t)
 
+-- how many rows members have, with those below them
+unfoldable pub rowsIn : Members → ℕ
+rowsIn none = 0
+rowsIn (one key kind fields children rest) = 1 + rowsIn children + rowsIn rest
+
+-- the first of some members, where it has the number k; n where there is none
+abbrev pub firstOf : (n k : ℕ) → Members → ℕ
+firstOf n k none = n
+firstOf n k (one key kind fields children rest) = k
+
+-- the next siblings of members, the first with number k, and of those below them, in a file of n rows: the next member, and n for the last
+unfoldable pub nexts : (n k : ℕ) → Members → List ℕ
+nexts n k none = []
+nexts n k (one key kind fields children rest) = firstOf n (k + 1 + rowsIn children) rest ∷ (nexts n (k + 1) children ++ nexts n (k + 1 + rowsIn children) rest)
+
+-- the root has none
+unfoldable pub fileNexts : Descriptor → List ℕ
+fileNexts t = rowCount t ∷ nexts (rowCount t) 1 (t .pairs)
+
 -- the values of the rows, in file order: what stands behind a type or form, with the children; for the root all after the version
 unfoldable pub memberValues : Members → List (List ℕ)
 memberValues none = []

@@ -7,6 +7,7 @@ use Rattle.descriptor_judge.specs.Answer.{Verdict, accepted, refused}
 use Rattle.descriptor_read.specs.Values.{Place, lies, refusal}
 use Rattle.descriptor_read.specs.declared.Typed.{Typed}
 use Rattle.descriptor_read.specs.declared.Typed.the-variants as vt
+use Rattle.khuyurek.specs.declared.columns.Parents.{Parents}
 use Rattle.khuyurek.specs.declared.descriptors.DescriptorAnswer.{DescriptorAnswer}
 use Rattle.khuyurek.specs.declared.descriptors.DescriptorValue.{DescriptorValue}
 use Rattle.khuyurek.specs.declared.descriptors.DescriptorTyped.{DescriptorTyped}
@@ -15,9 +16,16 @@ abbrev pub answerOf : Verdict → DescriptorAnswer
 answerOf (accepted n) = record { number = 0; place = 0; rows = n }
 answerOf (refused x p) = record { number = x; place = p; rows = 0 }
 
--- an answer, and what the lent table then holds
+-- an answer, and what the lent run then holds
 abbrev pub readOf : Verdict × List ℕ → DescriptorAnswer × List ℕ
 readOf v = (answerOf (v .0), v .1)
+
+abbrev pub parentsOf : Verdict → Parents
+parentsOf (accepted n) = record { number = 0; rows = n }
+parentsOf (refused x p) = record { number = x; rows = 0 }
+
+abbrev pub parentedOf : Verdict × List ℕ → Parents × List ℕ
+parentedOf v = (parentsOf (v .0), v .1)
 
 abbrev pub valueOf : Place → DescriptorValue
 valueOf (lies v n) = record { number = 0; place = 0; first = v; size = n }

@@ -3,10 +3,9 @@ ghost use mathlib.Core.Path.{_≡_};
 ghost use lib.Ieee.{binary64, toBits};
 ghost use Rattle.descriptor.specs.Reading.{descriptor};
 ghost use Rattle.descriptor_judge.specs.Answer.{verdict, told};
-ghost use Rattle.descriptor_read.specs.Filled.{filled};
 ghost use Rattle.descriptor_read.specs.Values.{rowIn, placeOf, toldValue};
 ghost use Rattle.descriptor_read.specs.Typed.{typedOf};
-ghost use Rattle.khuyurek.specs.Descriptor.{answerOf, readOf, valueOf, flagOf, kinded, typedAs};
+ghost use Rattle.khuyurek.specs.Descriptor.{answerOf, valueOf, flagOf, kinded, typedAs};
 use descriptor::BOOL;
 use descriptor::COMP;
 use descriptor::DOUBLE;
@@ -33,7 +32,7 @@ pub struct DescriptorValue {
     pub size: usize,
 }
 
-fn exported(a: Answer) -> DescriptorAnswer
+pub(crate) fn exported(a: Answer) -> DescriptorAnswer
     ensures { λ r. ⌜ r ≡ answerOf (told a) ⌝ }
 {
     match a {
@@ -75,14 +74,6 @@ pub extern "C" fn khuyurek_descriptor_judge(file: &[u8]) -> DescriptorAnswer
     ensures { λ r. ⌜ r ≡ answerOf (verdict (descriptor (now (file .entry)))) ⌝ }
 {
     exported(descriptor_judge::judge(file))
-}
-
-// Reads a descriptor into a table, five numbers a row.
-#[no_mangle]
-pub extern "C" fn khuyurek_descriptor_read(file: &[u8], table: &mut [u32]) -> DescriptorAnswer
-    ensures { λ r. ⌜ (r, now (table .exit)) ≡ readOf (filled (descriptor (now (file .entry))) (now (table .entry))) ⌝ }
-{
-    exported(descriptor_read::read(file, table))
 }
 
 // Where the value of a row lies.

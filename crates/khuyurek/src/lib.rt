@@ -1,6 +1,7 @@
 // What C and Rust link: the library's calls with plain structs as answers. include/khuyurek.h
 // declares the same for C.
 mod books;
+mod columns;
 mod conversions;
 mod descriptors;
 mod palettes;
@@ -27,6 +28,10 @@ pub use books::khuyurek_acb_record_at;
 pub use books::khuyurek_acb_shown_at;
 pub use books::khuyurek_acb_shown_start;
 pub use books::khuyurek_acb_write;
+pub use columns::Parents;
+pub use columns::khuyurek_descriptor_parents;
+pub use columns::khuyurek_descriptor_read;
+pub use columns::khuyurek_descriptor_values;
 pub use conversions::ChannelBits;
 pub use conversions::SampleValue;
 pub use conversions::khuyurek_to_channel;
@@ -35,7 +40,6 @@ pub use descriptors::DescriptorAnswer;
 pub use descriptors::DescriptorTyped;
 pub use descriptors::DescriptorValue;
 pub use descriptors::khuyurek_descriptor_judge;
-pub use descriptors::khuyurek_descriptor_read;
 pub use descriptors::khuyurek_descriptor_typed_at;
 pub use descriptors::khuyurek_descriptor_value_at;
 pub use palettes::AseAnswer;

@@ -106,11 +106,12 @@ fn list_acb(file: &[u8]) -> Result<Vec<String>, Refusal> {
 fn list_descriptor(file: &[u8]) -> Result<Vec<String>, Refusal> {
     let rows = descriptor::read(file)?;
     let mut lines = vec![format!("descriptor: {} rows", rows.len())];
-    // Values are asked for one by one, and the whole file is judged each time: that
-    // is for settings of usual length.
+    let values = descriptor::values(file)?;
+    // Typed values are asked for one by one, and the whole file is judged each time:
+    // that is for settings of usual length.
     for (i, row) in rows.iter().enumerate() {
         let mut line = " ".repeat(2 * row.depth);
-        let value = descriptor::value_at(file, i)?;
+        let value = &file[values[i] as usize..row.first + row.length];
         // Before its type and value a pair has its key: a length and the bytes.
         let key = &file[row.first..row.first + row.length - value.len() - 4];
         if let Some(key) = key.get(4..) {

@@ -5,7 +5,7 @@ use crate::timing::{alternate, alternate_judges, Times};
 use crate::SEED;
 use generate::descriptor::{deep, flat, lists, wide, Long};
 use generate::Random;
-use reference::descriptor::{self, ROW_LEN};
+use reference::descriptor;
 use std::hint::black_box;
 
 type Shape = fn(usize) -> Long;
@@ -35,6 +35,7 @@ pub fn compare(report: &mut Report, rounds: usize) {
         };
         add("judge", time_judge);
         add("read", time_read);
+        add("values", time_values);
     }
 }
 
@@ -47,22 +48,66 @@ fn time_judge(long: &Long, rounds: usize) -> Times {
 
 fn time_read(long: &Long, rounds: usize) -> Times {
     let file = &long.file;
-    let mut library_table = vec![1; long.rows * ROW_LEN];
-    let mut reference_table = library_table.clone();
-    let read = proved::descriptor::read(file, &mut library_table);
+    let mut library_runs = [(); 5].map(|()| vec![1; long.rows]);
+    let mut reference_runs = library_runs.clone();
+    let read = proved::descriptor::read(file, lent(&mut library_runs));
     assert_eq!((read.number, read.rows), (0, long.rows));
-    assert!(descriptor::read(file, &mut reference_table).is_ok());
-    assert_eq!(library_table, reference_table);
+    assert!(descriptor::read(file, lent_reference(&mut reference_runs)).is_ok());
+    assert_eq!(library_runs, reference_runs);
     alternate(
         file.len(),
         rounds,
         || {
-            let table = black_box(&mut library_table);
-            black_box(proved::descriptor::read(black_box(file), table));
+            let runs = lent(black_box(&mut library_runs));
+            black_box(proved::descriptor::read(black_box(file), runs));
         },
         || {
-            let table = black_box(&mut reference_table);
-            let _ = black_box(descriptor::read(black_box(file), table));
+            let runs = lent_reference(black_box(&mut reference_runs));
+            let _ = black_box(descriptor::read(black_box(file), runs));
+        },
+    )
+}
+
+pub fn lent(runs: &mut [Vec<u32>; 5]) -> proved::descriptor::Columns<'_> {
+    let [first, length, next, depth, kind] = runs;
+    proved::descriptor::Columns {
+        first,
+        length,
+        next,
+        depth,
+        kind,
+    }
+}
+
+pub fn lent_reference(runs: &mut [Vec<u32>; 5]) -> descriptor::Columns<'_> {
+    let [first, length, next, depth, kind] = runs;
+    descriptor::Columns {
+        first,
+        length,
+        next,
+        depth,
+        kind,
+    }
+}
+
+fn time_values(long: &Long, rounds: usize) -> Times {
+    let file = &long.file;
+    let mut library_run = vec![1; long.rows];
+    let mut reference_run = library_run.clone();
+    let read = proved::descriptor::values(file, &mut library_run);
+    assert_eq!((read.number, read.rows), (0, long.rows));
+    assert!(descriptor::values(file, &mut reference_run).is_ok());
+    assert_eq!(library_run, reference_run);
+    alternate(
+        file.len(),
+        rounds,
+        || {
+            let run = black_box(&mut library_run);
+            black_box(proved::descriptor::values(black_box(file), run));
+        },
+        || {
+            let run = black_box(&mut reference_run);
+            let _ = black_box(descriptor::values(black_box(file), run));
         },
     )
 }

@@ -3,8 +3,8 @@
 //! A program that runs out of its stack is stopped, so each size is tried by a
 //! process of its own: this program once more, told whose calls and what size.
 
+use crate::descriptor::{lent, lent_reference};
 use generate::descriptor::{deep, flat, Long};
-use reference::descriptor::ROW_LEN;
 use std::env;
 use std::hint::black_box;
 use std::io;
@@ -16,18 +16,18 @@ const LIMIT: usize = 1 << 24;
 /// From what a thread has at least.
 const SIZES: [usize; 10] = [16, 20, 24, 32, 48, 64, 96, 128, 192, 256];
 
-type Read = fn(&[u8], &mut [u32]);
+type Read = fn(&[u8], &mut [Vec<u32>; 5]);
 type Shape = fn(usize) -> Long;
 
 const READERS: [(&str, Read); 3] = [
     ("nothing", |_, _| {}),
-    ("library", |file, table| {
+    ("library", |file, runs| {
         black_box(proved::descriptor::judge(file));
-        black_box(proved::descriptor::read(file, table));
+        black_box(proved::descriptor::read(file, lent(runs)));
     }),
-    ("reference", |file, table| {
+    ("reference", |file, runs| {
         let _ = black_box(reference::descriptor::judge(file));
-        let _ = black_box(reference::descriptor::read(file, table));
+        let _ = black_box(reference::descriptor::read(file, lent_reference(runs)));
     }),
 ];
 const SHAPES: [(&str, Shape); 2] = [("flat", flat), ("deep", deep)];
@@ -78,10 +78,10 @@ pub fn try_one(args: &[String]) -> ExitCode {
         return ExitCode::FAILURE;
     };
     let long = make(LIMIT);
-    let mut table = vec![0; long.rows * ROW_LEN];
+    let mut runs = [(); 5].map(|()| vec![0; long.rows]);
     thread::scope(|scope| {
         let thread = thread::Builder::new().stack_size(size * KIB);
-        match thread.spawn_scoped(scope, || read(&long.file, &mut table)) {
+        match thread.spawn_scoped(scope, || read(&long.file, &mut runs)) {
             Ok(_) => ExitCode::SUCCESS,
             Err(_) => ExitCode::FAILURE,
         }

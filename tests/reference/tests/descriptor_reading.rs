@@ -6,13 +6,14 @@ use generate::descriptor::{
     P12_LISTING, P12_ROWS, TYPES, UNITS,
 };
 use generate::Random;
-use reference::descriptor::{judge, list, read, typed, value, Typed, Value, LISTING_LIMIT};
+use reference::descriptor::{
+    judge, list, parents, read, typed, value, values, Columns, Typed, Value, LISTING_LIMIT,
+};
 use reference::{Refusal, LIMIT};
 use std::collections::BTreeSet;
 use std::thread;
 
 const CANARY: u32 = 0xC0FF_EE11;
-const ROW_LEN: usize = 5;
 /// What is not optimized uses more.
 const SMALL_STACK: usize = if cfg!(debug_assertions) {
     2 << 20
@@ -42,10 +43,41 @@ fn answer(file: &[u8]) -> Answer {
     }
 }
 
-fn rows_of(file: &[u8]) -> Vec<[u32; ROW_LEN]> {
-    let mut rows = vec![[CANARY; ROW_LEN]; judge(file).unwrap()];
-    assert_eq!(read(file, rows.as_flattened_mut()), Ok(rows.len()));
-    rows
+/// Runs to lend: first byte, length, next sibling, depth, kind.
+struct Runs([Vec<u32>; 5]);
+
+impl Runs {
+    fn of(lens: [usize; 5]) -> Runs {
+        Runs(lens.map(|len| vec![CANARY; len]))
+    }
+
+    fn lent(&mut self) -> Columns<'_> {
+        let [first, length, next, depth, kind] = &mut self.0;
+        Columns {
+            first,
+            length,
+            next,
+            depth,
+            kind,
+        }
+    }
+}
+
+fn runs_of(file: &[u8]) -> Runs {
+    let count = judge(file).unwrap();
+    let mut runs = Runs::of([count; 5]);
+    assert_eq!(read(file, runs.lent()), Ok(count));
+    runs
+}
+
+/// Kind, parent, first byte, length and depth of each row.
+fn rows_of(file: &[u8]) -> Vec<[u32; 5]> {
+    let Runs([first, length, _, depth, kind]) = runs_of(file);
+    let mut parent = vec![CANARY; depth.len()];
+    assert_eq!(parents(&depth, &mut parent), Ok(depth.len()));
+    (0..depth.len())
+        .map(|i| [kind[i], parent[i], first[i], length[i], depth[i]])
+        .collect()
 }
 
 #[test]
@@ -65,22 +97,43 @@ fn rows_of_agreed_files() {
 }
 
 #[test]
-fn tables_have_room_or_not() {
-    for len in 0..=4 * ROW_LEN + 1 {
-        let mut table = vec![CANARY; len];
-        let outcome = read(P12, &mut table);
-        if len < 4 * ROW_LEN {
-            assert_eq!(outcome, Err(refused(11, 0)));
-            assert_eq!(table, vec![CANARY; len]);
-        } else {
-            assert_eq!(outcome, Ok(4));
-            assert_eq!(table[..4 * ROW_LEN], P12_ROWS.concat());
-            assert_eq!(table[4 * ROW_LEN..], vec![CANARY; len - 4 * ROW_LEN]);
+fn runs_have_room_or_not() {
+    for run in 0..5 {
+        for len in 0..=5 {
+            let mut lens = [5; 5];
+            lens[run] = len;
+            let mut runs = Runs::of(lens);
+            let outcome = read(P12, runs.lent());
+            if len < 4 {
+                assert_eq!(outcome, Err(refused(11, 0)));
+                assert_eq!(runs.0, Runs::of(lens).0);
+            } else {
+                assert_eq!(outcome, Ok(4));
+                assert!(runs
+                    .0
+                    .iter()
+                    .all(|run| run[4..].iter().all(|&n| n == CANARY)));
+            }
         }
     }
-    let mut table = [CANARY; 40];
-    assert_eq!(read(&P12[..39], &mut table), Err(refused(2, 39)));
-    assert_eq!(table, [CANARY; 40]);
+    let mut runs = Runs::of([40; 5]);
+    assert_eq!(read(&P12[..39], runs.lent()), Err(refused(2, 39)));
+    assert_eq!(runs.0, Runs::of([40; 5]).0);
+}
+
+#[test]
+fn siblings_values_and_parents() {
+    assert_eq!(runs_of(P12).0[2], [4, 4, 3, 4]);
+    let mut run = [CANARY; 5];
+    assert_eq!(values(P12, &mut run), Ok(4));
+    assert_eq!(run, [4, 26, 34, 39, CANARY]);
+    assert_eq!(values(P12, &mut run[..3]), Err(refused(11, 0)));
+    // Depths of no file.
+    let mut run = [CANARY; 8];
+    assert_eq!(parents(&[3, 5, 4, 4, 9, 0, 2], &mut run), Ok(7));
+    assert_eq!(run, [0, 0, 0, 0, 3, 0, 5, CANARY]);
+    assert_eq!(parents(&[0, 1], &mut run[..1]), Err(refused(11, 0)));
+    assert_eq!(parents(&[], &mut []), Ok(0));
 }
 
 #[test]
@@ -223,8 +276,8 @@ fn long_files_need_little_stack() {
     let reading = move || {
         for long in &files {
             assert_eq!(judge(&long.file), Ok(long.rows));
-            let mut table = vec![0; ROW_LEN * long.rows];
-            assert_eq!(read(&long.file, &mut table), Ok(long.rows));
+            let mut runs = Runs::of([long.rows; 5]);
+            assert_eq!(read(&long.file, runs.lent()), Ok(long.rows));
             let last = value(&long.file, long.rows - 1).unwrap();
             assert_eq!(last.first + last.length, LIMIT);
             assert_eq!(value(&long.file, long.rows), Err(refused(12, 0)));
@@ -238,7 +291,7 @@ fn long_files_need_little_stack() {
 fn the_limit_is_the_longest_file() {
     let file = [flat(LIMIT).file, vec![0]].concat();
     assert_eq!(judge(&file), Err(refused(1, 0)));
-    assert_eq!(read(&file, &mut []), Err(refused(1, 0)));
+    assert_eq!(read(&file, Runs::of([0; 5]).lent()), Err(refused(1, 0)));
     assert_eq!(value(&file, usize::MAX), Err(refused(1, 0)));
     let listed = flat(LISTING_LIMIT);
     let heading = format!("DESC {}\n", listed.rows);

@@ -32,14 +32,52 @@ pub struct Typed {
     pub bits: u64,
 }
 
+/// What is answered where parents are asked for. On a refusal `rows` is 0.
+#[repr(C)]
+#[derive(Clone, Copy, Debug, Default, PartialEq, Eq)]
+pub struct Parents {
+    pub number: u32,
+    pub rows: usize,
+}
+
+/// Five lent runs, one for each column: first byte, length, next sibling, depth,
+/// kind.
+pub struct Columns<'a> {
+    pub first: &'a mut [u32],
+    pub length: &'a mut [u32],
+    pub next: &'a mut [u32],
+    pub depth: &'a mut [u32],
+    pub kind: &'a mut [u32],
+}
+
 extern "C" {
     fn khuyurek_descriptor_judge(file: *const u8, file_len: usize) -> Answer;
     fn khuyurek_descriptor_read(
         file: *const u8,
         file_len: usize,
-        table: *mut u32,
-        table_len: usize,
+        first: *mut u32,
+        first_len: usize,
+        length: *mut u32,
+        length_len: usize,
+        next: *mut u32,
+        next_len: usize,
+        depth: *mut u32,
+        depth_len: usize,
+        kind: *mut u32,
+        kind_len: usize,
     ) -> Answer;
+    fn khuyurek_descriptor_values(
+        file: *const u8,
+        file_len: usize,
+        values: *mut u32,
+        values_len: usize,
+    ) -> Answer;
+    fn khuyurek_descriptor_parents(
+        depth: *const u32,
+        depth_len: usize,
+        parents: *mut u32,
+        parents_len: usize,
+    ) -> Parents;
     fn khuyurek_descriptor_value_at(file: *const u8, file_len: usize, row: usize) -> Value;
     fn khuyurek_descriptor_typed_at(file: *const u8, file_len: usize, row: usize) -> Typed;
 }
@@ -52,9 +90,43 @@ pub fn judge(file: &[u8]) -> Answer {
     unsafe { khuyurek_descriptor_judge(file.as_ptr(), file.len()) }
 }
 
-pub fn read(file: &[u8], table: &mut [u32]) -> Answer {
-    // SAFETY: see above; the table is borrowed for writing.
-    unsafe { khuyurek_descriptor_read(file.as_ptr(), file.len(), table.as_mut_ptr(), table.len()) }
+pub fn read(file: &[u8], columns: Columns<'_>) -> Answer {
+    // SAFETY: see above; the runs are borrowed for writing, and apart.
+    unsafe {
+        khuyurek_descriptor_read(
+            file.as_ptr(),
+            file.len(),
+            columns.first.as_mut_ptr(),
+            columns.first.len(),
+            columns.length.as_mut_ptr(),
+            columns.length.len(),
+            columns.next.as_mut_ptr(),
+            columns.next.len(),
+            columns.depth.as_mut_ptr(),
+            columns.depth.len(),
+            columns.kind.as_mut_ptr(),
+            columns.kind.len(),
+        )
+    }
+}
+
+pub fn values(file: &[u8], values: &mut [u32]) -> Answer {
+    // SAFETY: see above; the run is borrowed for writing.
+    unsafe {
+        khuyurek_descriptor_values(file.as_ptr(), file.len(), values.as_mut_ptr(), values.len())
+    }
+}
+
+pub fn parents(depth: &[u32], parents: &mut [u32]) -> Parents {
+    // SAFETY: see above; the run is borrowed for writing.
+    unsafe {
+        khuyurek_descriptor_parents(
+            depth.as_ptr(),
+            depth.len(),
+            parents.as_mut_ptr(),
+            parents.len(),
+        )
+    }
 }
 
 pub fn value(file: &[u8], row: usize) -> Value {

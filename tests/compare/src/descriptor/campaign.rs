@@ -1,6 +1,6 @@
 //! The files a run goes through.
 
-use super::reading::{check_file, check_laid, check_tables};
+use super::reading::{check_file, check_laid, check_tables, rows_of};
 use super::tally::Tally;
 use crate::difference::{agree, agree_runs, hex, Checked};
 use generate::descriptor::{
@@ -77,9 +77,8 @@ impl Campaign {
             check_file(&fixed.file, &mut random, &mut self.tally)?;
             check_tables(&fixed.file, &mut self.tally)?;
         }
-        let mut table = [[0; 5]; 4];
-        proved::descriptor::read(P12, table.as_flattened_mut());
-        agree_runs(|| "the rows of P12".to_string(), &P12_ROWS, &table)
+        let (_, rows) = rows_of(P12, 4);
+        agree_runs(|| "the rows of P12".to_string(), &P12_ROWS, &rows)
     }
 
     /// A file of every type with each of its bytes at each of its values.

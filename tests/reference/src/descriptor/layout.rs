@@ -12,10 +12,6 @@ pub const DOUBLE_LEN: usize = 8;
 /// The root has depth 0, and no row a greater one than this.
 pub const MAX_DEPTH: u32 = 32;
 
-/// The numbers that stand for a row in a table: its kind, its parent's row
-/// number, its first byte, its length and its depth.
-pub const ROW_LEN: usize = 5;
-
 /// The types of items.
 pub mod item {
     pub const BOOL: u32 = u32::from_be_bytes(*b"bool");

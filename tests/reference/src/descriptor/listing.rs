@@ -1,7 +1,6 @@
 //! What the listing program prints.
 
-use super::layout::ROW_LEN;
-use super::reader::{judge, read};
+use super::reader::{judge, parents, read, Columns};
 use crate::refusal::{number, Refusal};
 use std::fmt::Write;
 
@@ -16,16 +15,28 @@ pub fn list(input: &[u8]) -> String {
     }
 }
 
-fn rows_of(input: &[u8]) -> Result<Vec<[u32; ROW_LEN]>, Refusal> {
+/// Of each row its kind, parent, first byte, length and depth.
+fn rows_of(input: &[u8]) -> Result<Vec<[u32; 5]>, Refusal> {
     if input.len() > LISTING_LIMIT {
         return Err(Refusal::of_call(number::TOO_LONG));
     }
-    let mut rows = vec![[0; ROW_LEN]; judge(input)?];
-    read(input, rows.as_flattened_mut())?;
-    Ok(rows)
+    let run = vec![0; judge(input)?];
+    let [mut first, mut length, mut next, mut depth, mut kind] = [(); 5].map(|()| run.clone());
+    let columns = Columns {
+        first: &mut first,
+        length: &mut length,
+        next: &mut next,
+        depth: &mut depth,
+        kind: &mut kind,
+    };
+    read(input, columns)?;
+    let mut parent = run;
+    parents(&depth, &mut parent)?;
+    let row = |i: usize| [kind[i], parent[i], first[i], length[i], depth[i]];
+    Ok((0..parent.len()).map(row).collect())
 }
 
-fn list_accepted(rows: &[[u32; ROW_LEN]]) -> String {
+fn list_accepted(rows: &[[u32; 5]]) -> String {
     let mut listing = format!("DESC {}\n", rows.len());
     for (row, &[kind, parent, first, length, depth]) in rows.iter().enumerate() {
         let kind = kind.to_be_bytes();

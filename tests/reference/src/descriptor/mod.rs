@@ -7,6 +7,6 @@ mod reader;
 mod rows;
 mod walk;
 
-pub use layout::{MAX_DEPTH, ROW_LEN};
+pub use layout::MAX_DEPTH;
 pub use listing::{list, LISTING_LIMIT};
-pub use reader::{judge, read, typed, value, Typed, Value};
+pub use reader::{judge, parents, read, typed, value, values, Columns, Typed, Value};

@@ -1,7 +1,7 @@
 //! The calls on a descriptor.
 
-use super::layout::{item, ROW_LEN};
-use super::rows::{Count, Fill, Find, Found};
+use super::layout::item;
+use super::rows::{Count, Fill, Find, Found, Values};
 use super::walk::walk;
 use crate::refusal::{number, Refusal};
 
@@ -25,6 +25,32 @@ pub struct Value {
     pub length: usize,
 }
 
+/// The table: a run of numbers for each thing that a row says.
+pub struct Columns<'a> {
+    pub first: &'a mut [u32],
+    pub length: &'a mut [u32],
+    pub next: &'a mut [u32],
+    pub depth: &'a mut [u32],
+    pub kind: &'a mut [u32],
+}
+
+impl Columns<'_> {
+    /// As many rows as the shortest run takes.
+    fn room(&self) -> usize {
+        [
+            &self.first,
+            &self.length,
+            &self.next,
+            &self.depth,
+            &self.kind,
+        ]
+        .map(|run| run.len())
+        .into_iter()
+        .min()
+        .unwrap_or(0)
+    }
+}
+
 /// Judges a whole file, and gives the number of its rows.
 pub fn judge(file: &[u8]) -> Result<usize, Refusal> {
     let mut count = Count::default();
@@ -32,16 +58,44 @@ pub fn judge(file: &[u8]) -> Result<usize, Refusal> {
     Ok(count.rows())
 }
 
-/// Judges the file, then fills its rows into the table, and gives their number.
-/// Nothing of the table changes on a refusal, nor past the rows.
-pub fn read(file: &[u8], table: &mut [u32]) -> Result<usize, Refusal> {
+/// Judges the file, then fills its rows into the columns, and gives their number.
+/// Nothing of them changes on a refusal, nor past the rows.
+pub fn read(file: &[u8], mut columns: Columns<'_>) -> Result<usize, Refusal> {
     let count = judge(file)?;
-    let (rows, _) = table.as_chunks_mut::<ROW_LEN>();
-    let rows = rows
+    if columns.room() < count {
+        return Err(Refusal::of_call(number::NO_ROOM));
+    }
+    walk(file, &mut Fill::new(&mut columns, count))?;
+    Ok(count)
+}
+
+/// Judges the file, then fills in where each row's value begins, and gives the
+/// number of rows. Nothing changes on a refusal, nor past the rows.
+pub fn values(file: &[u8], values: &mut [u32]) -> Result<usize, Refusal> {
+    let count = judge(file)?;
+    let values = values
         .get_mut(..count)
         .ok_or(Refusal::of_call(number::NO_ROOM))?;
-    walk(file, &mut Fill::new(rows))?;
+    walk(file, &mut Values::new(values))?;
     Ok(count)
+}
+
+/// The parent of every row, found from the depths: the last row before it that
+/// stands less deep, 0 where none does.
+pub fn parents(depth: &[u32], parents: &mut [u32]) -> Result<usize, Refusal> {
+    let parents = parents
+        .get_mut(..depth.len())
+        .ok_or(Refusal::of_call(number::NO_ROOM))?;
+    // Rows that may still be a parent: each deeper than the one below it.
+    let mut open: Vec<usize> = Vec::new();
+    for (row, parent) in parents.iter_mut().enumerate() {
+        while open.last().is_some_and(|&last| depth[last] >= depth[row]) {
+            open.pop();
+        }
+        *parent = open.last().map_or(0, |&last| last as u32);
+        open.push(row);
+    }
+    Ok(depth.len())
 }
 
 /// Judges the file, then says where the value of that row lies: from after its

@@ -1,12 +1,15 @@
 //! What becomes of the rows while a file is gone over.
 
-use super::layout::ROW_LEN;
+use super::layout::MAX_DEPTH;
+use super::reader::Columns;
+
+/// No row.
+const NONE: u32 = u32::MAX;
 
 /// What a row's head says of it.
 #[derive(Clone, Copy)]
 pub struct Head {
     pub kind: u32,
-    pub parent: u32,
     pub first: usize,
     /// Where its value begins: after the type or form.
     pub value: usize,
@@ -43,32 +46,77 @@ impl Rows for Count {
     fn close(&mut self, _: u32, _: usize, _: usize) {}
 }
 
-/// Fills a table that has room for all of them.
-pub struct Fill<'a> {
-    table: &'a mut [[u32; ROW_LEN]],
+/// Fills columns that have room for all of them. A row's next sibling is known
+/// when that sibling is met, and until then there is none.
+pub struct Fill<'a, 'b> {
+    columns: &'a mut Columns<'b>,
+    /// How many rows there are, which stands for no sibling.
+    rows: u32,
     next: u32,
+    /// At each depth the last child so far of the row that is open above it.
+    last: [u32; MAX_DEPTH as usize + 2],
 }
 
-impl<'a> Fill<'a> {
-    pub fn new(table: &'a mut [[u32; ROW_LEN]]) -> Self {
-        Fill { table, next: 0 }
+impl<'a, 'b> Fill<'a, 'b> {
+    pub fn new(columns: &'a mut Columns<'b>, rows: usize) -> Self {
+        Fill {
+            columns,
+            rows: rows as u32,
+            next: 0,
+            last: [NONE; MAX_DEPTH as usize + 2],
+        }
     }
 }
 
-impl Rows for Fill<'_> {
+impl Rows for Fill<'_, '_> {
     #[inline(always)]
     fn open(&mut self, head: Head) -> u32 {
         let row = self.next;
         self.next += 1;
+        let (at, depth) = (row as usize, head.depth as usize);
         // A file's places fit 32 bits, since its length does.
-        self.table[row as usize] = [head.kind, head.parent, head.first as u32, 0, head.depth];
+        self.columns.first[at] = head.first as u32;
+        self.columns.depth[at] = head.depth;
+        self.columns.kind[at] = head.kind;
+        self.columns.next[at] = self.rows;
+        let before = self.last[depth];
+        if before != NONE {
+            self.columns.next[before as usize] = row;
+        }
+        self.last[depth] = row;
+        self.last[depth + 1] = NONE;
         row
     }
 
     #[inline(always)]
     fn close(&mut self, row: u32, first: usize, end: usize) {
-        self.table[row as usize][3] = (end - first) as u32;
+        self.columns.length[row as usize] = (end - first) as u32;
     }
+}
+
+/// Fills in where values begin, in a run that has room for all.
+pub struct Values<'a> {
+    values: &'a mut [u32],
+    next: u32,
+}
+
+impl<'a> Values<'a> {
+    pub fn new(values: &'a mut [u32]) -> Self {
+        Values { values, next: 0 }
+    }
+}
+
+impl Rows for Values<'_> {
+    #[inline(always)]
+    fn open(&mut self, head: Head) -> u32 {
+        let row = self.next;
+        self.next += 1;
+        self.values[row as usize] = head.value as u32;
+        row
+    }
+
+    #[inline(always)]
+    fn close(&mut self, _: u32, _: usize, _: usize) {}
 }
 
 /// A row's kind, and where its value lies.

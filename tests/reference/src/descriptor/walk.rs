@@ -33,23 +33,6 @@ struct Walk<'a, R> {
     rows: &'a mut R,
 }
 
-/// The row in whose value the children stand, and the children's depth.
-#[derive(Clone, Copy)]
-struct Parent {
-    row: u32,
-    depth: u32,
-}
-
-impl Parent {
-    /// Whose children stand one deeper than the row at `depth`.
-    fn new(row: u32, depth: u32) -> Self {
-        Parent {
-            row,
-            depth: depth + 1,
-        }
-    }
-}
-
 impl<R: Rows> Walk<'_, R> {
     fn root(&mut self) -> Judged {
         if self.cursor.take_u32()? != VERSION {
@@ -57,32 +40,33 @@ impl<R: Rows> Walk<'_, R> {
         }
         let row = self.rows.open(Head {
             kind: item::OBJECT,
-            parent: 0,
             first: 0,
             value: VERSION_LEN,
             depth: 0,
         });
-        self.object(Parent::new(row, 0))?;
+        self.object(1)?;
         self.rows.close(row, 0, self.cursor.place());
         Ok(())
     }
 
-    fn object(&mut self, parent: Parent) -> Judged {
+    // Below, `depth` is that of the children.
+
+    fn object(&mut self, depth: u32) -> Judged {
         self.class()?;
         let pairs = self.cursor.take_u32()?;
         for _ in 0..pairs {
-            let first = self.child(parent)?;
+            let first = self.child(depth)?;
             self.id()?;
-            self.item(first, parent)?;
+            self.item(first, depth)?;
         }
         Ok(())
     }
 
-    fn list(&mut self, parent: Parent) -> Judged {
+    fn list(&mut self, depth: u32) -> Judged {
         let items = self.cursor.take_u32()?;
         for _ in 0..items {
-            let first = self.child(parent)?;
-            self.item(first, parent)?;
+            let first = self.child(depth)?;
+            self.item(first, depth)?;
         }
         Ok(())
     }
@@ -90,9 +74,9 @@ impl<R: Rows> Walk<'_, R> {
     /// Where a child begins, if it may stand so deep. A count far too large is
     /// found out at the first child that is not there.
     #[inline(always)]
-    fn child(&self, parent: Parent) -> Result<usize, Fault> {
+    fn child(&self, depth: u32) -> Result<usize, Fault> {
         let first = self.cursor.place();
-        if parent.depth > MAX_DEPTH {
+        if depth > MAX_DEPTH {
             return Err(Fault::at(number::TOO_DEEP, first));
         }
         Ok(first)
@@ -100,22 +84,21 @@ impl<R: Rows> Walk<'_, R> {
 
     /// Tells of a child whose type or form was read just now.
     #[inline(always)]
-    fn open(&mut self, kind: u32, first: usize, parent: Parent) -> u32 {
+    fn open(&mut self, kind: u32, first: usize, depth: u32) -> u32 {
         self.rows.open(Head {
             kind,
-            parent: parent.row,
             first,
             value: self.cursor.place(),
-            depth: parent.depth,
+            depth,
         })
     }
 
     /// An item, whose row began at `first` with a key or with the item itself.
     #[inline(always)]
-    fn item(&mut self, first: usize, parent: Parent) -> Judged {
+    fn item(&mut self, first: usize, depth: u32) -> Judged {
         let place = self.cursor.place();
         let kind = self.cursor.take_u32()?;
-        let row = self.open(kind, first, parent);
+        let row = self.open(kind, first, depth);
         match kind {
             item::BOOL => self.boolean()?,
             item::LONG => self.skip::<4>()?,
@@ -126,30 +109,30 @@ impl<R: Rows> Walk<'_, R> {
             item::ENUMERATED => self.enumerated()?,
             item::TYPE | item::GLOBAL_CLASS => self.class()?,
             item::ALIAS | item::PATH | item::RAW => self.counted_bytes()?,
-            item::LIST => self.list(Parent::new(row, parent.depth))?,
-            item::OBJECT | item::GLOBAL_OBJECT => self.object(Parent::new(row, parent.depth))?,
-            item::REFERENCE => self.reference(Parent::new(row, parent.depth))?,
-            item::OBJECT_ARRAY => self.object_array(Parent::new(row, parent.depth))?,
+            item::LIST => self.list(depth + 1)?,
+            item::OBJECT | item::GLOBAL_OBJECT => self.object(depth + 1)?,
+            item::REFERENCE => self.reference(depth + 1)?,
+            item::OBJECT_ARRAY => self.object_array(depth + 1)?,
             _ => return Err(Fault::at(number::UNKNOWN_TYPE, place)),
         }
         self.rows.close(row, first, self.cursor.place());
         Ok(())
     }
 
-    fn reference(&mut self, parent: Parent) -> Judged {
+    fn reference(&mut self, depth: u32) -> Judged {
         let items = self.cursor.take_u32()?;
         for _ in 0..items {
-            let first = self.child(parent)?;
-            self.reference_item(first, parent)?;
+            let first = self.child(depth)?;
+            self.reference_item(first, depth)?;
         }
         Ok(())
     }
 
     /// The form is known or not before the class is looked for.
     #[inline(always)]
-    fn reference_item(&mut self, first: usize, parent: Parent) -> Judged {
+    fn reference_item(&mut self, first: usize, depth: u32) -> Judged {
         let kind = self.cursor.take_u32()?;
-        let row = self.open(kind, first, parent);
+        let row = self.open(kind, first, depth);
         match kind {
             form::CLASS => self.class()?,
             form::ENUMERATED => {
@@ -174,26 +157,26 @@ impl<R: Rows> Walk<'_, R> {
         Ok(())
     }
 
-    fn object_array(&mut self, parent: Parent) -> Judged {
+    fn object_array(&mut self, depth: u32) -> Judged {
         let objects = self.cursor.take_u32()?;
         self.class()?;
         let pairs = self.cursor.take_u32()?;
         for _ in 0..pairs {
-            let first = self.child(parent)?;
+            let first = self.child(depth)?;
             self.id()?;
-            self.array_pair(first, parent, objects)?;
+            self.array_pair(first, depth, objects)?;
         }
         Ok(())
     }
 
     /// What follows the key of an object array's pair.
     #[inline(always)]
-    fn array_pair(&mut self, first: usize, parent: Parent, objects: u32) -> Judged {
+    fn array_pair(&mut self, first: usize, depth: u32, objects: u32) -> Judged {
         let place = self.cursor.place();
         if self.cursor.take_u32()? != UNIT_DOUBLES {
             return Err(Fault::at(number::UNKNOWN_TYPE, place));
         }
-        let row = self.open(UNIT_DOUBLES, first, parent);
+        let row = self.open(UNIT_DOUBLES, first, depth);
         self.unit(is_array_unit)?;
         let place = self.cursor.place();
         if self.cursor.take_u32()? != objects {

@@ -1,0 +1,10 @@
+pub mod Walking
+pub mod Stores
+pub mod Levels
+pub mod Turns
+pub mod Room
+pub mod Given
+pub mod Reading
+pub mod Upward
+pub mod Valued
+pub mod Theorem
