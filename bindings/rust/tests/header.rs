@@ -227,15 +227,14 @@ fn structs_of(path: &str) -> Structs {
     rust_structs(&without_comments(&source(path)), &Structs::new())
 }
 
-/// What the library's source exports; a struct of its root is known in its
-/// modules, and ACO's answer, which chunks give too.
+/// What the library's source exports; a struct of one module is known in all.
 fn exported() -> Functions {
-    let root = structs_of("crates/khuyurek/src/lib.rt");
-    let swatches = without_comments(&source("crates/khuyurek/src/swatches.rt"));
-    let root = rust_structs(&swatches, &root);
+    let texts = sources("crates/khuyurek/src", "rt");
+    // Twice, since one may hold another's.
+    let both = texts.iter().chain(&texts);
+    let structs = both.fold(Structs::new(), |known, text| rust_structs(text, &known));
     let mut functions = Functions::new();
-    for text in &sources("crates/khuyurek/src", "rt") {
-        let structs = rust_structs(text, &root);
+    for text in &texts {
         for after in text.split("pub extern \"C\" fn ").skip(1) {
             // What an answer promises, or its body, follows its type.
             let end = after.find("ensures").expect("each says what it answers");

@@ -14,7 +14,7 @@ use Rattle.aco_stream.specs.Answer.{usable, roomy, Feeds, FeedsBy, Finishes, Fi
 use Rattle.khuyurek.specs.declared.swatches.AcoAnswer.{AcoAnswer}
 use Rattle.khuyurek.specs.declared.stream.AcoStream.{AcoStream}
 use Rattle.khuyurek.specs.declared.stream.AcoFinished.{AcoFinished}
-use Rattle.khuyurek.specs.Exported.{answerOf}
+use Rattle.khuyurek.specs.Aco.{answerOf}
 use Rattle.khuyurek.specs.Stream.{isSet, isEnded, streamOf, endedNumbers, finishedBy, finishedOf}
 use Rattle.khuyurek.specs.StreamParts.{flagOf, plainOf}
 
