@@ -11,49 +11,37 @@ use Rattle.colour.specs.Spaces.{full}
 use Rattle.colour.specs.declared.model.Model.{Model}
 use Rattle.convert.specs.Convert.{Converted, gives, refused, andThen, toChannel, toSample, Counterparts, back}
 use Rattle.convert.proofs.Theorems.{all-return}
+use Rattle.tray.specs.Promise.{Each, FirstOf}
 use Rattle.tray.specs.Tray.{atPosition, inOrder, toBitsOf}
 
 module _ (f : ℕ → Converted ℕ) where
-  -- ---- given: as many results as elements, each that of its element
-
-  pub record Each (xs ys : List ℕ) : Type 0 where
-    pub many : length ys ≡ length xs
-    pub own : (j : ℕ) → j < length xs → f (getD xs j 0) ≡ gives (getD ys j 0)
-
-  pub results-each : (k : ℕ) (xs ys : List ℕ) → inOrder f k xs ≡ gives ys → Each xs ys
+  pub results-each : (k : ℕ) (xs ys : List ℕ) → inOrder f k xs ≡ gives ys → Each f xs ys
   unfolding inOrder
   results-each k [] ys e = go ys e
     where
-      go : (ys : List ℕ) → gives [] ≡ gives ys → Each [] ys
+      go : (ys : List ℕ) → gives [] ≡ gives ys → Each f [] ys
       go [] e = record { many = refl; own = λ j h. absurd (omega arith) }
       go (y ∷ ys) e = let z : _≡_ {A = List ℕ} [] (y ∷ ys) = cc in let w : _≡_ {A = ℕ} 0 1 = cc in absurd (omega arith)
   results-each k (x ∷ xs) ys e = go (f x) refl (inOrder f (k + 1) xs) (results-each (k + 1) xs) e
     where
-      go : (c : Converted ℕ) → f x ≡ c → (m : Converted (List ℕ)) → ((zs : List ℕ) → m ≡ gives zs → Each xs zs) → andThen (atPosition k c) (λ z. andThen m (λ zs. gives (z ∷ zs))) ≡ gives ys → Each (x ∷ xs) ys
+      go : (c : Converted ℕ) → f x ≡ c → (m : Converted (List ℕ)) → ((zs : List ℕ) → m ≡ gives zs → Each f xs zs) → andThen (atPosition k c) (λ z. andThen m (λ zs. gives (z ∷ zs))) ≡ gives ys → Each f (x ∷ xs) ys
       go (refused n p) c m h e = let z : _≡_ {A = ℕ} 0 1 = cc in absurd (omega arith)
       go (gives y) c (refused n p) h e = let z : _≡_ {A = ℕ} 0 1 = cc in absurd (omega arith)
       go (gives y) c (gives zs) h e = put ys cc
         where
-          put : (ys : List ℕ) → ys ≡ y ∷ zs → Each (x ∷ xs) ys
+          put : (ys : List ℕ) → ys ≡ y ∷ zs → Each f (x ∷ xs) ys
           put ys g = rw g (record { many = ap suc (h zs refl .many); own = at })
             where
               at : (j : ℕ) → j < suc (length xs) → f (getD (x ∷ xs) j 0) ≡ gives (getD (y ∷ zs) j 0)
               at zero l = c
               at (suc j) l = h zs refl .own j (omega arith)
 
-  -- ---- refused: element j is, by that number, and none before it
-
-  pub record FirstOf (xs : List ℕ) (n j : ℕ) : Type 0 where
-    pub inside : j < length xs
-    pub own : (p : ℕ) × (f (getD xs j 0) ≡ refused n p)
-    pub before : (h : ℕ) → h < j → (y : ℕ) × (f (getD xs h 0) ≡ gives y)
-
-  pub refused-first : (k : ℕ) (xs : List ℕ) (n i : ℕ) → inOrder f k xs ≡ refused n i → (j : ℕ) × (i ≡ k + j) × FirstOf xs n j
+  pub refused-first : (k : ℕ) (xs : List ℕ) (n i : ℕ) → inOrder f k xs ≡ refused n i → (j : ℕ) × (i ≡ k + j) × FirstOf f xs n j
   unfolding inOrder
   refused-first k [] n i e = let z : _≡_ {A = ℕ} 0 1 = cc in absurd (omega arith)
   refused-first k (x ∷ xs) n i e = go (f x) refl (inOrder f (k + 1) xs) (refused-first (k + 1) xs) e
     where
-      go : (c : Converted ℕ) → f x ≡ c → (m : Converted (List ℕ)) → ((n i : ℕ) → m ≡ refused n i → (j : ℕ) × (i ≡ k + 1 + j) × FirstOf xs n j) → andThen (atPosition k c) (λ z. andThen m (λ zs. gives (z ∷ zs))) ≡ refused n i → (j : ℕ) × (i ≡ k + j) × FirstOf (x ∷ xs) n j
+      go : (c : Converted ℕ) → f x ≡ c → (m : Converted (List ℕ)) → ((n i : ℕ) → m ≡ refused n i → (j : ℕ) × (i ≡ k + 1 + j) × FirstOf f xs n j) → andThen (atPosition k c) (λ z. andThen m (λ zs. gives (z ∷ zs))) ≡ refused n i → (j : ℕ) × (i ≡ k + j) × FirstOf f (x ∷ xs) n j
       go (refused a p) c m h e =
           let at : i ≡ k = cc in
           let number : a ≡ n = cc in
@@ -67,7 +55,7 @@ module _ (f : ℕ → Converted ℕ) where
           later : (i k j : ℕ) → i ≡ k + 1 + j → i ≡ k + suc j
           later i k j e = omega arith
 
-          earlier : {j : ℕ} → FirstOf xs n j → (h : ℕ) → h < suc j → (y : ℕ) × (f (getD (x ∷ xs) h 0) ≡ gives y)
+          earlier : {j : ℕ} → FirstOf f xs n j → (h : ℕ) → h < suc j → (y : ℕ) × (f (getD (x ∷ xs) h 0) ≡ gives y)
           earlier w zero l = (y, c)
           earlier w (suc h) l = w .before h (omega arith)
 
