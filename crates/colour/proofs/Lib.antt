@@ -3,3 +3,4 @@ pub mod Laws
 pub mod Unit
 pub mod Models
 pub mod Kept
+pub mod Inks

@@ -1,3 +1,4 @@
 pub mod Models
+pub mod Inks
 pub mod Spaces
 pub mod Channels

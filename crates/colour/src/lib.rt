@@ -1,6 +1,7 @@
-// Colours: the spaces of ACO files with their samples, and the models of ASE files with their
-// channels.
+// Colours: the spaces of ACO files with their samples, the models of ASE files with their
+// channels, and inks.
 mod channel;
+mod ink;
 mod model;
 mod space;
 
@@ -8,6 +9,8 @@ pub use channel::Channels;
 pub use channel::Made;
 pub use channel::bits_of;
 pub use channel::is_channel;
+pub use ink::Ink;
+pub use ink::KnownInk;
 pub use model::Known;
 pub use model::Model;
 pub use model::Traits;
