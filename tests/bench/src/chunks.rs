@@ -22,7 +22,14 @@ pub fn compare(rounds: usize) {
     println!("judge: the library's whole-file judge; to it: chunks to judge, in time\n");
     println!(
         "{:12} {:>9} {:>8} {:>13} {:>15} {:>6} {:>11} {:>7}",
-        "palette", "bytes", "chunk", "library ns/B", "reference ns/B", "ratio", "judge ns/B", "to it"
+        "palette",
+        "bytes",
+        "chunk",
+        "library ns/B",
+        "reference ns/B",
+        "ratio",
+        "judge ns/B",
+        "to it"
     );
     for (title, units, colours) in KINDS {
         let file = Palette::uniform(&mut Random::new(SEED), colours, units).file();

@@ -147,12 +147,7 @@ impl Stream {
     }
 
     /// Whole colours, as many as stand in these bytes, the first of them at `place`.
-    fn take_colours<'a>(
-        &mut self,
-        store: &mut [u8],
-        bytes: &'a [u8],
-        place: usize,
-    ) -> &'a [u8] {
+    fn take_colours<'a>(&mut self, store: &mut [u8], bytes: &'a [u8], place: usize) -> &'a [u8] {
         let due = usize::from(self.colours - self.index);
         let (whole, _) = bytes.as_chunks::<COLOUR_LEN>();
         let whole = &whole[..due.min(whole.len())];
@@ -179,7 +174,12 @@ impl Stream {
         let (twin, rest) = bytes.split_at(COLOUR_LEN);
         let colour = self.own(store);
         if twin != colour {
-            self.fail(first_difference(&colour, twin, self.total, self.index.into()));
+            self.fail(first_difference(
+                &colour,
+                twin,
+                self.total,
+                self.index.into(),
+            ));
             return rest;
         }
         let (count, rest) = rest.split_first_chunk().expect("there is a count");

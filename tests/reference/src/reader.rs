@@ -137,7 +137,12 @@ fn compare_colour(
 /// The refusal for a list 2 colour that is cut or differs, whichever its
 /// fields come to first.
 #[cold]
-pub(crate) fn first_difference(colour: &[u8; COLOUR_LEN], rest: &[u8], place: usize, index: usize) -> Refusal {
+pub(crate) fn first_difference(
+    colour: &[u8; COLOUR_LEN],
+    rest: &[u8],
+    place: usize,
+    index: usize,
+) -> Refusal {
     for field in 0..FIELDS {
         let offset = field * FIELD_LEN;
         match field_at(rest, offset) {

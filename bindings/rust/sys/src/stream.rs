@@ -47,11 +47,7 @@ extern "C" {
         chunk: *const u8,
         chunk_len: usize,
     ) -> Fed;
-    fn khuyurek_aco_stream_finish(
-        stream: Stream,
-        store: *const u8,
-        store_len: usize,
-    ) -> Finished;
+    fn khuyurek_aco_stream_finish(stream: Stream, store: *const u8, store_len: usize) -> Finished;
 }
 
 // Each pointer below comes with the length of the slice it was taken from, is

@@ -16,13 +16,13 @@ returns : tie.Need-returns
 returns c = search needs
 
 returns-2 : tie.Need-returns-2
-returns-2 c = known-far _ _ _ _ (c .before .if1 .left) (c .if2 .taken) ∙ sym (ap (λ (v : _). known (told v)) (c .before .before .before .a2 .given .1))
+returns-2 c = known-far _ _ _ _ (c .before .if1 .left) (omega (arith, c .if2 .taken)) ∙ sym (ap (λ (v : _). known (told v)) (c .before .before .before .a2 .given .1))
 
 returns-3 : tie.Need-returns-3
 returns-3 c = sym (ap (λ (v : _). known (told v)) (c .before .a .given .1))
 
 returns-4 : tie.Need-returns-4
-returns-4 c = known-near _ _ _ _ (c .before .if1 .left) (c .if2 .left) ∙ sym (ap (λ (v : _). known (told v)) (c .before .before .before .a2 .given .1))
+returns-4 c = known-near _ _ _ _ (c .before .if1 .left) (omega (arith, c .if2 .left)) ∙ sym (ap (λ (v : _). known (told v)) (c .before .before .before .a2 .given .1))
 
 pub known-of-spec : {M : Type 1} → statement M
 known-of-spec =

@@ -59,10 +59,10 @@ enum-told-2 : tie.Need-enum-told-2 Inv-loop μ-loop
 enum-told-2 c = search needs
 
 returns : tie.Need-returns Inv-loop μ-loop
-returns c = let l = c .before .before .before .before .before .loop in (l .inv .0, l .inv .2)
+returns c = let l = c .before .before .before .before .before .loop in (omega (arith, l .inv .0), l .inv .2)
 
 returns-2 : tie.Need-returns-2 Inv-loop μ-loop
-returns-2 c = let l = c .before .loop in (l .inv .0, l .inv .2)
+returns-2 c = let l = c .before .loop in (omega (arith, l .inv .0), l .inv .2)
 
 pub sound-in-spec : {M : Type 1} → statement M
 sound-in-spec =

@@ -38,12 +38,7 @@ pub fn check_altered(
     checked.map_err(|difference| difference.given("stream", format!("{altered:?}")))
 }
 
-fn check_calls(
-    stream: Stream,
-    chunk: &[u8],
-    stores: &mut Stores,
-    tally: &mut Tally,
-) -> Checked {
+fn check_calls(stream: Stream, chunk: &[u8], stores: &mut Stores, tally: &mut Tally) -> Checked {
     if !is_usable(&stream) {
         refused(stream, number::OUT_OF_RANGE, stores.for_library(), chunk)?;
         refused(stream, number::OUT_OF_RANGE, stores.too_short(), chunk)?;
@@ -61,7 +56,11 @@ fn check_calls(
         ended: 1,
         ..fed.stream
     };
-    agree(|| "an altered stream's end".into(), &ended, &finished.stream)?;
+    agree(
+        || "an altered stream's end".into(),
+        &ended,
+        &finished.stream,
+    )?;
     agree(
         || "the number is one of a file".into(),
         &true,

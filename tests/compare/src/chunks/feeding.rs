@@ -69,7 +69,12 @@ fn check_calls(
 fn started(stores: &mut Stores) -> Checked<Stream> {
     let short = start(stores.too_short());
     agree(|| "a short start".into(), &number::NO_ROOM, &short.number)?;
-    refused(short.stream, number::OUT_OF_RANGE, stores.for_library(), &[1])?;
+    refused(
+        short.stream,
+        number::OUT_OF_RANGE,
+        stores.for_library(),
+        &[1],
+    )?;
     let begun = start(stores.for_library());
     agree(|| "the start".into(), &0, &begun.number)?;
     Ok(begun.stream)
@@ -79,14 +84,22 @@ fn started(stores: &mut Stores) -> Checked<Stream> {
 pub fn refused(stream: Stream, number: u32, store: &mut [u8], chunk: &[u8]) -> Checked {
     let fed = feed(stream, store, chunk);
     agree(|| "a refused chunk".into(), &number, &fed.number)?;
-    agree(|| "the stream of a refused chunk".into(), &stream, &fed.stream)?;
+    agree(
+        || "the stream of a refused chunk".into(),
+        &stream,
+        &fed.stream,
+    )?;
     let found = finish(stream, store);
     let wanted = Answer {
         number,
         ..Answer::default()
     };
     agree(|| "a refused end".into(), &wanted, &found.answer)?;
-    agree(|| "the stream of a refused end".into(), &stream, &found.stream)
+    agree(
+        || "the stream of a refused end".into(),
+        &stream,
+        &found.stream,
+    )
 }
 
 /// The end's answer, by the reference's, and by both whole-file readers.
