@@ -210,12 +210,15 @@ fn structs_of(path: &str) -> Structs {
     rust_structs(&without_comments(&source(path)), &Structs::new())
 }
 
-/// What the library's source exports; a struct of its root is known in its modules.
+/// What the library's source exports; a struct of its root, or of a module before, is
+/// known in its modules.
 fn exported() -> Functions {
     let root = structs_of("crates/khuyurek/src/lib.rt");
+    let texts = sources("crates/khuyurek/src", "rt");
+    let known = texts.iter().fold(root, |all, text| rust_structs(text, &all));
     let mut functions = Functions::new();
-    for text in &sources("crates/khuyurek/src", "rt") {
-        let structs = rust_structs(text, &root);
+    for text in &texts {
+        let structs = rust_structs(text, &known);
         for after in text.split("pub extern \"C\" fn ").skip(1) {
             // What an answer promises, or its body, follows its type.
             let end = after.find("ensures").expect("each says what it answers");
