@@ -117,7 +117,7 @@ cast-values c =
     let l = W.due (o .what) (o .objects) (o .left) in
     let f = W.facts (a .file .now) (a .rows) (rest (a .file .now) (a .due) (a .arity) (a .count) (a .start)) (a .values .now) l g in
     let w = W.seen (a .file .now) (a .rows) (rest (a .file .now) (a .due) (a .arity) (a .count) (a .start)) (a .values .now) l g _ (c .before .before .if1 .left) (c .before .head-at .ensures) in
-    omega (arith, w .3)
+    omega (arith, w .2, w .3, g .walking .size)
 
 -- src/lib.rt:220:9
 mul-values : tie.Need-mul-values Inv-loop μ-loop
