@@ -18,9 +18,9 @@ use Rattle.algebra.proofs.Inverse.{clash, ok-value, ok-place, done-inv, then-in
 use Rattle.acb.specs.Reading.{string, Entry, colour, componentsOf}
 use Rattle.acb.proofs.Laws.{components-some}
 use Rattle.acb_judge.proofs.Judging.{string-is, colour-in}
-use Rattle.acb_read.specs.Answer.{Shown, shown}
+use Rattle.acb_read.specs.Answer.{RecordPlaces, recordPlaces}
 use Rattle.acb_read.specs.Walked.{stepped, step}
-use Rattle.acb_read.specs.Parts.{wholeAt}
+use Rattle.acb_read.specs.scaffold.Parts.{wholeAt}
 
 -- ---- bytes in a row
 
@@ -52,7 +52,7 @@ pub record Recorded (s : List ℕ) (n at : ℕ) (e : Entry) (q : ℕ) : Type 0 w
   pub start : 4 ≤ length s - at
   pub next : at + 4 + 2 * num 4 s at + 6 + n ≡ q
   pub inside : q ≤ length s
-  pub is : (shown (accepted e), q) ≡ wholeAt n s (at + 4) (num 4 s at)
+  pub is : (recordPlaces (accepted e), q) ≡ wholeAt n s (at + 4) (num 4 s at)
 
 string-inv : (s : List ℕ) (at : ℕ) {nm : Name} {q : ℕ} → string s at ≡ ok nm q → (nm .first ≡ at + 4) × (length (nm .units) ≡ num 4 s at) × (at + 4 + 2 * num 4 s at ≡ q) × (4 ≤ length s - at) × (num 4 s at * 2 ≤ length s - (at + 4))
 unfolding string
@@ -116,19 +116,19 @@ module _ (x : ℕ) (s : List ℕ) (at : ℕ) where
   n = componentsOf x
 
   -- no record stands there
-  none : ((e : Entry) (q : ℕ) → Recorded s n at e q → ⊥) → (shown (refused 5 0 0 0), at) ≡ step x s at
+  none : ((e : Entry) (q : ℕ) → Recorded s n at e q → ⊥) → (recordPlaces (refused 5 0 0 0), at) ≡ step x s at
   unfolding step
   none h = go (colour n s at) refl
     where
-      go : (m : Res Entry) → colour n s at ≡ m → (shown (refused 5 0 0 0), at) ≡ stepped at m
+      go : (m : Res Entry) → colour n s at ≡ m → (recordPlaces (refused 5 0 0 0), at) ≡ stepped at m
       go (ok e q) d = absurd (h e q (recorded s n at (components-some x) d))
       go (refuse y p r f) d = refl
 
-  pub step-short : refuse 2 at 0 0 ≡ field 4 s at → (shown (refused 5 0 0 0), at) ≡ step x s at
+  pub step-short : refuse 2 at 0 0 ≡ field 4 s at → (recordPlaces (refused 5 0 0 0), at) ≡ step x s at
   step-short e = none (λ y q r. clash (e ∙ field-in 4 s at (r .start)))
 
   module _ (u first : ℕ) (e : ok u first ≡ field 4 s at) where
-    pub step-cut : length s < first + 2 * u + 6 + n → (shown (refused 5 0 0 0), at) ≡ step x s at
+    pub step-cut : length s < first + 2 * u + 6 + n → (recordPlaces (refused 5 0 0 0), at) ≡ step x s at
     step-cut h = let f = field-inv 4 s at (sym e) in none (λ y q r. omega (arith, f .1, f .2, r .next, r .inside))
 
     pub step-whole : first + 2 * u + 6 + n ≤ length s → wholeAt n s first u ≡ step x s at

@@ -8,18 +8,19 @@ ghost use Rattle.algebra.specs.Numbers.{be, joined};
 ghost use Rattle.acb.specs.Grammar.{stringBytes, colourBytes, tagBytes, endingBytes, fileBytes};
 ghost use Rattle.acb.specs.Faults.{endingFault};
 ghost use Rattle.acb_judge.specs.Answer.{toldText, toldHeader, toldTag};
-ghost use Rattle.acb_records.specs.Writing.{unitsIn, componentsIn, colourIn, bookIn, sizes, stringSize, sizeIn, tagSize, endingSize, headSize, size, headFault, fault, written};
+ghost use Rattle.acb_write_judge.specs.Writing.{unitsIn, componentsIn, colourIn, bookIn, sizes, stringSize, sizeIn, tagSize, endingSize, headSize, size, headFault, fault, written};
 ghost use Rattle.algebra.specs.Table.{rows, whole};
 ghost use Rattle.acb.specs.Row.{width, taken};
 ghost use Rattle.fields.specs.Answer.{toldWritten};
-ghost use Rattle.acb_records.specs.Answer.{toldEnding};
-ghost use Rattle.acb_records.specs.Parts.{toldRecord, start, numberBytes, headingBytes, StringFits, TextsFit, RecordFits, RecordsFit};
+ghost use Rattle.acb_write_judge.specs.Answer.{toldEnding};
+ghost use Rattle.acb_write_judge.specs.Parts.{toldRecord};
+ghost use Rattle.acb_write_judge.specs.scaffold.Parts.{start, numberBytes, headingBytes, StringFits, TextsFit, RecordFits, RecordsFit};
 use acb::WIDTH;
 use acb_judge::Header;
 use acb_judge::Tag;
 use acb_judge::Text;
-use acb_records::Ending;
-use acb_records::Record;
+use acb_write_judge::Ending;
+use acb_write_judge::Record;
 use fields::Written;
 
 // The halves of the closing tags: `spfl`, and `spot` or `proc`.
@@ -100,7 +101,7 @@ fn put_colours(out: &mut [u8], at: usize, run: &[u32], text: &[u8], count: usize
     let mut p = at;
     let mut i: usize = 0;
     while i < count {
-        p = put_colour(out, p, text, acb_records::record_at(run, i), n);
+        p = put_colour(out, p, text, acb_write_judge::record_at(run, i), n);
         i += 1;
     }
     p
@@ -198,7 +199,7 @@ pub fn write(
 ) -> Written
     ensures { λ r. ⌜ (toldWritten r, now (out .exit)) ≡ written (now (text .entry)) (toldHeader header) (toldEnding ending) (whole width taken (now (records .entry))) (now (out .entry)) ⌝ }
 {
-    match acb_records::write_length(header, ending, records, text) {
+    match acb_write_judge::write_length(header, ending, records, text) {
         Written::Refused(x) => Written::Refused(x),
         Written::Bytes(size) => {
             if out.len() < size {

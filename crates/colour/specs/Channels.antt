@@ -7,8 +7,8 @@ use lib.Ieee.{Float, fin, binary32, le, ofBits, toBits}
 use lib.Ieee.Scale.{finite}
 use Rattle.algebra.specs.Reader.{pick}
 use Rattle.colour.specs.Models.{modelOf}
-use Rattle.colour.specs.declared.model.Known.{Known}
-use Rattle.colour.specs.declared.model.Known.the-variants.{Is, Unknown}
+use Rattle.colour.specs.declared.model.KnownModel.{KnownModel}
+use Rattle.colour.specs.declared.model.KnownModel.the-variants.{Is, Unknown}
 use Rattle.colour.specs.declared.model.Model.{Model}
 use Rattle.colour.specs.declared.model.Model.the-variants as model
 use Rattle.colour.specs.declared.channel.Channels.{Channels}
@@ -33,7 +33,7 @@ wide model.Gray = false
 abbrev pub allows : Model → Float → Bool
 allows m x = pick (wide m) (finite x) (inUnit x)
 
-abbrev pub allowsIn : Known → ℕ → Bool
+abbrev pub allowsIn : KnownModel → ℕ → Bool
 allowsIn (Is m) b = allows m (ofBits binary32 b)
 allowsIn Unknown b = false
 
@@ -69,7 +69,7 @@ abbrev pub made : Model → ℕ → ℕ → ℕ → ℕ → Made
 made m a b c d = pick (allowsAll m a b c d) (vm.Is (colourOf m a b c d)) (vm.Refused 5)
 
 -- the same of the model that a tag has; 4 where there is none
-abbrev pub madeIn : Known → ℕ → ℕ → ℕ → ℕ → Made
+abbrev pub madeIn : KnownModel → ℕ → ℕ → ℕ → ℕ → Made
 madeIn (Is m) a b c d = made m a b c d
 madeIn Unknown a b c d = vm.Refused 4
 

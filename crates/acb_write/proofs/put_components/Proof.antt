@@ -1,4 +1,4 @@
-use Rattle.acb_records.proofs.Judging.{just-three, all-four}
+use Rattle.acb_write_judge.proofs.Judging.{just-three, all-four}
 use Rattle.acb_write.proofs.Puts.{three-stores, four-stores}
 use native.Mathlib.Omega.{arith}
 use lib.ListN.{length-set}

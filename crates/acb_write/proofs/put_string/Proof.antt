@@ -1,4 +1,4 @@
-use Rattle.acb_records.proofs.Judging.{text-inside}
+use Rattle.acb_write_judge.proofs.Judging.{text-inside}
 use Rattle.acb_write.proofs.Puts.{put-string}
 use native.Mathlib.Omega.{arith}
 use Rattle.acb_judge.specs.Answer.{toldText}
