@@ -60,13 +60,14 @@ pub data Model : ℕ → ℕ → Type 0 where
   lab : Model (chars "LAB ") 3
   gray : Model (chars "Gray") 1
 
--- the bits of a channel: from 0 to 1, minus zero, and in Lab any finite float
+-- the bits of a channel, of whatever tag: from 0 to 1, which is 3F800000, and minus zero, the sign alone; in Lab any finite float, below the infinity 7F800000
 pub data Channel : ℕ → ℕ → Type 0 where
   unit : {t b : ℕ} → b ≤ 0x3F80_0000 → Channel t b
   minus : {t : ℕ} → Channel t 0x8000_0000
   finite : {b : ℕ} → b < 2 ^ 32 → b % 0x8000_0000 < 0x7F80_0000 → Channel (chars "LAB ") b
 
 pub record Colour (us : List ℕ) (t : ℕ) (bs : List ℕ) (k : ℕ) : Type 0 where
+  -- as many channels as the model has
   pub count : ℕ
   pub model : Model t count
   pub all : length bs ≡ count

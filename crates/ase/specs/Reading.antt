@@ -57,7 +57,8 @@ abbrev pub inside : {A : Type 0} → ℕ → ℕ → Res A → Res A
 inside p end (ok a q) = pick (eqb q end) (ok a q) (refuse 13 p 0 0)
 inside p end (refuse x q r f) = pick (eqb x 2) (refuse 13 p 0 0) (refuse x q r f)
 
--- a reader of the payload of n bytes behind the six bytes at `at`: it sees the file up to the payload's end
+-- a reader of the payload of n bytes of the block at `at`: two bytes of type, four of length at `at + 2`, the payload at `at + 6`. It sees the file up to
+-- the payload's end
 abbrev pub within : {A : Type 0} → Reader A → ℕ → Reader A
 within p n s at = inside (at + 2) (at + 6 + n) (p (take (at + 6 + n) s) (at + 6))
 
@@ -71,7 +72,7 @@ deepest = 16
 abbrev pub isBlockType : ℕ → Bool
 isBlockType t = pick (eqb t 0xC001) true (pick (eqb t 0xC002) true (eqb t 0x0001))
 
--- a group start: 10 before its name is read. A group end: its length is 0, else 13, and a group is open, else 9. A colour
+-- a group start: 10 before its name is read. A group end: its length is 0, else 13, and a group is open, else 9. A colour: `colourContent`
 unfoldable pub content : ℕ → ℕ → ℕ → Reader Entry
 content t d n s at =
     pick (eqb t 0xC001) (rule (unless (ltb d deepest) 10) at (within groupContent n s at))
@@ -114,6 +115,7 @@ heading = do
 unfoldable pub blocks : ℕ → Reader (List Entry)
 blocks n s at = then (chain openAfterEntry block n 0 s at) (λ es q. rule (unless (eqb (stateAfter openAfterEntry 0 es) 0) 9) q (ok es q))
 
+-- heading, blocks, and nothing behind them
 unfoldable pub palette : Reader (List Entry)
 palette = do
   n ← heading

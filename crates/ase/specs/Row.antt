@@ -1,11 +1,11 @@
--- A record as numbers, and as a row of a table or run: the one place that knows a row's order and width.
+-- A record as numbers, and as a row of a table or run (docs/INTERFACE.md, "Tables"): the one definition of a row's order and width.
 use Prim.Native.Nat.{ℕ}
 use mathlib.Core.List.{List, [], _∷_, _++_}
 use lib.ListN.{length, getD}
 use Rattle.ase.specs.Reading.{Entry, groupStartRead, groupEndRead, colourRead}
 use Rattle.ase.specs.declared.RowNumbers.{RowNumbers}
 
--- its block's type, its name by place and number of units in lent bytes, and a colour's model, channels and type
+-- a record: its block's type, its name by place and number of units in lent bytes, and a colour's model, channels and type
 pub record RecordRow : Type 0 where
   pub block : ℕ
   pub first : ℕ

@@ -10,12 +10,13 @@ use Rattle.ase_judge.specs.declared.Answer.the-variants as va
 use Rattle.ase_judge.specs.declared.Passed.{Passed}
 use Rattle.ase_judge.specs.declared.Passed.the-variants as vp
 
--- how many of some records are colours
+-- 1 for a colour, else 0
 abbrev pub colourIn : Entry → ℕ
 colourIn (groupStartRead nm) = 0
 colourIn groupEndRead = 0
 colourIn (colourRead nm t bs k) = 1
 
+-- how many of some records are colours
 unfoldable pub colours : List Entry → ℕ
 colours [] = 0
 colours (e ∷ es) = colourIn e + colours es

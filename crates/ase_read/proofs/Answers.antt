@@ -29,7 +29,7 @@ use Rattle.algebra.proofs.Places.{length-joined}
 use Rattle.algebra.proofs.Table.{accepted-of, accepted-by, record-found}
 use Rattle.ase_judge.specs.Answer.{report}
 use Rattle.ase_read.specs.Table.{row, recordAt, nameBytesIn}
-use Rattle.ase_read.specs.Raw.{entriesOf}
+use Rattle.ase_read.specs.Table.{entriesOf}
 use Rattle.ase_read.specs.scaffold.Raw.{nextBlock, blockPlace, Accepted}
 use Rattle.ase_read.specs.scaffold.Answer.{IsColour}
 use Rattle.ase_read.proofs.Blocks.{Sound, NameIn}

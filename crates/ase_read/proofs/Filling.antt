@@ -15,7 +15,7 @@ use Rattle.algebra.proofs.Chain.{chain-inv, chain-length}
 use Rattle.ase.proofs.Whole.{heading-inv}
 use Rattle.ase.specs.Reading.{Entry, groupEndRead, block, openAfterEntry, heading, blocks, palette, ase}
 use Rattle.ase.specs.Row.{givenOf}
-use Rattle.ase_read.specs.Raw.{entriesOf}
+use Rattle.ase_read.specs.Table.{entriesOf}
 use Rattle.ase_read.specs.scaffold.Raw.{load, countAt, modelAt, loaded, nextBlock, blockPlace, Accepted}
 use Rattle.ase_read.proofs.Blocks.{same, Sound, NameIn, Blocked, blocked}
 

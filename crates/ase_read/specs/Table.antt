@@ -5,10 +5,16 @@ use Rattle.algebra.specs.Reader.{Res}
 use Rattle.algebra.specs.Store.{part}
 use Rattle.algebra.specs.Table.{Verdict, accepted, refused, seen}
 use Rattle.algebra.specs.Table as table
+use Rattle.algebra.specs.Filling.{recordsIn}
 use Rattle.ase.specs.Reading.{Entry, groupEndRead}
 use Rattle.ase.specs.Row.{RecordRow, width, numbers, givenOf}
 use Rattle.ase_judge.specs.Answer.{report}
 
+-- the records of an accepted file
+abbrev pub entriesOf : Res (List Entry) → List Entry
+entriesOf m = recordsIn (λ es. es) m
+
+-- a record's row
 abbrev pub row : Entry → List ℕ
 row e = numbers (givenOf e)
 

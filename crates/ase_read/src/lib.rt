@@ -12,7 +12,7 @@ ghost use Rattle.ase.specs.Reading.{ase};
 ghost use Rattle.ase.specs.Row.{width, numbers, givenIn, colourRow};
 ghost use Rattle.ase_judge.specs.Answer.{told};
 ghost use Rattle.ase_read.specs.Table.{row, filled, recordAt, nameBytesIn};
-ghost use Rattle.ase_read.specs.Raw.{entriesOf};
+ghost use Rattle.ase_read.specs.Table.{entriesOf};
 ghost use Rattle.ase_read.specs.scaffold.Raw.{nextBlock, blockPlace, loaded, rawRow, Accepted};
 ghost use Rattle.ase_read.specs.Answer.{toldRecord};
 ghost use Rattle.ase_read.specs.scaffold.Answer.{IsColour};

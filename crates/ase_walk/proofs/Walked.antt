@@ -15,7 +15,7 @@ use Rattle.algebra.specs.Text.{Name}
 use Rattle.algebra.proofs.Exact.{map-id}
 use Rattle.ase.specs.Reading.{Entry, groupStartRead, groupEndRead, colourRead, block, openAfterEntry, ase}
 use Rattle.ase_judge.specs.Answer.{colours}
-use Rattle.ase_read.specs.Raw.{entriesOf}
+use Rattle.ase_read.specs.Table.{entriesOf}
 use Rattle.ase_read.proofs.Blocks.{blocked}
 use Rattle.walk.specs.Walk.{Call, gives, over, refused, after, call, inTurn, sought, seek, only}
 use Rattle.walk.proofs.Calls.{Walks, call-stays, calls-are, after-calls, chain-walks, step-over, step-read, step-five, step-past, only-walks, seek-five}

@@ -18,9 +18,16 @@ use Rattle.colour.specs.declared.channel.Made.the-variants as vm
 
 -- ---- which channels a model allows
 
+-- `fin` is a float by sign, mantissa and exponent: 0, and 1
+abbrev pub zeroFloat : Float
+zeroFloat = fin false 0 (pos 0)
+
+abbrev pub oneFloat : Float
+oneFloat = fin false 1 (pos 0)
+
 -- from 0 to 1: a NaN and the infinities are not, and minus zero is
 unfoldable pub inUnit : Float → Bool
-inUnit x = le (fin false 0 (pos 0)) x && le x (fin false 1 (pos 0))
+inUnit x = le zeroFloat x && le x oneFloat
 
 -- Lab's channels may be any finite float
 abbrev pub wide : Model → Bool

@@ -10,7 +10,7 @@ use Rattle.colour.specs.declared.model.Model.the-variants.{Rgb, Cmyk, La
 use Rattle.colour.specs.declared.model.KnownModel.{KnownModel}
 use Rattle.colour.specs.declared.model.KnownModel.the-variants.{Is, Unknown}
 
--- each model has its tag, its channel count and its full scale: `RGB `, `CMYK`, `LAB `, `Gray`. Lab's is that of the lightness
+-- each model has its tag, its channel count and its full scale: `RGB `, `CMYK`, `LAB `, `Gray`. the full scale of Lab is that of its lightness (A8)
 abbrev pub traitsOf : Model → Traits
 traitsOf Rgb = record { tag = chars "RGB "; channels = 3; full = 65535 }
 traitsOf Cmyk = record { tag = chars "CMYK"; channels = 4; full = 65535 }

@@ -7,7 +7,7 @@ use Rattle.algebra.specs.Numbers.{joined}
 use Rattle.ase.specs.Reading.{groupEndRead, ase}
 use Rattle.ase.specs.Row.{width, numbers}
 use Rattle.ase_read.specs.Table.{row}
-use Rattle.ase_read.specs.Raw.{entriesOf}
+use Rattle.ase_read.specs.Table.{entriesOf}
 use Rattle.ase_read.specs.scaffold.Raw.{rawRow, blockPlace}
 use Rattle.ase_read.proofs.Filling.{place-first, length-entries, count-small, Here, here}
 use Rattle.algebra.proofs.Rows.{fill-turn, fill-end}

@@ -34,7 +34,8 @@ firstAt u p = pick (eqb (countAt u p) 0) 0 (p + 8)
 abbrev pub modelAt : List ℕ → ℕ → ℕ
 modelAt u p = p + 8 + 2 * countAt u p
 
--- the record of the block at p, in the file u that ends with it: a colour's type is the last number of all
+-- the record of the block at p, in the file u that ends with it, each number 0 where the file ends before it. A colour's type is the last number of all;
+-- of a group it is 0, since the last two bytes are then the closing zero of its name or its length
 abbrev pub loaded : List ℕ → ℕ → RecordRow
 loaded u p = record {
   block = load 2 u p;
