@@ -5,9 +5,9 @@ use Rattle.walk.proofs.Kind.{any, Kind, Answer, Both}
 use Rattle.ase_walk.specs.declared.Walker.{Walker}
 use Rattle.ase_walk.specs.declared.WalkerStep.{WalkerStep}
 use Rattle.ase_walk.proofs.Walker as T
-use Rattle.ase_walk.proofs.Step as S
-use Rattle.ase_walk.proofs.Step.Laws as S′
-use Rattle.ase_walk.proofs.Turn as R
+use Rattle.ase_walk.proofs.ColourStep as S
+use Rattle.ase_walk.proofs.ColourStep.Laws as S′
+use Rattle.ase_walk.proofs.WalkerStep as R
 
 abbrev pub walker : Kind
 walker = record {
