@@ -142,21 +142,3 @@ module _ (x : ℕ) (s : List ℕ) (at : ℕ) where
         ap₂ (λ (a b : ℕ). wholeAt n s a b) (sym (f .2)) (sym (f .1)) ∙ sym (r .is) ∙ sym (ap (stepped at) (d .1))
 
 -- ---- a row as it is stored
-
--- twelve numbers stored one after the other
-pub twelve-sets : (t : List ℕ) (p a b c d e f g h j k l m : ℕ)
-    → set (set (set (set (set (set (set (set (set (set (set (set t p a) (p + 1) b) (p + 2) c) (p + 3) d) (p + 4) e) (p + 5) f) (p + 6) g) (p + 7) h) (p + 8) j) (p + 9) k) (p + 10) l) (p + 11) m
-    ≡ sets t p (a ∷ b ∷ c ∷ d ∷ e ∷ f ∷ g ∷ h ∷ j ∷ k ∷ l ∷ m ∷ [])
-twelve-sets t p a b c d e f g h j k l m =
-    let e1 : p + 1 ≡ suc p = omega arith in
-    let e2 : p + 2 ≡ suc (suc p) = omega arith in
-    let e3 : p + 3 ≡ suc (suc (suc p)) = omega arith in
-    let e4 : p + 4 ≡ suc (suc (suc (suc p))) = omega arith in
-    let e5 : p + 5 ≡ suc (suc (suc (suc (suc p)))) = omega arith in
-    let e6 : p + 6 ≡ suc (suc (suc (suc (suc (suc p))))) = omega arith in
-    let e7 : p + 7 ≡ suc (suc (suc (suc (suc (suc (suc p)))))) = omega arith in
-    let e8 : p + 8 ≡ suc (suc (suc (suc (suc (suc (suc (suc p))))))) = omega arith in
-    let e9 : p + 9 ≡ suc (suc (suc (suc (suc (suc (suc (suc (suc p)))))))) = omega arith in
-    let e10 : p + 10 ≡ suc (suc (suc (suc (suc (suc (suc (suc (suc (suc p))))))))) = omega arith in
-    let e11 : p + 11 ≡ suc (suc (suc (suc (suc (suc (suc (suc (suc (suc (suc p)))))))))) = omega arith in
-    λ i. set (set (set (set (set (set (set (set (set (set (set (set t p a) (e1 i) b) (e2 i) c) (e3 i) d) (e4 i) e) (e5 i) f) (e6 i) g) (e7 i) h) (e8 i) j) (e9 i) k) (e10 i) l) (e11 i) m

@@ -154,39 +154,17 @@ fn wide(x: u8) -> u32
     x as u32
 }
 
-// Stores the numbers of a row; nothing else knows their order. The stores stand by themselves, so that
-// their proof knows of nothing else.
-fn put_numbers(
-    table: &mut [u32],
-    to: usize,
-    place: u32,
-    units: u32,
-    a: u32,
-    b: u32,
-    c: u32,
-    d: u32,
-    e: u32,
-    f: u32,
-    g: u32,
-    h: u32,
-    k: u32,
-    l: u32,
-)
+// Stores the numbers of a row; no other function stores one. The loop stands by itself, so that its
+// proof knows of nothing else.
+fn put_numbers(table: &mut [u32], to: usize, row: [u32; 12])
     requires { ⌜ to + width ≤ length (now table) ⌝ }
-    ensures { λ _. ⌜ now (table .exit) ≡ sets (now (table .entry)) to (place ∷ units ∷ a ∷ b ∷ c ∷ d ∷ e ∷ f ∷ g ∷ h ∷ k ∷ l ∷ []) ⌝ }
+    ensures { λ _. ⌜ now (table .exit) ≡ sets (now (table .entry)) to row ⌝ }
 {
-    table[to] = place;
-    table[to + 1] = units;
-    table[to + 2] = a;
-    table[to + 3] = b;
-    table[to + 4] = c;
-    table[to + 5] = d;
-    table[to + 6] = e;
-    table[to + 7] = f;
-    table[to + 8] = g;
-    table[to + 9] = h;
-    table[to + 10] = k;
-    table[to + 11] = l;
+    let mut i: usize = 0;
+    while i < WIDTH {
+        table[to + i] = row[i];
+        i += 1;
+    }
 }
 
 // Stores a record as a row.
@@ -201,18 +179,20 @@ fn put_row(table: &mut [u32], to: usize, swatch: BookRecord)
     put_numbers(
         table,
         to,
-        lies.place as u32,
-        lies.units,
-        wide(code[0]),
-        wide(code[1]),
-        wide(code[2]),
-        wide(code[3]),
-        wide(code[4]),
-        wide(code[5]),
-        wide(ks[0]),
-        wide(ks[1]),
-        wide(ks[2]),
-        wide(ks[3]),
+        [
+            lies.place as u32,
+            lies.units,
+            wide(code[0]),
+            wide(code[1]),
+            wide(code[2]),
+            wide(code[3]),
+            wide(code[4]),
+            wide(code[5]),
+            wide(ks[0]),
+            wide(ks[1]),
+            wide(ks[2]),
+            wide(ks[3]),
+        ],
     );
 }
 

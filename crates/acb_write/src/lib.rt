@@ -60,12 +60,12 @@ fn put_code(out: &mut [u8], at: usize, given: Record)
     requires { ⌜ at + 6 ≤ length (now out) ⌝ }
     ensures { λ _. ⌜ now (out .exit) ≡ sets (now (out .entry)) at (joined (be 1) (toldRecord given .code)) ⌝ }
 {
-    out[at] = (given.a % 256) as u8;
-    out[at + 1] = (given.b % 256) as u8;
-    out[at + 2] = (given.c % 256) as u8;
-    out[at + 3] = (given.d % 256) as u8;
-    out[at + 4] = (given.e % 256) as u8;
-    out[at + 5] = (given.f % 256) as u8;
+    out[at] = (given.code0 % 256) as u8;
+    out[at + 1] = (given.code1 % 256) as u8;
+    out[at + 2] = (given.code2 % 256) as u8;
+    out[at + 3] = (given.code3 % 256) as u8;
+    out[at + 4] = (given.code4 % 256) as u8;
+    out[at + 5] = (given.code5 % 256) as u8;
 }
 
 // The n components of a record: three or four.
@@ -73,13 +73,13 @@ fn put_components(out: &mut [u8], at: usize, given: Record, n: usize)
     requires { ⌜ (at + n ≤ length (now out)) × (3 ≤ n) × (n ≤ 4) ⌝ }
     ensures { λ _. ⌜ now (out .exit) ≡ sets (now (out .entry)) at (joined (be 1) (componentsIn n (toldRecord given))) ⌝ }
 {
-    out[at] = (given.k % 256) as u8;
-    out[at + 1] = (given.l % 256) as u8;
-    out[at + 2] = (given.m % 256) as u8;
+    out[at] = (given.component0 % 256) as u8;
+    out[at + 1] = (given.component1 % 256) as u8;
+    out[at + 2] = (given.component2 % 256) as u8;
     if n == 3 {
         return;
     }
-    out[at + 3] = (given.n % 256) as u8;
+    out[at + 3] = (given.component3 % 256) as u8;
 }
 
 // A record of n components from `at`; it answers the next place.

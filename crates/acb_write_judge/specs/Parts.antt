@@ -15,6 +15,6 @@ recordIn run k = getD (whole width taken run) k (taken [])
 abbrev pub toldRecord : Record → RecordRow
 toldRecord r = record {
   name = toldText (r .name);
-  code = r .a ∷ r .b ∷ r .c ∷ r .d ∷ r .e ∷ r .f ∷ [];
-  components = r .k ∷ r .l ∷ r .m ∷ r .n ∷ [];
+  code = r .code0 ∷ r .code1 ∷ r .code2 ∷ r .code3 ∷ r .code4 ∷ r .code5 ∷ [];
+  components = r .component0 ∷ r .component1 ∷ r .component2 ∷ r .component3 ∷ [];
 }

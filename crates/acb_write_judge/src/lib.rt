@@ -22,19 +22,19 @@ use acb_judge::Tag;
 use acb_judge::Text;
 use fields::Written;
 
-// A record of a run: where its name lies, the six code bytes a to f, the components k to n.
+// A record of a run: where its name lies, its six code bytes and four components.
 pub struct Record {
     pub name: Text,
-    pub a: u32,
-    pub b: u32,
-    pub c: u32,
-    pub d: u32,
-    pub e: u32,
-    pub f: u32,
-    pub k: u32,
-    pub l: u32,
-    pub m: u32,
-    pub n: u32,
+    pub code0: u32,
+    pub code1: u32,
+    pub code2: u32,
+    pub code3: u32,
+    pub code4: u32,
+    pub code5: u32,
+    pub component0: u32,
+    pub component1: u32,
+    pub component2: u32,
+    pub component3: u32,
 }
 
 // How a book to be written ends: as a file may end, or with another tag, which is refused.
@@ -57,16 +57,16 @@ fn whole_at(run: &[u32], k: usize) -> Record
             place,
             units: row[1],
         },
-        a: row[2],
-        b: row[3],
-        c: row[4],
-        d: row[5],
-        e: row[6],
-        f: row[7],
-        k: row[8],
-        l: row[9],
-        m: row[10],
-        n: row[11],
+        code0: row[2],
+        code1: row[3],
+        code2: row[4],
+        code3: row[5],
+        code4: row[6],
+        code5: row[7],
+        component0: row[8],
+        component1: row[9],
+        component2: row[10],
+        component3: row[11],
     }
 }
 
@@ -75,16 +75,16 @@ fn no_record() -> Record
 {
     Record {
         name: Text { place: 0, units: 0 },
-        a: 0,
-        b: 0,
-        c: 0,
-        d: 0,
-        e: 0,
-        f: 0,
-        k: 0,
-        l: 0,
-        m: 0,
-        n: 0,
+        code0: 0,
+        code1: 0,
+        code2: 0,
+        code3: 0,
+        code4: 0,
+        code5: 0,
+        component0: 0,
+        component1: 0,
+        component2: 0,
+        component3: 0,
     }
 }
 
@@ -221,22 +221,22 @@ fn head_fault(text: &[u8], header: Header, count: usize) -> u32
 fn code_fault(given: Record) -> u32
     ensures { λ r. ⌜ r ≡ faults byteFault (toldRecord given .code) ⌝ }
 {
-    if 255 < given.a {
+    if 255 < given.code0 {
         return 5;
     }
-    if 255 < given.b {
+    if 255 < given.code1 {
         return 5;
     }
-    if 255 < given.c {
+    if 255 < given.code2 {
         return 5;
     }
-    if 255 < given.d {
+    if 255 < given.code3 {
         return 5;
     }
-    if 255 < given.e {
+    if 255 < given.code4 {
         return 5;
     }
-    if 255 < given.f {
+    if 255 < given.code5 {
         return 5;
     }
     0
@@ -247,19 +247,19 @@ fn components_fault(given: Record, n: usize) -> u32
     requires { ⌜ (3 ≤ n) × (n ≤ 4) ⌝ }
     ensures { λ r. ⌜ r ≡ faults byteFault (componentsIn n (toldRecord given)) ⌝ }
 {
-    if 255 < given.k {
+    if 255 < given.component0 {
         return 5;
     }
-    if 255 < given.l {
+    if 255 < given.component1 {
         return 5;
     }
-    if 255 < given.m {
+    if 255 < given.component2 {
         return 5;
     }
     if n == 3 {
         return 0;
     }
-    if 255 < given.n {
+    if 255 < given.component3 {
         return 5;
     }
     0

@@ -64,6 +64,18 @@ module _ (s : List ℕ) (rows : ℕ) (hs₀ : List Head) (f : List ℕ) where
           let w : length (g .hs) ≡ suc (length (t .more)) = ap length (t .is) in
           (omega (arith, g .walking .count, w), t .low, t .high, omega (arith, t .valued, t .high, g .walking .size), omega (arith, t .shallow, many))
 
+      -- with no children
+      pub turn-leaf : {f″ : List ℕ} → r .count ≡ 0 → f″ ≡ set f′ k (r .value) → Loop s rows hs₀ f f″ saved n (due (l .what) (l .objects) (l .left - 1)) (k + 1) (r .end)
+      turn-leaf zr x =
+          let t = ahead in
+          record {
+            hs = t .more;
+            walking = walk-close zr (t .next);
+            values = put-head valueIn k f′ (t .is) (t .value) x (g .values);
+            size = ap length x ∙ length-set f′ k (r .value) ∙ g .size;
+            room = g .room;
+          }
+
       pub turn-head : {f″ : List ℕ} → f″ ≡ set f′ k (r .value)
           → Loop s rows hs₀ f f″ (set saved n (due (l .what) (l .objects) (l .left - 1))) (n + 1) (due (r .what) (r .objects) (r .count)) (k + 1) (r .end)
       turn-head x =

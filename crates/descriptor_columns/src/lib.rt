@@ -247,6 +247,11 @@ fn fill_values(
         left -= 1;
         let head = descriptor_raw::head_at(file, what, objects, at);
         values[k] = head.value as u32;
+        if head.count == 0 {
+            at = head.end;
+            k += 1;
+            continue;
+        }
         saved[d] = Level {
             what,
             objects,

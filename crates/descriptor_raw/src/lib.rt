@@ -238,7 +238,7 @@ pub fn root_head(file: &[u8]) -> RawHead
 }
 
 // ---- the same again, for one loop. Called from one place, they are no calls: the compiler makes one
-// function of them and the loop that fills columns, which so takes a sixth less time
+// function of them and the loop that fills columns, which so takes less time (docs/DECISIONS.md)
 
 fn value_once(file: &[u8], kind: u32, v: usize) -> RawHead
     requires { ⌜ v < 288230376151711744 ⌝ }

@@ -192,14 +192,13 @@ fn made_up_descriptors_have_their_rows() {
 
 /// A row's children, by their parent and their depth: those of the root also
 /// say parent 0.
-fn children(rows: &[[u32; ROW_LEN]], number: usize) -> Vec<[u32; ROW_LEN]> {
-    let is_child =
-        |row: &&[u32; ROW_LEN]| row[1] as usize == number && row[4] == rows[number][4] + 1;
+fn children(rows: &[[u32; 5]], number: usize) -> Vec<[u32; 5]> {
+    let is_child = |row: &&[u32; 5]| row[1] as usize == number && row[4] == rows[number][4] + 1;
     rows.iter().skip(1).filter(is_child).copied().collect()
 }
 
 /// Where a row's head ends: where its first child begins, or the row ends.
-fn head_end(rows: &[[u32; ROW_LEN]], number: usize) -> u32 {
+fn head_end(rows: &[[u32; 5]], number: usize) -> u32 {
     let [_, _, first, length, _] = rows[number];
     let children = children(rows, number);
     children.first().map_or(first + length, |child| child[2])
@@ -207,7 +206,7 @@ fn head_end(rows: &[[u32; ROW_LEN]], number: usize) -> u32 {
 
 #[test]
 fn heads_of_agreed_files() {
-    let heads = |rows: &[[u32; ROW_LEN]]| -> Vec<u32> {
+    let heads = |rows: &[[u32; 5]]| -> Vec<u32> {
         let numbers = 0..rows.len();
         numbers
             .map(|number| head_end(rows, number) - rows[number][2])

@@ -10,8 +10,8 @@ use Rattle.acb_read.proofs.put_row.Tie as tie
 text-place-requires : tie.Need-text-place-requires
 text-place-requires c κs = search needs
 
-cast-put-numbers : tie.Need-cast-put-numbers
-cast-put-numbers c = omega (arith, ap (λ (l : ℕ × ℕ). l .0) (c .before .before .text-place .ensures), c .before .before .before .before .before .before .pre .1)
+cast-t11 : tie.Need-cast-t11
+cast-t11 c = omega (arith, ap (λ (l : ℕ × ℕ). l .0) (c .before .before .text-place .ensures), c .before .before .before .before .before .before .pre .1)
 
 array-read-wide : tie.Need-array-read-wide
 array-read-wide c = search needs
@@ -92,7 +92,7 @@ put-row-spec =
     tie.close
     (tie.spec
     text-place-requires
-    cast-put-numbers
+    cast-t11
     array-read-wide
     wide-requires
     array-read-wide-2

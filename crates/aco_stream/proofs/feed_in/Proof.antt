@@ -49,8 +49,8 @@ returns-5 c =
 least-requires : tie.Need-least-requires
 least-requires c κs = search needs
 
-slice-aggregate-run : tie.Need-slice-aggregate-run
-slice-aggregate-run c = let a = c .before .before .before .before .before .before .before .before .before .before .before .before .args in let m = c .before .before .least in sym (length-take-le (m .result) (a .bytes .now) (m .ensures .1))
+slice-aggregate-feed-within : tie.Need-slice-aggregate-feed-within
+slice-aggregate-feed-within c = let a = c .before .before .before .before .before .before .before .before .before .before .before .before .args in let m = c .before .before .least in sym (length-take-le (m .result) (a .bytes .now) (m .ensures .1))
 
 feed-within-requires : tie.Need-feed-within-requires
 feed-within-requires c κs =
@@ -98,7 +98,7 @@ feed-in-spec =
     add-over
     returns-5
     least-requires
-    slice-aggregate-run
+    slice-aggregate-feed-within
     feed-within-requires
     add-next
     same-length

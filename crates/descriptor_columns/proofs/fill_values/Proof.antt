@@ -19,13 +19,13 @@ abbrev μ-loop : tie.MeasureT-loop
 μ-loop file values₀ rows due arity count start saved₀ d₀ what₀ objects₀ left₀ at₀ k₀ values saved d what objects left at k =
     2 * (length file - at) + d
 
--- src/lib.rt:206:5
+-- src/lib.rt:235:5
 loop-holds : tie.Need-loop-holds Inv-loop μ-loop
 loop-holds c =
     let a = c .before .before .args in
     W.start (a .file .now) (a .due) (a .arity) (a .count) (a .start) (a .rows) (a .values .now) _ refl (c .before .before .pre .0)
 
--- src/lib.rt:209:17
+-- src/lib.rt:238:17
 same-length : tie.Need-same-length Inv-loop μ-loop
 same-length c =
     let a = c .before .before .before .before .before .args in
@@ -36,7 +36,7 @@ same-length c =
     let f = W.facts (a .file .now) (a .rows) (rest (a .file .now) (a .due) (a .arity) (a .count) (a .start)) (a .values .now) l g in
     g .size
 
--- src/lib.rt:209:17
+-- src/lib.rt:238:17
 returns : tie.Need-returns Inv-loop μ-loop
 returns c =
     let a = c .before .before .before .before .before .args in
@@ -47,12 +47,12 @@ returns c =
     let f = W.facts (a .file .now) (a .rows) (rest (a .file .now) (a .due) (a .arity) (a .count) (a .start)) (a .values .now) l g in
     W.turn-end (a .file .now) (a .rows) (rest (a .file .now) (a .due) (a .arity) (a .count) (a .start)) (a .values .now) l g (c .before .if1 .taken) (c .if2 .taken)
 
--- src/lib.rt:211:13
+-- src/lib.rt:240:13
 sub-d : tie.Need-sub-d Inv-loop μ-loop
 sub-d c =
     search needs
 
--- src/lib.rt:212:25
+-- src/lib.rt:241:25
 mul-level : tie.Need-mul-level Inv-loop μ-loop
 mul-level c =
     let a = c .before .before .before .before .before .args in
@@ -63,7 +63,7 @@ mul-level c =
     let f = W.facts (a .file .now) (a .rows) (rest (a .file .now) (a .due) (a .arity) (a .count) (a .start)) (a .values .now) l g in
     omega (arith, f .3)
 
--- src/lib.rt:212:25
+-- src/lib.rt:241:25
 array-copy-out-level : tie.Need-array-copy-out-level Inv-loop μ-loop
 array-copy-out-level c =
     let a = c .before .before .before .before .before .args in
@@ -74,7 +74,7 @@ array-copy-out-level c =
     let f = W.facts (a .file .now) (a .rows) (rest (a .file .now) (a .due) (a .arity) (a .count) (a .start)) (a .values .now) l g in
     omega (arith, f .3)
 
--- src/lib.rt:206:5
+-- src/lib.rt:235:5
 loop-less : tie.Need-loop-less Inv-loop μ-loop
 loop-less c =
     let a = c .before .before .before .before .before .before .args in
@@ -86,7 +86,7 @@ loop-less c =
     let z : (o .d ≡ 0 → ⊥) = c .before .if2 .left in
     omega (arith, z)
 
--- src/lib.rt:206:5
+-- src/lib.rt:235:5
 loop-again : tie.Need-loop-again Inv-loop μ-loop
 loop-again c =
     let a = c .before .before .before .before .before .before .args in
@@ -97,17 +97,17 @@ loop-again c =
     let f = W.facts (a .file .now) (a .rows) (rest (a .file .now) (a .due) (a .arity) (a .count) (a .start)) (a .values .now) l g in
     W.turn-close (a .file .now) (a .rows) (rest (a .file .now) (a .due) (a .arity) (a .count) (a .start)) (a .values .now) l g (c .before .before .if1 .taken) (c .before .if2 .left)
 
--- src/lib.rt:218:9
+-- src/lib.rt:247:9
 sub-left : tie.Need-sub-left Inv-loop μ-loop
 sub-left c =
     search needs
 
--- src/lib.rt:219:13
+-- src/lib.rt:248:13
 head-at-requires : tie.Need-head-at-requires Inv-loop μ-loop
 head-at-requires c κs =
     search needs
 
--- src/lib.rt:220:21
+-- src/lib.rt:249:21
 cast-values : tie.Need-cast-values Inv-loop μ-loop
 cast-values c =
     let a = c .before .before .before .before .before .before .args in
@@ -119,7 +119,7 @@ cast-values c =
     let w = W.seen (a .file .now) (a .rows) (rest (a .file .now) (a .due) (a .arity) (a .count) (a .start)) (a .values .now) l g _ (c .before .before .if1 .left) (c .before .head-at .ensures) in
     omega (arith, w .2, w .3, g .walking .size)
 
--- src/lib.rt:220:9
+-- src/lib.rt:249:9
 mul-values : tie.Need-mul-values Inv-loop μ-loop
 mul-values c =
     let a = c .before .before .before .before .before .before .args in
@@ -131,7 +131,7 @@ mul-values c =
     let w = W.seen (a .file .now) (a .rows) (rest (a .file .now) (a .due) (a .arity) (a .count) (a .start)) (a .values .now) l g _ (c .before .before .if1 .left) (c .before .head-at .ensures) in
     omega (arith, w .0, f .2)
 
--- src/lib.rt:220:9
+-- src/lib.rt:249:9
 slice-write-values : tie.Need-slice-write-values Inv-loop μ-loop
 slice-write-values c =
     let a = c .before .before .before .before .before .before .args in
@@ -143,72 +143,106 @@ slice-write-values c =
     let w = W.seen (a .file .now) (a .rows) (rest (a .file .now) (a .due) (a .arity) (a .count) (a .start)) (a .values .now) l g _ (c .before .before .if1 .left) (c .before .head-at .ensures) in
     omega (arith, w .0, p .1, g .size)
 
--- src/lib.rt:221:9
-mul-saved : tie.Need-mul-saved Inv-loop μ-loop
-mul-saved c =
-    let a = c .before .before .before .before .before .before .args in
-    let p = c .before .before .before .before .before .before .pre in
-    let o = c .before .before .before .loop in
-    let g = o .inv in
-    let l = W.due (o .what) (o .objects) (o .left) in
-    let f = W.facts (a .file .now) (a .rows) (rest (a .file .now) (a .due) (a .arity) (a .count) (a .start)) (a .values .now) l g in
-    omega (arith, f .3)
-
--- src/lib.rt:221:9
-array-set-from-saved : tie.Need-array-set-from-saved Inv-loop μ-loop
-array-set-from-saved c =
-    let a = c .before .before .before .before .before .before .args in
-    let p = c .before .before .before .before .before .before .pre in
-    let o = c .before .before .before .loop in
-    let g = o .inv in
-    let l = W.due (o .what) (o .objects) (o .left) in
-    let f = W.facts (a .file .now) (a .rows) (rest (a .file .now) (a .due) (a .arity) (a .count) (a .start)) (a .values .now) l g in
-    omega (arith, f .3)
-
--- src/lib.rt:222:9
-add-d : tie.Need-add-d Inv-loop μ-loop
-add-d c =
-    let a = c .before .before .before .before .before .before .args in
-    let p = c .before .before .before .before .before .before .pre in
-    let o = c .before .before .before .loop in
-    let g = o .inv in
-    let l = W.due (o .what) (o .objects) (o .left) in
-    let f = W.facts (a .file .now) (a .rows) (rest (a .file .now) (a .due) (a .arity) (a .count) (a .start)) (a .values .now) l g in
-    omega (arith, f .3)
-
--- src/lib.rt:227:9
+-- src/lib.rt:252:13
 add-k : tie.Need-add-k Inv-loop μ-loop
 add-k c =
-    let a = c .before .before .before .before .before .before .args in
-    let p = c .before .before .before .before .before .before .pre in
-    let o = c .before .before .before .loop in
+    let a = c .before .before .before .before .before .before .before .before .args in
+    let p = c .before .before .before .before .before .before .before .before .pre in
+    let o = c .before .before .before .before .before .loop in
     let g = o .inv in
     let l = W.due (o .what) (o .objects) (o .left) in
     let f = W.facts (a .file .now) (a .rows) (rest (a .file .now) (a .due) (a .arity) (a .count) (a .start)) (a .values .now) l g in
     omega (arith, f .0, f .2)
 
--- src/lib.rt:206:5
+-- src/lib.rt:235:5
 loop-less-2 : tie.Need-loop-less-2 Inv-loop μ-loop
 loop-less-2 c =
-    let a = c .before .before .before .before .before .before .args in
-    let p = c .before .before .before .before .before .before .pre in
-    let o = c .before .before .before .loop in
+    let a = c .before .before .before .before .before .before .before .before .args in
+    let p = c .before .before .before .before .before .before .before .before .pre in
+    let o = c .before .before .before .before .before .loop in
     let g = o .inv in
     let l = W.due (o .what) (o .objects) (o .left) in
     let f = W.facts (a .file .now) (a .rows) (rest (a .file .now) (a .due) (a .arity) (a .count) (a .start)) (a .values .now) l g in
-    let w = W.seen (a .file .now) (a .rows) (rest (a .file .now) (a .due) (a .arity) (a .count) (a .start)) (a .values .now) l g _ (c .before .before .if1 .left) (c .before .head-at .ensures) in
+    let w = W.seen (a .file .now) (a .rows) (rest (a .file .now) (a .due) (a .arity) (a .count) (a .start)) (a .values .now) l g _ (c .before .before .before .before .if1 .left) (c .before .before .before .head-at .ensures) in
     omega (arith, w .1, w .2, f .4)
 
--- src/lib.rt:206:5
+-- src/lib.rt:235:5
 loop-again-2 : tie.Need-loop-again-2 Inv-loop μ-loop
 loop-again-2 c =
-    let a = c .before .before .before .before .before .before .args in
-    let p = c .before .before .before .before .before .before .pre in
-    let o = c .before .before .before .loop in
+    let a = c .before .before .before .before .before .before .before .before .args in
+    let p = c .before .before .before .before .before .before .before .before .pre in
+    let o = c .before .before .before .before .before .loop in
     let g = o .inv in
     let l = W.due (o .what) (o .objects) (o .left) in
     let f = W.facts (a .file .now) (a .rows) (rest (a .file .now) (a .due) (a .arity) (a .count) (a .start)) (a .values .now) l g in
-    W.turn-head (a .file .now) (a .rows) (rest (a .file .now) (a .due) (a .arity) (a .count) (a .start)) (a .values .now) l g _ (c .before .before .if1 .left) (c .before .head-at .ensures) refl
+    W.turn-leaf (a .file .now) (a .rows) (rest (a .file .now) (a .due) (a .arity) (a .count) (a .start)) (a .values .now) l g _ (c .before .before .before .before .if1 .left) (c .before .before .before .head-at .ensures) (c .if3 .taken) refl
+
+-- src/lib.rt:255:9
+mul-saved : tie.Need-mul-saved Inv-loop μ-loop
+mul-saved c =
+    let a = c .before .before .before .before .before .before .before .before .args in
+    let p = c .before .before .before .before .before .before .before .before .pre in
+    let o = c .before .before .before .before .before .loop in
+    let g = o .inv in
+    let l = W.due (o .what) (o .objects) (o .left) in
+    let f = W.facts (a .file .now) (a .rows) (rest (a .file .now) (a .due) (a .arity) (a .count) (a .start)) (a .values .now) l g in
+    omega (arith, f .3)
+
+-- src/lib.rt:255:9
+array-set-from-saved : tie.Need-array-set-from-saved Inv-loop μ-loop
+array-set-from-saved c =
+    let a = c .before .before .before .before .before .before .before .before .args in
+    let p = c .before .before .before .before .before .before .before .before .pre in
+    let o = c .before .before .before .before .before .loop in
+    let g = o .inv in
+    let l = W.due (o .what) (o .objects) (o .left) in
+    let f = W.facts (a .file .now) (a .rows) (rest (a .file .now) (a .due) (a .arity) (a .count) (a .start)) (a .values .now) l g in
+    omega (arith, f .3)
+
+-- src/lib.rt:262:9
+add-d : tie.Need-add-d Inv-loop μ-loop
+add-d c =
+    let a = c .before .before .before .before .before .before .before .before .args in
+    let p = c .before .before .before .before .before .before .before .before .pre in
+    let o = c .before .before .before .before .before .loop in
+    let g = o .inv in
+    let l = W.due (o .what) (o .objects) (o .left) in
+    let f = W.facts (a .file .now) (a .rows) (rest (a .file .now) (a .due) (a .arity) (a .count) (a .start)) (a .values .now) l g in
+    omega (arith, f .3)
+
+-- src/lib.rt:267:9
+add-k-2 : tie.Need-add-k-2 Inv-loop μ-loop
+add-k-2 c =
+    let a = c .before .before .before .before .before .before .before .before .args in
+    let p = c .before .before .before .before .before .before .before .before .pre in
+    let o = c .before .before .before .before .before .loop in
+    let g = o .inv in
+    let l = W.due (o .what) (o .objects) (o .left) in
+    let f = W.facts (a .file .now) (a .rows) (rest (a .file .now) (a .due) (a .arity) (a .count) (a .start)) (a .values .now) l g in
+    omega (arith, f .0, f .2)
+
+-- src/lib.rt:235:5
+loop-less-3 : tie.Need-loop-less-3 Inv-loop μ-loop
+loop-less-3 c =
+    let a = c .before .before .before .before .before .before .before .before .args in
+    let p = c .before .before .before .before .before .before .before .before .pre in
+    let o = c .before .before .before .before .before .loop in
+    let g = o .inv in
+    let l = W.due (o .what) (o .objects) (o .left) in
+    let f = W.facts (a .file .now) (a .rows) (rest (a .file .now) (a .due) (a .arity) (a .count) (a .start)) (a .values .now) l g in
+    let w = W.seen (a .file .now) (a .rows) (rest (a .file .now) (a .due) (a .arity) (a .count) (a .start)) (a .values .now) l g _ (c .before .before .before .before .if1 .left) (c .before .before .before .head-at .ensures) in
+    omega (arith, w .1, w .2, f .4)
+
+-- src/lib.rt:235:5
+loop-again-3 : tie.Need-loop-again-3 Inv-loop μ-loop
+loop-again-3 c =
+    let a = c .before .before .before .before .before .before .before .before .args in
+    let p = c .before .before .before .before .before .before .before .before .pre in
+    let o = c .before .before .before .before .before .loop in
+    let g = o .inv in
+    let l = W.due (o .what) (o .objects) (o .left) in
+    let f = W.facts (a .file .now) (a .rows) (rest (a .file .now) (a .due) (a .arity) (a .count) (a .start)) (a .values .now) l g in
+    W.turn-head (a .file .now) (a .rows) (rest (a .file .now) (a .due) (a .arity) (a .count) (a .start)) (a .values .now) l g _ (c .before .before .before .before .if1 .left) (c .before .before .before .head-at .ensures) refl
 
 pub fill-values-spec : {M : Type 1} → statement M
 fill-values-spec =
@@ -229,9 +263,12 @@ fill-values-spec =
     cast-values
     mul-values
     slice-write-values
+    add-k
+    loop-less-2
+    loop-again-2
     mul-saved
     array-set-from-saved
     add-d
-    add-k
-    loop-less-2
-    loop-again-2)
+    add-k-2
+    loop-less-3
+    loop-again-3)
