@@ -124,12 +124,12 @@ fn put_record(out: &mut [u8], n: usize, file: &[u8], swatch: BookRecord, compone
     let code = swatch.code;
     let values = swatch.components;
     let name = swatch.name;
-    let lies = acb_read::text_place(name);
+    let string = acb_read::text_place(name);
     let mut at = put(out, n, b' ');
     at = put_name(out, at, &code);
     at = put_components(out, at, &values, components);
     at = put(out, at, b' ');
-    at = put_name(out, at, name_part(file, lies.place, lies.units));
+    at = put_name(out, at, name_part(file, string.place, string.units));
     put(out, at, b'\n')
 }
 

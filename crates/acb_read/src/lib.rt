@@ -175,13 +175,13 @@ fn put_row(table: &mut [u32], to: usize, swatch: BookRecord)
     let name = swatch.name;
     let code = swatch.code;
     let ks = swatch.components;
-    let lies = text_place(name);
+    let string = text_place(name);
     put_numbers(
         table,
         to,
         [
-            lies.place as u32,
-            lies.units,
+            string.place as u32,
+            string.units,
             wide(code[0]),
             wide(code[1]),
             wide(code[2]),

@@ -113,8 +113,8 @@ pub fn sample_at(file: &[u8], space: u16, at: usize, i: usize, end: usize, offse
         p = step.next;
         let swatch = step.swatch;
         let name = swatch.name;
-        let lies = acb_read::text_place(name);
-        if lies.units != 0 {
+        let string = acb_read::text_place(name);
+        if string.units != 0 {
             if left == 0 {
                 return Page::Is(k);
             }

@@ -33,24 +33,24 @@ const PROCESS: u32 = (acb::PROCESS % 0x1_0000_0000) as u32;
 // ---- storing
 
 // Where a string begins; 0 for one of no units, whose place may be any.
-fn start_of(lies: Text) -> usize
-    ensures { λ r. ⌜ r ≡ start (toldText lies) ⌝ }
+fn start_of(string: Text) -> usize
+    ensures { λ r. ⌜ r ≡ start (toldText string) ⌝ }
 {
-    if lies.units == 0 {
+    if string.units == 0 {
         return 0;
     }
-    lies.place
+    string.place
 }
 
 // A string from `at`; it answers the next place.
-fn put_string(out: &mut [u8], at: usize, text: &[u8], lies: Text) -> usize
-    requires { ⌜ StringFits (now text) (toldText lies) at (length (now out)) ⌝ }
-    ensures { λ r. ⌜ (r ≡ at + stringSize (toldText lies)) × (now (out .exit) ≡ sets (now (out .entry)) at (stringBytes (unitsIn (now (text .entry)) (toldText lies)))) ⌝ }
+fn put_string(out: &mut [u8], at: usize, text: &[u8], string: Text) -> usize
+    requires { ⌜ StringFits (now text) (toldText string) at (length (now out)) ⌝ }
+    ensures { λ r. ⌜ (r ≡ at + stringSize (toldText string)) × (now (out .exit) ≡ sets (now (out .entry)) at (stringBytes (unitsIn (now (text .entry)) (toldText string)))) ⌝ }
 {
-    let first = start_of(lies);
-    let k = 2 * fields::wide(lies.units);
+    let first = start_of(string);
+    let k = 2 * fields::wide(string.units);
     let end = first + k;
-    fields::put_u32(out, at, lies.units);
+    fields::put_u32(out, at, string.units);
     fields::put_run(out, at + 4, &text[first..end]);
     at + 4 + k
 }

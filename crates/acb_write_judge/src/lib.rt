@@ -101,10 +101,10 @@ pub fn record_at(run: &[u32], k: usize) -> Record
 // ---- how long the file is
 
 // How many bytes a string takes.
-fn string_size(lies: Text) -> usize
-    ensures { λ r. ⌜ (r ≡ stringSize (toldText lies)) × (r < 0x3_0000_0000) ⌝ }
+fn string_size(string: Text) -> usize
+    ensures { λ r. ⌜ (r ≡ stringSize (toldText string)) × (r < 0x3_0000_0000) ⌝ }
 {
-    4 + 2 * fields::wide(lies.units)
+    4 + 2 * fields::wide(string.units)
 }
 
 // How many bytes the closing tag takes.
@@ -142,14 +142,14 @@ fn size_of(header: Header, ending: Ending, run: &[u32], n: usize) -> Written
     requires { ⌜ width * n ≤ length (now run) ⌝ }
     ensures { λ r. ⌜ toldWritten r ≡ pick (leb (size (toldHeader header) (toldEnding ending) (rows width taken (now (run .entry)) n 0)) limit) (bytes (size (toldHeader header) (toldEnding ending) (rows width taken (now (run .entry)) n 0))) (refused 1 0) ⌝ }
 {
-    let tones = 6 + acb_judge::components_of(header.space);
+    let behind_name = 6 + acb_judge::components_of(header.space);
     let mut total = head_size(header) + ending_size(ending);
     if acb::LIMIT < total {
         return Written::Refused(1);
     }
     let mut i: usize = 0;
     while i < n {
-        total += string_size(whole_at(run, i).name) + tones;
+        total += string_size(whole_at(run, i).name) + behind_name;
         if acb::LIMIT < total {
             return Written::Refused(1);
         }
@@ -161,18 +161,18 @@ fn size_of(header: Header, ending: Ending, run: &[u32], n: usize) -> Written
 // ---- judging
 
 // The fault of a string: whether it runs past the lent bytes.
-fn text_fault(text: &[u8], lies: Text) -> u32
-    ensures { λ r. ⌜ r ≡ textFault (now (text .entry)) (toldText lies) ⌝ }
+fn text_fault(text: &[u8], string: Text) -> u32
+    ensures { λ r. ⌜ r ≡ textFault (now (text .entry)) (toldText string) ⌝ }
 {
-    if lies.units == 0 {
+    if string.units == 0 {
         return 0;
     }
-    let k = 2 * fields::wide(lies.units);
+    let k = 2 * fields::wide(string.units);
     let n = text.len();
     if n < k {
         return 2;
     }
-    if n - k < lies.place {
+    if n - k < string.place {
         return 2;
     }
     0

@@ -14,16 +14,16 @@ use Rattle.acb_write_judge.proofs.size_of.Statement.{statement}
 use Rattle.acb_write_judge.proofs.size_of.Tie as tie
 
 abbrev Inv-loop : tie.InvT-loop
-Inv-loop run n tones total₀ i₀ total i = (i ≤ n) × (total ≤ 16777216) × (total + sizes (toned tones) (rows width taken run (n - i) i) ≡ total₀ + sizes (toned tones) (rows width taken run n 0))
+Inv-loop run n behind total₀ i₀ total i = (i ≤ n) × (total ≤ 16777216) × (total + sizes (toned behind) (rows width taken run (n - i) i) ≡ total₀ + sizes (toned behind) (rows width taken run n 0))
 
 abbrev μ-loop : tie.MeasureT-loop
-μ-loop run n tones total₀ i₀ total i = n - i
+μ-loop run n behind total₀ i₀ total i = n - i
 
 components-of-requires : tie.Need-components-of-requires Inv-loop μ-loop
 components-of-requires c κs = search needs
 
-add-tones : tie.Need-add-tones Inv-loop μ-loop
-add-tones c = omega (arith, c .components-of .ensures, components-some (c .before .before .args .header .space) .1)
+add-behind-name : tie.Need-add-behind-name Inv-loop μ-loop
+add-behind-name c = omega (arith, c .components-of .ensures, components-some (c .before .before .args .header .space) .1)
 
 head-size-requires : tie.Need-head-size-requires Inv-loop μ-loop
 head-size-requires c κs = search needs
@@ -94,7 +94,7 @@ size-of-spec =
     Inv-loop
     μ-loop
     components-of-requires
-    add-tones
+    add-behind-name
     head-size-requires
     ending-size-requires
     add-total
