@@ -10,7 +10,7 @@ use Rattle.algebra.specs.Faults.{firstOf}
 use Rattle.algebra.specs.Reader.{pick}
 use Rattle.algebra.proofs.Tells.{first-inv, pick-none}
 use native.Mathlib.Omega.{arith}
-use Rattle.acb.specs.Grammar.{Tag, Ending, tagged, other, Book, Swatch, Allowed}
+use Rattle.acb.specs.Grammar.{Tag, Ending, tagged, other, Book, AllowedRecord, Allowed}
 use Rattle.acb.specs.Reading.{isSpace, componentsOf, space}
 use Rattle.acb.specs.Faults.{endingFault, headFault, bookFault, EndingFits, BookFits}
 use Rattle.acb.proofs.Laws.{space-is, space-components, space-small, is-space}
@@ -64,6 +64,6 @@ allowed-fits b a = record {
   size = a .size .1;
   offset = a .offset;
   space = space-small (a .space);
-  colours = subst (λ (n : ℕ). All (λ i c. Swatch n c) 0 (b .colours)) (sym (space-components (a .space))) (a .colours);
+  colours = subst (λ (n : ℕ). All (λ i c. AllowedRecord n c) 0 (b .colours)) (sym (space-components (a .space))) (a .colours);
   tag = subst EndingFits (sym (a .tag)) tt;
 }

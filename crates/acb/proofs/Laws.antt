@@ -7,6 +7,7 @@ use lib.Dec.{ltb, eqb}
 use lib.ListN.{length, length-append}
 use borrow.Author.Tests.{eqb-true, ltb-true, lt-ltb}
 use native.Mathlib.Omega.{arith}
+use Rattle.algebra.specs.Chars.{chars}
 use Rattle.algebra.specs.Numbers.{be, joined, At, Bytes, All}
 use Rattle.algebra.specs.Reader.{Reader, ok, pick, field, body, fine, judged, give, _>>=_, each}
 use Rattle.algebra.specs.Text.{Name}
@@ -15,7 +16,7 @@ use Rattle.algebra.proofs.Places.{at-in, at-left, at-right, at-next}
 use Rattle.algebra.proofs.Inverse.{then-inv, unless-fine, ok-value, ok-place}
 use Rattle.algebra.proofs.Exact.{all-map, map-id, judged-exact, body-exact, same-exact, give-exact, each-exact}
 use Rattle.algebra.proofs.Sequence.{field-exact, only-exact, then-exact}
-use Rattle.acb.specs.Grammar.{Colour, Space, rgb, cmyk, lab, String, Octets, Swatch, stringBytes, colourBytes}
+use Rattle.acb.specs.Grammar.{Colour, Space, rgb, cmyk, lab, String, Octets, AllowedRecord, stringBytes, colourBytes}
 use Rattle.acb.specs.Reading.{string, Entry, colour, isSpace, componentsOf, pageSize, space, Numbers, Header, signature, version, opening, strings, numbers, header, colourOf, isTag, tag}
 
 -- the same by another name of what was read
@@ -137,42 +138,42 @@ module _ (s : List ℕ) (bytes : Bytes s) where
       view-exact (same-exact (each-exact {p = λ i. field 1} {Ok = λ i b. b < 256 ^ 1} (λ i. field-exact s bytes 1) n 0) (Octets n) (joined (be 1)) (few-octets n) (octets-few n) (λ bs h. refl))
       (λ bs. bs) map-id
 
-  abbrev paint : List ℕ → List ℕ → List ℕ → Colour
-  paint us cs ks = record { name = us; code = cs; components = ks }
+  abbrev entryBytes : List ℕ → List ℕ → List ℕ → Colour
+  entryBytes us cs ks = record { name = us; code = cs; components = ks }
 
   abbrev made : Name → List ℕ → List ℕ → Entry
   made nm cs ks = record { name = nm; code = cs; components = ks }
 
   third : (n : ℕ) (nm : Name) (cs : List ℕ) → Exact s (each n 0 (λ i. field 1) >>= (λ ks. give (made nm cs ks))) colourOf
-      (λ d. Octets n (d .components) × (paint (nm .units) cs (d .components) ≡ d)) (λ d. joined (be 1) (d .components) ++ [])
+      (λ d. Octets n (d .components) × (entryBytes (nm .units) cs (d .components) ≡ d)) (λ d. joined (be 1) (d .components) ++ [])
   third n nm cs =
-      then-exact {k = λ ks. give (made nm cs ks)} {viewD = colourOf} (λ ks d. paint (nm .units) cs ks ≡ d) (λ ks d. []) (λ d. d .components) (components-exact n)
+      then-exact {k = λ ks. give (made nm cs ks)} {viewD = colourOf} (λ ks d. entryBytes (nm .units) cs ks ≡ d) (λ ks d. []) (λ d. d .components) (components-exact n)
       (λ ks d e. sym (ap (λ (c : Colour). c .components) e)) (λ ks. give-exact s (made nm cs ks) colourOf)
 
   second : (n : ℕ) (nm : Name) → Exact s (body 1 6 >>= (λ cs. each n 0 (λ i. field 1) >>= (λ ks. give (made nm cs ks)))) colourOf
-      (λ d. Octets 6 (d .code) × (Octets n (d .components) × (paint (nm .units) (d .code) (d .components) ≡ d))) (λ d. joined (be 1) (d .code) ++ (joined (be 1) (d .components) ++ []))
+      (λ d. Octets 6 (d .code) × (Octets n (d .components) × (entryBytes (nm .units) (d .code) (d .components) ≡ d))) (λ d. joined (be 1) (d .code) ++ (joined (be 1) (d .components) ++ []))
   second n nm =
-      then-exact {k = λ cs. each n 0 (λ i. field 1) >>= (λ ks. give (made nm cs ks))} {viewD = colourOf} (λ cs d. Octets n (d .components) × (paint (nm .units) cs (d .components) ≡ d))
+      then-exact {k = λ cs. each n 0 (λ i. field 1) >>= (λ ks. give (made nm cs ks))} {viewD = colourOf} (λ cs d. Octets n (d .components) × (entryBytes (nm .units) cs (d .components) ≡ d))
       (λ cs d. joined (be 1) (d .components) ++ []) (λ d. d .code) code-exact (λ cs d h. sym (ap (λ (c : Colour). c .code) (h .1))) (third n nm)
 
-  pub colour-exact : (n : ℕ) → Exact s (colour n) colourOf (Swatch n) colourBytes
+  pub colour-exact : (n : ℕ) → Exact s (colour n) colourOf (AllowedRecord n) colourBytes
   unfolding colour colourBytes
   colour-exact n =
       same-exact
       (then-exact {k = λ nm. body 1 6 >>= (λ cs. each n 0 (λ i. field 1) >>= (λ ks. give (made nm cs ks)))} {viewD = colourOf}
-      (λ us d. Octets 6 (d .code) × (Octets n (d .components) × (paint us (d .code) (d .components) ≡ d)))
+      (λ us d. Octets 6 (d .code) × (Octets n (d .components) × (entryBytes us (d .code) (d .components) ≡ d)))
       (λ us d. joined (be 1) (d .code) ++ (joined (be 1) (d .components) ++ [])) (λ d. d .name) string-exact (λ us d h. sym (ap (λ (c : Colour). c .name) (h .1 .1))) (second n))
-      (Swatch n) (λ d. stringBytes (d .name) ++ (joined (be 1) (d .code) ++ joined (be 1) (d .components)))
+      (AllowedRecord n) (λ d. stringBytes (d .name) ++ (joined (be 1) (d .code) ++ joined (be 1) (d .components)))
       (λ d h. record { name = h .0; code = h .1 .0; components = h .1 .1 .0 })
       (λ d h. (h .name, (h .code, (h .components, refl))))
       (λ d h. ap (λ (l : List ℕ). stringBytes (d .name) ++ (joined (be 1) (d .code) ++ l)) (append-nil (joined (be 1) (d .components))))
 
   -- ---- the header
 
-  pub opening-exact : Exact s opening (λ i. i) (λ i. i < 256 ^ 2) (λ i. be 4 0x3842_4342 ++ (be 2 1 ++ be 2 i))
+  pub opening-exact : Exact s opening (λ i. i) (λ i. i < 256 ^ 2) (λ i. be 4 (chars "8BCB") ++ (be 2 1 ++ be 2 i))
   unfolding opening
   opening-exact =
-      only-exact s bytes 4 0x3842_4342 signature (omega arith) refl (λ x h. eqb-true x 0x3842_4342 (unless-fine (eqb x 0x3842_4342) _ h))
+      only-exact s bytes 4 (chars "8BCB") signature (omega arith) refl (λ x h. eqb-true x (chars "8BCB") (unless-fine (eqb x (chars "8BCB")) _ h))
       (only-exact s bytes 2 1 version (omega arith) refl (λ x h. eqb-true x 1 (unless-fine (eqb x 1) _ h)) (field-exact s bytes 2))
 
   pub strings-exact : Exact s strings (map (λ (nm : Name). nm .units)) (λ ts. (length ts ≡ 4) × All (λ k us. String us) 0 ts) (joined stringBytes)
@@ -211,7 +212,7 @@ pub record Headed (d : Top) : Type 0 where
   pub numbers : Counted (d .numbers)
 
 abbrev pub topBytes : Top → List ℕ
-topBytes d = (be 4 0x3842_4342 ++ (be 2 1 ++ be 2 (d .identifier))) ++ (joined stringBytes (d .texts) ++ numberBytes (d .numbers))
+topBytes d = (be 4 (chars "8BCB") ++ (be 2 1 ++ be 2 (d .identifier))) ++ (joined stringBytes (d .texts) ++ numberBytes (d .numbers))
 
 module _ (s : List ℕ) (bytes : Bytes s) where
   -- the numbers by the reader's tests
@@ -287,4 +288,4 @@ module _ (s : List ℕ) (bytes : Bytes s) where
       Headed topBytes
       (λ d h. record { identifier = h .0; four = h .1 .0 .0; texts = h .1 .0 .1; numbers = h .1 .1 .0 })
       (λ d h. (h .identifier, ((h .four, h .texts), (h .numbers, refl))))
-      (λ d h. ap (λ (l : List ℕ). (be 4 0x3842_4342 ++ (be 2 1 ++ be 2 (d .identifier))) ++ (joined stringBytes (d .texts) ++ l)) (append-nil (numberBytes (d .numbers))))
+      (λ d h. ap (λ (l : List ℕ). (be 4 (chars "8BCB") ++ (be 2 1 ++ be 2 (d .identifier))) ++ (joined stringBytes (d .texts) ++ l)) (append-nil (numberBytes (d .numbers))))

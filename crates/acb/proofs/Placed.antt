@@ -5,6 +5,7 @@ use mathlib.Core.List.{List}
 use lib.ListN.{length}
 use lib.Dec.{leb, ltb, eqb}
 use native.Mathlib.Omega.{arith}
+use Rattle.algebra.specs.Chars.{chars}
 use Rattle.algebra.specs.Reader.{refuse, field, body, judged, each, limit}
 use Rattle.algebra.specs.Refusal.{Of, among, Placed, ends, fails}
 use Rattle.algebra.proofs.Placed.{unless-numbered, refusal-placed, placed-then, placed-pick, field-placed, body-placed, judged-placed, ended-placed, each-placed}
@@ -26,7 +27,7 @@ module _ {s : List ℕ} where
   opening-placed : (at : ℕ) → at ≤ length s → Placed refusals s (opening s at)
   unfolding opening
   opening-placed at l =
-      placed-then (judged 4 signature s at) _ (judged-placed (among refl) 4 signature at (λ x. unless-numbered (eqb x 0x3842_4342) (among refl)) l)
+      placed-then (judged 4 signature s at) _ (judged-placed (among refl) 4 signature at (λ x. unless-numbered (eqb x (chars "8BCB")) (among refl)) l)
       (λ x q h. placed-then (judged 2 version s q) _ (judged-placed (among refl) 2 version q (λ v. unless-numbered (eqb v 1) (among refl)) h) (λ v e g. field-placed (among refl) 2 e g))
 
   numbers-placed : (at : ℕ) → at ≤ length s → Placed refusals s (numbers s at)

@@ -7,6 +7,7 @@ use lib.Seq.{length-take-le, take-at}
 use borrow.Author.Tests.{le-leb, lt-leb}
 use native.Mathlib.Omega.{arith}
 use native.Mathlib.Nat.{zero-add}
+use Rattle.algebra.specs.Chars.{chars}
 use Rattle.algebra.specs.Numbers.{be, joined, At, Bytes, All}
 use Rattle.algebra.specs.Reader.{ok, refuse, each}
 use Rattle.algebra.specs.Cut.{notWhole, Stub}
@@ -14,7 +15,7 @@ use Rattle.algebra.proofs.Places.{length-be, bytes-append}
 use Rattle.algebra.proofs.Cuts.{stub-take, bytes-take}
 use Rattle.algebra.proofs.Stops.{each-stops}
 use Rattle.algebra.proofs.Tails.{Tail, tail-left, tail-after, whole-tail}
-use Rattle.acb.specs.Grammar.{Tag, none, spot, process, Ending, tagged, Book, String, Swatch, Allowed, File, file, stringBytes, colourBytes, tagBytes, endingBytes, headBytes, fileBytes}
+use Rattle.acb.specs.Grammar.{Tag, none, spot, process, Ending, tagged, Book, String, AllowedRecord, Allowed, File, file, stringBytes, colourBytes, tagBytes, endingBytes, headBytes, fileBytes}
 use Rattle.acb.specs.Reading.{string, colour, componentsOf, Numbers, opening, strings, numbers, header, Contents, closing, book, acb, bookOf}
 use Rattle.acb.specs.Widths.{headWidths, colourWidths, endingWidths, fileWidths}
 use Rattle.acb.specs.Damaged.{CutString, DamagedNumbers, CutColour, DamagedEnd, opened, stringsEnd, counting, ending, tagAt, Damaged, wrong-opening, string-cut, wrong-numbers, record-cut, wrong-end, left-over, untagged}
@@ -41,7 +42,7 @@ module _ (i : ℕ) (ts : List (List ℕ)) (x : List ℕ) (small : i < 256 ^ 2) (
   opens : (opening s 0 ≡ ok i 8) × Tail s 8 (t ++ x)
   unfolding opened be
   opens =
-      let o : List ℕ = be 4 0x3842_4342 ++ (be 2 1 ++ be 2 i) in
+      let o : List ℕ = be 4 (chars "8BCB") ++ (be 2 1 ++ be 2 i) in
       let w : Tail s 0 (o ++ (t ++ x)) = whole-tail s in
       let r = opening-exact s bytes .reads 0 i small (tail-left s 0 o (t ++ x) w) in
       (r .1 ∙ ap (λ (k : ℕ). ok k 8) (r .2), tail-after s 0 o (t ++ x) 8 refl w)
@@ -82,7 +83,7 @@ module _ (b : Book) (a : Allowed b) (n : ℕ) (x : List ℕ) where
   length-counting : length (topBytes d) ≡ length (headBytes b)
   length-counting =
       let m : ℕ = length (b .colours) in
-      let o : List ℕ = be 4 0x3842_4342 ++ (be 2 1 ++ be 2 (b .identifier)) in
+      let o : List ℕ = be 4 (chars "8BCB") ++ (be 2 1 ++ be 2 (b .identifier)) in
       let ts : List ℕ = joined stringBytes (b .texts) in
       let r : List ℕ = be 2 (b .size) ++ (be 2 (b .offset) ++ be 2 (b .space)) in
       let long : (k : ℕ) → length (o ++ (ts ++ (be 2 k ++ r))) ≡ length o + length ts + 2 + length r = λ k. omega (arith, length-append o (ts ++ (be 2 k ++ r)), length-append ts (be 2 k ++ r), length-append (be 2 k) r, length-be 2 k) in
@@ -103,7 +104,7 @@ module _ (b : Book) (a : Allowed b) (n : ℕ) (x : List ℕ) where
       let tq : Tail s q (l ++ x) = tail-after s 0 (topBytes d) (l ++ x) q (zero-add q) t in
       let stop : colour m s (q + length l) ≡ refuse 2 (q + length l + p) 0 0 = colour-stops s bytes m (q + length l) (subst (λ (y : ℕ). CutColour y x p) (sym c) cut) (tail-after s q l x (q + length l) refl tq) in
       let y : each (r .0 .numbers .count) 0 (λ i. colour m) s q ≡ refuse 2 (q + length l + p) 0 0 =
-      each-stops {p = λ i. colour m} {Ok = λ i c. Swatch m c} (λ i. colour-exact s bytes m) (r .0 .numbers .count) 0 q (b .colours) (omega arith) (subst (λ (y : ℕ). All (λ i c. Swatch y c) 0 (b .colours)) (sym c) (a .colours)) (tail-left s q l x tq) stop in
+      each-stops {p = λ i. colour m} {Ok = λ i c. AllowedRecord m c} (λ i. colour-exact s bytes m) (r .0 .numbers .count) 0 q (b .colours) (omega arith) (subst (λ (y : ℕ). All (λ i c. AllowedRecord y c) 0 (b .colours)) (sym c) (a .colours)) (tail-left s q l x tq) stop in
       rw (r .1 ∙ ap (λ (k : ℕ). ok (r .0) k) (zero-add q)) (rw y (ap (λ (k : ℕ). refuse 2 (k + length l + p) 0 0) length-counting))
 
 -- behind the records
@@ -135,8 +136,8 @@ damaged-refused {s} d bytes short = simp (le-leb (length s) 16777216 short) (boo
 
 tag-eight : (t : Tag) → (t ≡ none → ⊥) → length (tagBytes t) ≡ 8
 tag-eight none ne = absurd (ne refl)
-tag-eight spot ne = length-be 8 0x7370_666C_7370_6F74
-tag-eight process ne = length-be 8 0x7370_666C_7072_6F63
+tag-eight spot ne = length-be 8 (chars "spflspot")
+tag-eight process ne = length-be 8 (chars "spflproc")
 
 -- bytes behind a book with a tag: 6 where they begin
 pub left-over-refused : {b : Book} {w : List ℕ} → File b w → (b .tag ≡ tagged none → ⊥) → (x : List ℕ) → Bytes x → 0 < length x → length (w ++ x) ≤ 16777216 → acb (w ++ x) ≡ refuse 6 (length w) 0 0

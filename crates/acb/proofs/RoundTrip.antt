@@ -13,7 +13,7 @@ use Rattle.algebra.specs.Reader.{ok, refuse, pick, numberOf, limit}
 use Rattle.algebra.specs.Faults.{firstOf}
 use Rattle.algebra.proofs.Places.{length-be, length-bes}
 use Rattle.algebra.proofs.Inverse.{clash, refuse-same, ok-value}
-use Rattle.acb.specs.Grammar.{Colour, none, Ending, tagged, other, Unknown, Book, Space, Swatch, stringBytes, colourBytes, endingBytes, headBytes, fileBytes, File, file}
+use Rattle.acb.specs.Grammar.{Colour, none, Ending, tagged, other, Unknown, Book, Space, AllowedRecord, stringBytes, colourBytes, endingBytes, headBytes, fileBytes, File, file}
 use Rattle.acb.specs.Reading.{isSpace, Contents, book, acb, bookOf}
 use Rattle.acb.specs.Faults.{endingFault, headFault, EndingFits, bookFault, BookFits}
 use Rattle.acb.specs.Damaged.{DamagedNumbers, size-zero, wrong-space, wrong-tag, opened, ending, Damaged, wrong-numbers, wrong-end, untagged}
@@ -69,7 +69,7 @@ allowed-undamaged (file {b} a short) d = clash (sym (damaged-refused d (bytes-fi
 
 -- ---- how many records a file can hold
 
-colour-least : (n : ℕ) → 3 ≤ n → (c : Colour) → Swatch n c → 13 ≤ length (colourBytes c)
+colour-least : (n : ℕ) → 3 ≤ n → (c : Colour) → AllowedRecord n c → 13 ≤ length (colourBytes c)
 unfolding colourBytes stringBytes
 colour-least n some c fit =
     let a : List ℕ = be 4 (length (c .name)) in
@@ -78,7 +78,7 @@ colour-least n some c fit =
     let ks : List ℕ = joined (be 1) (c .components) in
     omega (arith, length-append (a ++ us) (cs ++ ks), length-append a us, length-append cs ks, length-be 4 (length (c .name)), length-bes 1 (c .code), length-bes 1 (c .components), fit .code .count, fit .components .count)
 
-colours-least : (n : ℕ) → 3 ≤ n → (i : ℕ) (cs : List Colour) → All (λ k c. Swatch n c) i cs → 13 * length cs ≤ length (joined colourBytes cs)
+colours-least : (n : ℕ) → 3 ≤ n → (i : ℕ) (cs : List Colour) → All (λ k c. AllowedRecord n c) i cs → 13 * length cs ≤ length (joined colourBytes cs)
 unfolding joined
 colours-least n some i [] h = omega arith
 colours-least n some i (c ∷ cs) h = omega (arith, length-append (colourBytes c) (joined colourBytes cs), colour-least n some c (h .0), colours-least n some (i + 1) cs (h .1))

@@ -9,7 +9,7 @@ use Rattle.algebra.specs.Table.{rowAt, whole}
 use Rattle.algebra.proofs.Rows.{all-fit}
 use Rattle.algebra.proofs.Table.{whole-back}
 use Rattle.acb.specs.Reading.{Entry}
-use Rattle.acb.specs.Row.{Given, six, four, width, numbers, taken, givenOf, row}
+use Rattle.acb.specs.Row.{RecordRow, six, four, width, numbers, taken, givenOf, row}
 
 -- six numbers are six
 pub six-back : (cs : List ℕ) → length cs ≡ 6 → six cs 0 ≡ cs
@@ -35,10 +35,10 @@ pub four-back : (n : ℕ) (ks : List ℕ) → n ≤ 4 → length ks ≡ n → ta
 four-back n ks h l = ap (λ (j : ℕ). take j (four ks 0)) (sym l) ∙ four-take ks (omega arith)
 
 -- a row has its width, and gives back what it was made of
-pub length-numbers : (g : Given) → length (numbers g) ≡ width
+pub length-numbers : (g : RecordRow) → length (numbers g) ≡ width
 length-numbers g = refl
 
-pub taken-numbers : (g : Given) → length (g .code) ≡ 6 → length (g .components) ≡ 4 → taken (numbers g) ≡ g
+pub taken-numbers : (g : RecordRow) → length (g .code) ≡ 6 → length (g .components) ≡ 4 → taken (numbers g) ≡ g
 taken-numbers g h k =
     let a = six-back (g .code) h in
     let b = four-back 4 (g .components) (omega arith) k in

@@ -6,11 +6,12 @@ use mathlib.Core.Bool.{Bool, true, false, true≢false}
 use lib.ListN.{length}
 use native.Mathlib.Omega.{arith}
 use native.Mathlib.Decide.{ℕ-discrete}
+use Rattle.algebra.specs.Chars.{chars}
 use Rattle.algebra.specs.Numbers.{be, joined, Bytes, All}
 use Rattle.algebra.proofs.Places.{length-be, be-same}
 use Rattle.algebra.proofs.Exact.{all-map}
 use Rattle.algebra.proofs.Begins.{First, fewer, number, first, Row, shorter, numbers, row, PartOr, bad-part, good-part, PartsOr, bad-parts, good-parts, parts-or}
-use Rattle.acb.specs.Grammar.{Colour, Tag, none, spot, process, tagged, Unknown, Book, Space, String, Octets, Swatch, Allowed, File, file, stringBytes, colourBytes, tagBytes, headBytes, fileBytes}
+use Rattle.acb.specs.Grammar.{Colour, Tag, none, spot, process, tagged, Unknown, Book, Space, String, Octets, AllowedRecord, Allowed, File, file, stringBytes, colourBytes, tagBytes, headBytes, fileBytes}
 use Rattle.acb.specs.Reading.{isSpace, componentsOf}
 use Rattle.acb.specs.Damaged.{Paged, signature-cut, wrong-signature, version-cut, wrong-version, identifier-cut, CutString, count-cut, units-cut, DamagedNumbers, colours-cut, size-cut, size-zero, offset-cut, space-cut, wrong-space, CutColour, name-cut, code-cut, component-cut, DamagedEnd, tag-cut, wrong-tag, left-over, opened, stringsEnd, counting, ending, tagAt, Damaged, wrong-opening, string-cut, wrong-numbers, record-cut, wrong-end}
 use Rattle.acb.proofs.Laws.{space-is, is-space}
@@ -41,7 +42,7 @@ octets n bs e fit = record { count = e; each = all-map (λ k b. b < 256 ^ 1) (λ
 
 module _ (n : ℕ) where
   abbrev ColourOr : List ℕ → Type 0
-  ColourOr = PartOr (Swatch n) colourBytes (CutColour n)
+  ColourOr = PartOr (AllowedRecord n) colourBytes (CutColour n)
 
   components-by : (us : List ℕ) → String us → (cs : List ℕ) → Octets 6 cs → {l : List ℕ} → Row 1 n l → ColourOr (stringBytes us ++ (joined (be 1) cs ++ l))
   unfolding colourBytes
@@ -94,13 +95,13 @@ numbers-by (number n l fn b) = size-by n fn (first 2 l b)
 
 -- ---- what stands behind the records
 
-unknown : (v : ℕ) → v < 256 ^ 8 → (v ≡ 0x7370_666C_7370_6F74 → ⊥) → (v ≡ 0x7370_666C_7072_6F63 → ⊥) → Unknown v
+unknown : (v : ℕ) → v < 256 ^ 8 → (v ≡ chars "spflspot" → ⊥) → (v ≡ chars "spflproc" → ⊥) → Unknown v
 unknown v small a b = record { small = small; no-tag = λ t. go t }
   where
     go : (t : Tag) → be 8 v ≡ tagBytes t → ⊥
     go none e = omega (arith, length-be 8 v, ap length e)
-    go spot e = a (be-same 8 v 0x7370_666C_7370_6F74 small (omega arith) e)
-    go process e = b (be-same 8 v 0x7370_666C_7072_6F63 small (omega arith) e)
+    go spot e = a (be-same 8 v (chars "spflspot") small (omega arith) e)
+    go process e = b (be-same 8 v (chars "spflproc") small (omega arith) e)
 
 data EndOr : List ℕ → Type 0 where
   bad-end : {l : List ℕ} (z p : ℕ) → DamagedEnd l z p → EndOr l
@@ -116,10 +117,10 @@ eight-some t l e = let z : length (tagBytes t) ≡ 0 = ap (λ (t : Tag). length 
 
 tag-by : {l : List ℕ} → 0 < length l → First 8 l → EndOr l
 tag-by some (fewer l h) = bad-end 2 0 (tag-cut l some h)
-tag-by some (number v l small b) = elim (ℕ-discrete v 0x7370_666C_7370_6F74) [
-  | yes e ↦ subst (λ (k : ℕ). EndOr (be 8 k ++ l)) (sym e) (tagged-by spot (eight-some spot (length-be 8 0x7370_666C_7370_6F74)) l)
-  | no e ↦ elim (ℕ-discrete v 0x7370_666C_7072_6F63) [
-    | yes f ↦ subst (λ (k : ℕ). EndOr (be 8 k ++ l)) (sym f) (tagged-by process (eight-some process (length-be 8 0x7370_666C_7072_6F63)) l)
+tag-by some (number v l small b) = elim (ℕ-discrete v (chars "spflspot")) [
+  | yes e ↦ subst (λ (k : ℕ). EndOr (be 8 k ++ l)) (sym e) (tagged-by spot (eight-some spot (length-be 8 (chars "spflspot"))) l)
+  | no e ↦ elim (ℕ-discrete v (chars "spflproc")) [
+    | yes f ↦ subst (λ (k : ℕ). EndOr (be 8 k ++ l)) (sym f) (tagged-by process (eight-some process (length-be 8 (chars "spflproc"))) l)
     | no f ↦ bad-end 3 0 (wrong-tag v l (unknown v small e f))
   ]
 ]
@@ -151,13 +152,13 @@ module _ (i : ℕ) (ts : List (List ℕ)) (fi : i < 256 ^ 2) (four : length ts �
   abbrev made : ℕ → ℕ → ℕ → List Colour → Book
   made z o v cs = record { identifier = i; texts = ts; size = z; offset = o; space = v; colours = cs; tag = tagged none }
 
-  sound : (n z o v m : ℕ) (cs : List Colour) → Paged n z → o < 256 ^ 2 → Space v m → length cs ≤ n → All (λ k c. Swatch m c) 0 cs → Allowed (made z o v cs)
+  sound : (n z o v m : ℕ) (cs : List Colour) → Paged n z → o < 256 ^ 2 → Space v m → length cs ≤ n → All (λ k c. AllowedRecord m c) 0 cs → Allowed (made z o v cs)
   sound n z o v m cs h fo sp few ok = record { identifier = fi; four = four; texts = texts; count = omega (arith, h .count); size = (h .some, h .size); offset = fo; components = m; space = sp; colours = ok; ends = none; tag = refl }
 
   abbrev headed : ℕ → ℕ → ℕ → ℕ → List ℕ → List ℕ
   headed n z o v l = opened i ts (be 2 n ++ (be 2 z ++ (be 2 o ++ (be 2 v ++ l))))
 
-  records-by : (n z o v m : ℕ) → Paged n z → o < 256 ^ 2 → Space v m → {l : List ℕ} → PartsOr (Swatch m) colourBytes (CutColour m) n l → Short (headed n z o v l) → FileOr (headed n z o v l)
+  records-by : (n z o v m : ℕ) → Paged n z → o < 256 ^ 2 → Space v m → {l : List ℕ} → PartsOr (AllowedRecord m) colourBytes (CutColour m) n l → Short (headed n z o v l) → FileOr (headed n z o v l)
   unfolding counting opened ending headBytes sound
   records-by n z o v m h fo sp (bad-parts before l p few ok d) fits =
       let b : Book = made z o v before in
@@ -168,30 +169,30 @@ module _ (i : ℕ) (ts : List (List ℕ)) (fi : i < 256 ^ 2) (four : length ts �
 
   header-by : {l : List ℕ} → NumbersOr l → Short (opened i ts l) → FileOr (opened i ts l)
   header-by (bad-numbers {l} z p d) fits = is-damaged z (stringsEnd ts + p) (wrong-numbers i ts l z p fi four texts d)
-  header-by (good-numbers n z o v m l h fo sp b) fits = records-by n z o v m h fo sp (parts-or (Swatch m) colourBytes (CutColour m) (colour-or m) n l b) fits
+  header-by (good-numbers n z o v m l h fo sp b) fits = records-by n z o v m h fo sp (parts-or (AllowedRecord m) colourBytes (CutColour m) (colour-or m) n l b) fits
 
 abbrev begun : ℕ → List ℕ → List ℕ
-begun i l = be 4 0x3842_4342 ++ (be 2 1 ++ (be 2 i ++ l))
+begun i l = be 4 (chars "8BCB") ++ (be 2 1 ++ (be 2 i ++ l))
 
 strings-by : (i : ℕ) → i < 256 ^ 2 → {l : List ℕ} → PartsOr String stringBytes CutString 4 l → Short (begun i l) → FileOr (begun i l)
 unfolding opened
 strings-by i fi (bad-parts before l p few ok d) fits = is-damaged 2 (stringsEnd before + p) (string-cut i before l p fi few ok d)
 strings-by i fi (good-parts ts l four ok b) fits = header-by i ts fi four ok (numbers-by (first 2 l b)) fits
 
-identifier-by : {l : List ℕ} → First 2 l → Short (be 4 0x3842_4342 ++ (be 2 1 ++ l)) → FileOr (be 4 0x3842_4342 ++ (be 2 1 ++ l))
+identifier-by : {l : List ℕ} → First 2 l → Short (be 4 (chars "8BCB") ++ (be 2 1 ++ l)) → FileOr (be 4 (chars "8BCB") ++ (be 2 1 ++ l))
 identifier-by (fewer l h) fits = is-damaged 2 6 (wrong-opening _ 2 6 (identifier-cut l h))
 identifier-by (number i l fi b) fits = strings-by i fi (parts-or String stringBytes CutString string-or 4 l b) fits
 
-version-by : {l : List ℕ} → First 2 l → Short (be 4 0x3842_4342 ++ l) → FileOr (be 4 0x3842_4342 ++ l)
+version-by : {l : List ℕ} → First 2 l → Short (be 4 (chars "8BCB") ++ l) → FileOr (be 4 (chars "8BCB") ++ l)
 version-by (fewer l h) fits = is-damaged 2 4 (wrong-opening _ 2 4 (version-cut l h))
 version-by (number v l small b) fits = elim (ℕ-discrete v 1) [
-  | yes e ↦ subst (λ (k : ℕ). Short (be 4 0x3842_4342 ++ (be 2 k ++ l)) → FileOr (be 4 0x3842_4342 ++ (be 2 k ++ l))) (sym e) (identifier-by (first 2 l b)) fits
+  | yes e ↦ subst (λ (k : ℕ). Short (be 4 (chars "8BCB") ++ (be 2 k ++ l)) → FileOr (be 4 (chars "8BCB") ++ (be 2 k ++ l))) (sym e) (identifier-by (first 2 l b)) fits
   | no e ↦ is-damaged 3 4 (wrong-opening _ 3 4 (wrong-version v l small e))
 ]
 
 signature-by : {l : List ℕ} → First 4 l → Short l → FileOr l
 signature-by (fewer l h) fits = is-damaged 2 0 (wrong-opening l 2 0 (signature-cut l h))
-signature-by (number v l small b) fits = elim (ℕ-discrete v 0x3842_4342) [
+signature-by (number v l small b) fits = elim (ℕ-discrete v (chars "8BCB")) [
   | yes e ↦ subst (λ (k : ℕ). Short (be 4 k ++ l) → FileOr (be 4 k ++ l)) (sym e) (version-by (first 2 l b)) fits
   | no e ↦ is-damaged 3 0 (wrong-opening (be 4 v ++ l) 3 0 (wrong-signature v l small e))
 ]

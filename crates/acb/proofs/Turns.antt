@@ -7,6 +7,7 @@ use lib.ListN.{length}
 use borrow.Author.Tests.{ne-eqb}
 use native.Mathlib.Omega.{arith}
 use native.Mathlib.Nat.{add-zero}
+use Rattle.algebra.specs.Chars.{chars}
 use Rattle.algebra.specs.Numbers.{nums, be, joined, Bytes}
 use Rattle.algebra.specs.Reader.{Res, ok, refuse, field, fault, judged, each}
 use Rattle.algebra.proofs.Laws.{field-short, body-short}
@@ -39,8 +40,8 @@ no-tag v u = go (isTag v) refl
     go false e = e
 
 -- each number, and what is right
-other-signature : (v : ℕ) → (v ≡ 0x3842_4342 → ⊥) → signature v ≡ fault 3 0 0
-other-signature v ne = rw (ne-eqb v 0x3842_4342 ne)
+other-signature : (v : ℕ) → (v ≡ chars "8BCB" → ⊥) → signature v ≡ fault 3 0 0
+other-signature v ne = rw (ne-eqb v (chars "8BCB") ne)
 
 other-version : (v : ℕ) → (v ≡ 1 → ⊥) → version v ≡ fault 3 0 0
 other-version v ne = rw (ne-eqb v 1 ne)
@@ -60,8 +61,8 @@ module _ (s : List ℕ) where
 
   -- ---- signature, version, identifier
 
-  signed : (x : List ℕ) → Tail s 0 (be 4 0x3842_4342 ++ x) → (judged 4 signature s 0 ≡ ok 0x3842_4342 4) × Tail s 4 x
-  signed x t = (judged-there s 4 0 signature 0x3842_4342 (omega arith) refl (tail-left s 0 (be 4 0x3842_4342) x t), behind 4 0x3842_4342 0 x t)
+  signed : (x : List ℕ) → Tail s 0 (be 4 (chars "8BCB") ++ x) → (judged 4 signature s 0 ≡ ok (chars "8BCB") 4) × Tail s 4 x
+  signed x t = (judged-there s 4 0 signature (chars "8BCB") (omega arith) refl (tail-left s 0 (be 4 (chars "8BCB")) x t), behind 4 (chars "8BCB") 0 x t)
 
   versioned : (x : List ℕ) → Tail s 4 (be 2 1 ++ x) → (judged 2 version s 4 ≡ ok 1 6) × Tail s 6 x
   versioned x t = (judged-there s 2 4 version 1 (omega arith) refl (tail-left s 4 (be 2 1) x t), behind 2 1 4 x t)
@@ -168,5 +169,5 @@ module _ (s : List ℕ) (bytes : Bytes s) (at : ℕ) where
       let x : Tail s (at + 8) l = behind s 8 v at l t in
       rw (ne-eqb at (length s) (λ z. omega (arith, x .ends))) (rw (judged-wrong s 8 at tag 3 v (u .small) (other-tag v u) (tail-left s at (be 8 v) l t)) (here s 3 at))
   end-stops (left-over none l ne some) t = absurd (ne refl)
-  end-stops (left-over spot l ne some) t = left 0x7370_666C_7370_6F74 l (omega arith) refl some t
-  end-stops (left-over process l ne some) t = left 0x7370_666C_7072_6F63 l (omega arith) refl some t
+  end-stops (left-over spot l ne some) t = left (chars "spflspot") l (omega arith) refl some t
+  end-stops (left-over process l ne some) t = left (chars "spflproc") l (omega arith) refl some t

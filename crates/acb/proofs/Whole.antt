@@ -8,6 +8,7 @@ use lib.ListN.{length, length-append}
 use borrow.Author.Tests.{eqb-true, eq-eqb, ne-eqb, le-leb, leb-true}
 use native.Mathlib.Omega.{arith}
 use native.Mathlib.Nat.{add-zero, zero-add}
+use Rattle.algebra.specs.Chars.{chars}
 use Rattle.algebra.specs.Numbers.{be, joined, At, Bytes, All}
 use Rattle.algebra.specs.Reader.{Res, ok, pick, then, judged, each, ended}
 use Rattle.algebra.specs.Text.{Name}
@@ -15,7 +16,7 @@ use Rattle.algebra.specs.Algebra.{Exact}
 use Rattle.algebra.proofs.Places.{length-be, at-in, at-next, at-left, at-after, at-all, at-whole, bytes-nil, bytes-append, bytes-be, bytes-joined}
 use Rattle.algebra.proofs.Inverse.{then-inv, pick-inv, unless-fine, ended-inv, ok-value, ok-place}
 use Rattle.algebra.proofs.Exact.{judged-exact, each-exact}
-use Rattle.acb.specs.Grammar.{Colour, Tag, none, spot, process, Ending, tagged, other, Book, Space, Swatch, stringBytes, colourBytes, tagBytes, endingBytes, headBytes, fileBytes, Allowed, File, file}
+use Rattle.acb.specs.Grammar.{Colour, Tag, none, spot, process, Ending, tagged, other, Book, Space, AllowedRecord, stringBytes, colourBytes, tagBytes, endingBytes, headBytes, fileBytes, Allowed, File, file}
 use Rattle.acb.specs.Reading.{Entry, colour, colourOf, componentsOf, Numbers, Header, header, isTag, tagOf, tag, closing, Contents, book, acb, bookOf}
 use Rattle.acb.proofs.Laws.{tag-fine, space-components, colour-exact, numberBytes, Top, topOf, Headed, topBytes, header-exact}
 
@@ -31,7 +32,7 @@ pub head-parts : (b : Book) → headBytes b ≡ topBytes (topIn b)
 unfolding headBytes
 head-parts b =
     let r : List ℕ = joined stringBytes (b .texts) ++ numberBytes (numbersOf b) in
-    sym (append-assoc (be 4 0x3842_4342) (be 2 1 ++ be 2 (b .identifier)) r ∙ ap (λ (l : List ℕ). be 4 0x3842_4342 ++ l) (append-assoc (be 2 1) (be 2 (b .identifier)) r))
+    sym (append-assoc (be 4 (chars "8BCB")) (be 2 1 ++ be 2 (b .identifier)) r ∙ ap (λ (l : List ℕ). be 4 (chars "8BCB") ++ l) (append-assoc (be 2 1) (be 2 (b .identifier)) r))
 
 pub allowed-headed : (b : Book) → Allowed b → Headed (topIn b)
 allowed-headed b a = record {
@@ -49,19 +50,19 @@ at-none s at le = le
 
 pub bytes-tag : (t : Tag) → Bytes (tagBytes t)
 bytes-tag none = bytes-nil
-bytes-tag spot = bytes-be 8 0x7370_666C_7370_6F74
-bytes-tag process = bytes-be 8 0x7370_666C_7072_6F63
+bytes-tag spot = bytes-be 8 (chars "spflspot")
+bytes-tag process = bytes-be 8 (chars "spflproc")
 
 pub bytes-ending : (e : Ending) → Bytes (endingBytes e)
 bytes-ending (tagged t) = bytes-tag t
 bytes-ending (other v) = bytes-be 8 v
 
 pub tag-is : (v : ℕ) → isTag v ≡ true → tagBytes (tagOf v) ≡ be 8 v
-tag-is v h = go (eqb v 0x7370_666C_7370_6F74) (eqb v 0x7370_666C_7072_6F63) refl refl h
+tag-is v h = go (eqb v (chars "spflspot")) (eqb v (chars "spflproc")) refl refl h
   where
-    go : (a b : Bool) → eqb v 0x7370_666C_7370_6F74 ≡ a → eqb v 0x7370_666C_7072_6F63 ≡ b → pick a true b ≡ true → tagBytes (pick a spot process) ≡ be 8 v
-    go true b p q e = ap (be 8) (sym (eqb-true v 0x7370_666C_7370_6F74 p))
-    go false true p q e = ap (be 8) (sym (eqb-true v 0x7370_666C_7072_6F63 q))
+    go : (a b : Bool) → eqb v (chars "spflspot") ≡ a → eqb v (chars "spflproc") ≡ b → pick a true b ≡ true → tagBytes (pick a spot process) ≡ be 8 v
+    go true b p q e = ap (be 8) (sym (eqb-true v (chars "spflspot") p))
+    go false true p q e = ap (be 8) (sym (eqb-true v (chars "spflproc") q))
     go false false p q e = let z : _≡_ {A = ℕ} 0 1 = cc in absurd (omega arith)
 
 module _ (s : List ℕ) (bytes : Bytes s) where
@@ -77,8 +78,8 @@ module _ (s : List ℕ) (bytes : Bytes s) where
   pub closing-reads : (t : Tag) (at : ℕ) → At s at (tagBytes t) → at + length (tagBytes t) ≡ length s → closing s at ≡ ok t (length s)
   unfolding closing
   closing-reads none at h end = let e : at ≡ length s = sym (add-zero at) ∙ end in rw (eq-eqb at (length s) e) (ap (λ (k : ℕ). ok none k) e)
-  closing-reads spot at h end = tag-reads 0x7370_666C_7370_6F74 (omega arith) refl at h end
-  closing-reads process at h end = tag-reads 0x7370_666C_7072_6F63 (omega arith) refl at h end
+  closing-reads spot at h end = tag-reads (chars "spflspot") (omega arith) refl at h end
+  closing-reads process at h end = tag-reads (chars "spflproc") (omega arith) refl at h end
 
   pub closing-writes : (at : ℕ) → at ≤ length s → (t : Tag) (q : ℕ) → closing s at ≡ ok t q → At s at (tagBytes t) × (at + length (tagBytes t) ≡ length s) × (q ≡ length s)
   unfolding closing
@@ -119,7 +120,7 @@ bytes-head b =
     let l3 : List ℕ = be 2 (n .offset) ++ be 2 (n .space) in
     let l2 : List ℕ = be 2 (n .size) ++ l3 in
     subst Bytes (sym (head-parts b))
-    (bytes-append (be 4 0x3842_4342 ++ o) (t ++ numberBytes n) (bytes-append (be 4 0x3842_4342) o (bytes-be 4 0x3842_4342) (bytes-append (be 2 1) (be 2 (b .identifier)) (bytes-be 2 1) (bytes-be 2 (b .identifier))))
+    (bytes-append (be 4 (chars "8BCB") ++ o) (t ++ numberBytes n) (bytes-append (be 4 (chars "8BCB")) o (bytes-be 4 (chars "8BCB")) (bytes-append (be 2 1) (be 2 (b .identifier)) (bytes-be 2 1) (bytes-be 2 (b .identifier))))
     (bytes-append t (numberBytes n) (bytes-joined stringBytes bytes-string (b .texts))
     (bytes-append (be 2 (n .count)) l2 (bytes-be 2 (n .count)) (bytes-append (be 2 (n .size)) l3 (bytes-be 2 (n .size)) (bytes-append (be 2 (n .offset)) (be 2 (n .space)) (bytes-be 2 (n .offset)) (bytes-be 2 (n .space)))))))
 
@@ -135,8 +136,8 @@ bytes-file b =
 -- ---- the grammar's bytes are read
 
 module _ (s : List ℕ) (bytes : Bytes s) (n : ℕ) where
-  pub colours-exact : (k : ℕ) → Exact s (each k 0 (λ i. colour n)) (map colourOf) (λ cs. (length cs ≡ k) × All (λ i c. Swatch n c) 0 cs) (joined colourBytes)
-  colours-exact k = each-exact {p = λ i. colour n} {Ok = λ i c. Swatch n c} (λ i. colour-exact s bytes n) k 0
+  pub colours-exact : (k : ℕ) → Exact s (each k 0 (λ i. colour n)) (map colourOf) (λ cs. (length cs ≡ k) × All (λ i c. AllowedRecord n c) 0 cs) (joined colourBytes)
+  colours-exact k = each-exact {p = λ i. colour n} {Ok = λ i c. AllowedRecord n c} (λ i. colour-exact s bytes n) k 0
 
 module _ (b : Book) (a : Allowed b) where
   abbrev same-book : Header → List Entry → Type 0
@@ -163,7 +164,7 @@ module _ (b : Book) (a : Allowed b) where
       let ns : hd .numbers ≡ numbersOf b = ap (λ (y : Top). y .numbers) (r .2) in
       let n : componentsOf (hd .numbers .space) ≡ a .components = ap (λ (y : Numbers). componentsOf (y .space)) ns ∙ space-components (a .space) in
       let k : length (b .colours) ≡ hd .numbers .count = sym (ap (λ (y : Numbers). y .count) ns) in
-      let fit : All (λ i c. Swatch (componentsOf (hd .numbers .space)) c) 0 (b .colours) = subst (λ (m : ℕ). All (λ i c. Swatch m c) 0 (b .colours)) (sym n) (a .colours) in
+      let fit : All (λ i c. AllowedRecord (componentsOf (hd .numbers .space)) c) 0 (b .colours) = subst (λ (m : ℕ). All (λ i c. AllowedRecord m c) 0 (b .colours)) (sym n) (a .colours) in
       let y = colours-exact s bytes (componentsOf (hd .numbers .space)) (hd .numbers .count) .reads p (b .colours) (k, fit) (at-left s p l x h1) in
       let e : header s 0 ≡ ok hd p = r .1 ∙ ap (λ (m : ℕ). ok hd m) z in
       (hd, y .0, (r .2, y .2), rw e (rw (y .1)))
@@ -215,7 +216,7 @@ module _ (s : List ℕ) (bytes : Bytes s) where
       go hd (t .1) (u .0) (u .1) (v .0) x y (z .0, z .1) (ok-value (v .3)) (sym (ok-place (v .3)) ∙ z .2)
     where
       go : (hd : Header) (p : ℕ) (es : List Entry) (r : ℕ) (ending : Tag) → Headed (topOf hd) × At s 0 (topBytes (topOf hd)) × (0 + length (topBytes (topOf hd)) ≡ p)
-          → ((length (map colourOf es) ≡ hd .numbers .count) × All (λ i k. Swatch (componentsOf (hd .numbers .space)) k) 0 (map colourOf es)) × At s p (joined colourBytes (map colourOf es)) × (p + length (joined colourBytes (map colourOf es)) ≡ r)
+          → ((length (map colourOf es) ≡ hd .numbers .count) × All (λ i k. AllowedRecord (componentsOf (hd .numbers .space)) k) 0 (map colourOf es)) × At s p (joined colourBytes (map colourOf es)) × (p + length (joined colourBytes (map colourOf es)) ≡ r)
           → At s r (tagBytes ending) × (r + length (tagBytes ending) ≡ length s)
           → record { header = hd; first = p; entries = es; tag = ending } ≡ c → q ≡ length s → File (bookOf c) s × (q ≡ length s)
       go hd p es r ending x y z is end =

@@ -4,6 +4,7 @@ use Prim.Native.Nat.{ℕ, _+_, _*_, _^_, _<_}
 use mathlib.Core.Path.{_≡_}
 use mathlib.Core.List.{List, _++_}
 use lib.ListN.{length}
+use Rattle.algebra.specs.Chars.{chars}
 use Rattle.algebra.specs.Numbers.{be, joined, All}
 use Rattle.acb.specs.Grammar.{Tag, none, tagged, Unknown, Book, Space, String, Octets, Allowed, stringBytes, colourBytes, tagBytes, headBytes}
 
@@ -12,10 +13,10 @@ use Rattle.acb.specs.Grammar.{Tag, none, tagged, Unknown, Book, Space, S
 -- signature, version, identifier
 pub data DamagedOpening : List ℕ → ℕ → ℕ → Type 0 where
   signature-cut : (l : List ℕ) → length l < 4 → DamagedOpening l 2 0
-  wrong-signature : (v : ℕ) (l : List ℕ) → v < 256 ^ 4 → (v ≡ 0x3842_4342 → ⊥) → DamagedOpening (be 4 v ++ l) 3 0
-  version-cut : (l : List ℕ) → length l < 2 → DamagedOpening (be 4 0x3842_4342 ++ l) 2 4
-  wrong-version : (v : ℕ) (l : List ℕ) → v < 256 ^ 2 → (v ≡ 1 → ⊥) → DamagedOpening (be 4 0x3842_4342 ++ (be 2 v ++ l)) 3 4
-  identifier-cut : (l : List ℕ) → length l < 2 → DamagedOpening (be 4 0x3842_4342 ++ (be 2 1 ++ l)) 2 6
+  wrong-signature : (v : ℕ) (l : List ℕ) → v < 256 ^ 4 → (v ≡ chars "8BCB" → ⊥) → DamagedOpening (be 4 v ++ l) 3 0
+  version-cut : (l : List ℕ) → length l < 2 → DamagedOpening (be 4 (chars "8BCB") ++ l) 2 4
+  wrong-version : (v : ℕ) (l : List ℕ) → v < 256 ^ 2 → (v ≡ 1 → ⊥) → DamagedOpening (be 4 (chars "8BCB") ++ (be 2 v ++ l)) 3 4
+  identifier-cut : (l : List ℕ) → length l < 2 → DamagedOpening (be 4 (chars "8BCB") ++ (be 2 1 ++ l)) 2 6
 
 -- a string is never wrong, only cut: 2, here without its number
 pub data CutString : List ℕ → ℕ → Type 0 where
@@ -56,7 +57,7 @@ pub data DamagedEnd : List ℕ → ℕ → ℕ → Type 0 where
 
 -- `8BCB`, 1, the identifier i, the strings ts, and the bytes x
 unfoldable pub opened : ℕ → List (List ℕ) → List ℕ → List ℕ
-opened i ts x = be 4 0x3842_4342 ++ (be 2 1 ++ (be 2 i ++ (joined stringBytes ts ++ x)))
+opened i ts x = be 4 (chars "8BCB") ++ (be 2 1 ++ (be 2 i ++ (joined stringBytes ts ++ x)))
 
 -- the place behind the strings
 unfoldable pub stringsEnd : List (List ℕ) → ℕ

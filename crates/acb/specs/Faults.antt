@@ -6,7 +6,7 @@ use lib.ListN.{length}
 use Rattle.algebra.specs.Numbers.{All}
 use Rattle.algebra.specs.Reader.{pick}
 use Rattle.algebra.specs.Faults.{firstOf}
-use Rattle.acb.specs.Grammar.{Ending, tagged, other, Unknown, Book, String, Swatch}
+use Rattle.acb.specs.Grammar.{Ending, tagged, other, Unknown, Book, String, AllowedRecord}
 use Rattle.acb.specs.Reading.{isSpace, componentsOf}
 
 -- another tag is 3
@@ -35,5 +35,5 @@ pub record BookFits (b : Book) : Type 0 where
   pub size : b .size < 256 ^ 2
   pub offset : b .offset < 256 ^ 2
   pub space : b .space < 256 ^ 2
-  pub colours : All (λ k c. Swatch (componentsOf (b .space)) c) 0 (b .colours)
+  pub colours : All (λ k c. AllowedRecord (componentsOf (b .space)) c) 0 (b .colours)
   pub tag : EndingFits (b .tag)

@@ -4,6 +4,7 @@ use Prim.Native.Nat.{ℕ, _^_, _≤_, _<_}
 use mathlib.Core.Path.{_≡_}
 use mathlib.Core.List.{List, [], _++_}
 use lib.ListN.{length}
+use Rattle.algebra.specs.Chars.{chars}
 use Rattle.algebra.specs.Numbers.{be, joined, All}
 
 -- a record: the units of its name, its code, its components; one without a name is a dummy
@@ -46,8 +47,8 @@ colourBytes c = stringBytes (c .name) ++ (joined (be 1) (c .code) ++ joined (be 
 -- nothing, `spflspot` or `spflproc`
 abbrev pub tagBytes : Tag → List ℕ
 tagBytes none = []
-tagBytes spot = be 8 0x7370_666C_7370_6F74
-tagBytes process = be 8 0x7370_666C_7072_6F63
+tagBytes spot = be 8 (chars "spflspot")
+tagBytes process = be 8 (chars "spflproc")
 
 -- eight bytes that are no tag
 pub record Unknown (v : ℕ) : Type 0 where
@@ -61,7 +62,7 @@ endingBytes (other v) = be 8 v
 -- `8BCB`, 1, identifier, four strings, colour count, page size, page offset, space
 unfoldable pub headBytes : Book → List ℕ
 headBytes b =
-    be 4 0x3842_4342 ++ (be 2 1 ++ (be 2 (b .identifier)
+    be 4 (chars "8BCB") ++ (be 2 1 ++ (be 2 (b .identifier)
     ++ (joined stringBytes (b .texts)
     ++ (be 2 (length (b .colours)) ++ (be 2 (b .size) ++ (be 2 (b .offset) ++ be 2 (b .space)))))))
 
@@ -87,7 +88,7 @@ pub record Octets (n : ℕ) (bs : List ℕ) : Type 0 where
   pub each : All (λ k b. b < 256) 0 bs
 
 -- a record of n components
-pub record Swatch (n : ℕ) (c : Colour) : Type 0 where
+pub record AllowedRecord (n : ℕ) (c : Colour) : Type 0 where
   pub name : String (c .name)
   pub code : Octets 6 (c .code)
   pub components : Octets n (c .components)
@@ -102,7 +103,7 @@ pub record Allowed (b : Book) : Type 0 where
   pub offset : b .offset < 256 ^ 2
   pub components : ℕ
   pub space : Space (b .space) components
-  pub colours : All (λ k c. Swatch components c) 0 (b .colours)
+  pub colours : All (λ k c. AllowedRecord components c) 0 (b .colours)
   -- no other tag
   pub ends : Tag
   pub tag : b .tag ≡ tagged ends

@@ -4,6 +4,7 @@ use mathlib.Core.List.{List, map}
 use mathlib.Core.Bool.{Bool, true}
 use lib.Dec.{leb, ltb, eqb}
 use lib.ListN.{length}
+use Rattle.algebra.specs.Chars.{chars}
 use Rattle.algebra.specs.Reader.{Res, ok, refuse, Reader, then, pick, field, body, Judged, unless, judged, give, _>>=_, each, ended, limit}
 use Rattle.algebra.specs.Text.{Name}
 use Rattle.colour.specs.Spaces.{rgb, cmyk, lab}
@@ -65,7 +66,7 @@ pub record Header : Type 0 where
 
 -- `8BCB`, else 3
 abbrev pub signature : ℕ → Judged
-signature x = unless (eqb x 0x3842_4342) 3
+signature x = unless (eqb x (chars "8BCB")) 3
 
 -- another version than 1 is 3
 abbrev pub version : ℕ → Judged
@@ -100,11 +101,11 @@ header = do
 -- ---- the file
 
 abbrev pub isTag : ℕ → Bool
-isTag t = pick (eqb t 0x7370_666C_7370_6F74) true (eqb t 0x7370_666C_7072_6F63)
+isTag t = pick (eqb t (chars "spflspot")) true (eqb t (chars "spflproc"))
 
 -- `spflspot` or `spflproc`
 abbrev pub tagOf : ℕ → Tag
-tagOf t = pick (eqb t 0x7370_666C_7370_6F74) spot process
+tagOf t = pick (eqb t (chars "spflspot")) spot process
 
 -- other tags are 3
 abbrev pub tag : ℕ → Judged

@@ -5,7 +5,7 @@ use lib.ListN.{length, getD}
 use Rattle.acb.specs.Reading.{Entry}
 
 -- a record as it is given: its name by the place of its first unit and its number of units, its code, four components
-pub record Given : Type 0 where
+pub record RecordRow : Type 0 where
   pub name : ℕ × ℕ
   pub code : List ℕ
   pub components : List ℕ
@@ -22,15 +22,15 @@ abbrev pub width : ℕ
 width = 12
 
 -- place of the name's first unit, number of units, six code bytes, four components
-abbrev pub numbers : Given → List ℕ
+abbrev pub numbers : RecordRow → List ℕ
 numbers g = g .name .0 ∷ g .name .1 ∷ (six (g .code) 0 ++ four (g .components) 0)
 
 -- the way back
-abbrev pub taken : List ℕ → Given
+abbrev pub taken : List ℕ → RecordRow
 taken l = record { name = (getD l 0 0, getD l 1 0); code = six l 2; components = four l 8 }
 
 -- a record that was read, with 0 in the place that its space does not use
-abbrev pub givenOf : Entry → Given
+abbrev pub givenOf : Entry → RecordRow
 givenOf e = record { name = (e .name .first, length (e .name .units)); code = six (e .code) 0; components = four (e .components) 0 }
 
 abbrev pub row : Entry → List ℕ

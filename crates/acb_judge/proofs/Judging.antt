@@ -8,6 +8,7 @@ use lib.Dec.{leb, eqb}
 use borrow.Author.Tests.{le-leb, lt-leb, leb-true, leb-false, eq-eqb, ne-eqb}
 use native.Mathlib.Omega.{arith}
 use native.Mathlib.Nat.{add-zero}
+use Rattle.algebra.specs.Chars.{chars}
 use Rattle.algebra.specs.Numbers.{num}
 use Rattle.algebra.specs.Reader.{Res, ok, refuse, then, pick, field, body, done, mapRes, each, ended, judged, unless, limit}
 use Rattle.algebra.specs.Table.{accepted, refused, verdict}
@@ -17,8 +18,9 @@ use Rattle.algebra.proofs.Places.{length-nums}
 use Rattle.algebra.proofs.Inverse.{body-inv, field-inv, each-length, ok-value, ok-place, clash}
 use Rattle.acb.specs.Grammar.{Tag, none, spot, process}
 use Rattle.acb.specs.Reading.{string, Entry, colour, isTag, tagOf, componentsOf, Numbers, Header, opening, strings, numbers, header, closing, book, acb}
-use Rattle.acb_judge.specs.Parts.{two, headerFrom, rest, tagged, unknown, knownTag}
-use Rattle.acb_judge.specs.Answer.{lies, Shown, shown, reported, report, headed}
+use Rattle.acb_judge.specs.scaffold.Parts.{two, headerFrom, rest, tagged, unknown, knownTag}
+use Rattle.acb_judge.specs.Answer.{textPlace, HeaderPlaces, headerPlaces, reported, report}
+use Rattle.acb_judge.specs.scaffold.Answer.{headed}
 
 -- ---- a string
 
@@ -117,16 +119,16 @@ module _ (n : ℕ) (s : List ℕ) (at : ℕ) where
 module _ (s : List ℕ) where
   pub opening-short : refuse 2 0 0 0 ≡ field 4 s 0 → refuse 2 0 0 0 ≡ opening s 0
   unfolding opening
-  opening-short e = sym (rw (judged-short 4 s 0 (λ x. unless (eqb x 0x3842_4342) 3) e))
+  opening-short e = sym (rw (judged-short 4 s 0 (λ x. unless (eqb x (chars "8BCB")) 3) e))
 
   module _ (x a : ℕ) (e : ok x a ≡ field 4 s 0) where
-    pub opening-bad : (x ≡ 0x3842_4342 → ⊥) → refuse 3 0 0 0 ≡ opening s 0
+    pub opening-bad : (x ≡ chars "8BCB" → ⊥) → refuse 3 0 0 0 ≡ opening s 0
     unfolding opening
-    opening-bad h = sym (rw (judged-bad 4 s 0 (λ x. unless (eqb x 0x3842_4342) 3) 3 0 0 e (rw (ne-eqb x 0x3842_4342 h))))
+    opening-bad h = sym (rw (judged-bad 4 s 0 (λ x. unless (eqb x (chars "8BCB")) 3) 3 0 0 e (rw (ne-eqb x (chars "8BCB") h))))
 
-    pub opening-good : x ≡ 0x3842_4342 → then (done (judged 2 (λ v. unless (eqb v 1) 3) s a)) (λ u b. field 2 s b) ≡ opening s 0
+    pub opening-good : x ≡ chars "8BCB" → then (done (judged 2 (λ v. unless (eqb v 1) 3) s a)) (λ u b. field 2 s b) ≡ opening s 0
     unfolding opening
-    opening-good h = sym (rw (judged-ok 4 s 0 (λ x. unless (eqb x 0x3842_4342) 3) e (rw (eq-eqb x 0x3842_4342 h))) (then-done (judged 2 (λ v. unless (eqb v 1) 3) s a) (λ b. field 2 s b)))
+    opening-good h = sym (rw (judged-ok 4 s 0 (λ x. unless (eqb x (chars "8BCB")) 3) e (rw (eq-eqb x (chars "8BCB") h))) (then-done (judged 2 (λ v. unless (eqb v 1) 3) s a) (λ b. field 2 s b)))
 
 -- four strings as two and two
 abbrev Pair : Type 0
@@ -135,7 +137,7 @@ Pair = (ℕ × ℕ) × (ℕ × ℕ)
 abbrev pub four : Pair → Pair → List (ℕ × ℕ)
 four ab cd = ab .0 ∷ ab .1 ∷ cd .0 ∷ cd .1 ∷ []
 
-pub strings-two : (s : List ℕ) (at : ℕ) → then (two s at) (λ ab p. then (two s p) (λ cd q. ok (four ab cd) q)) ≡ mapRes (map lies) (strings s at)
+pub strings-two : (s : List ℕ) (at : ℕ) → then (two s at) (λ ab p. then (two s p) (λ cd q. ok (four ab cd) q)) ≡ mapRes (map textPlace) (strings s at)
 unfolding strings each two
 strings-two s at = sym (first (string s at))
   where
@@ -148,37 +150,37 @@ strings-two s at = sym (first (string s at))
     pair : Res Name → Res Pair
     pair m = then (place m) (λ a p. then (place (string s p)) (λ b q. ok (a, b) q))
 
-    fourth : (a b c : Name) (m : Res Name) → mapRes (map lies) (more a (more b (more c (then m (λ d q. ok (d ∷ []) q))))) ≡ then (with (lies c) m) (λ cd q. ok (four (lies a, lies b) cd) q)
+    fourth : (a b c : Name) (m : Res Name) → mapRes (map textPlace) (more a (more b (more c (then m (λ d q. ok (d ∷ []) q))))) ≡ then (with (textPlace c) m) (λ cd q. ok (four (textPlace a, textPlace b) cd) q)
     fourth a b c (ok d q) = refl
     fourth a b c (refuse x p r f) = refl
 
-    third : (a b : Name) (m : Res Name) → mapRes (map lies) (more a (more b (then m (λ c p. more c (then (string s p) (λ d q. ok (d ∷ []) q)))))) ≡ then (pair m) (λ cd q. ok (four (lies a, lies b) cd) q)
+    third : (a b : Name) (m : Res Name) → mapRes (map textPlace) (more a (more b (then m (λ c p. more c (then (string s p) (λ d q. ok (d ∷ []) q)))))) ≡ then (pair m) (λ cd q. ok (four (textPlace a, textPlace b) cd) q)
     third a b (ok c p) = fourth a b c (string s p)
     third a b (refuse x p r f) = refl
 
-    second : (a : Name) (m : Res Name) → mapRes (map lies) (more a (then m (λ b o. more b (then (string s o) (λ c p. more c (then (string s p) (λ d q. ok (d ∷ []) q)))))))
-        ≡ then (with (lies a) m) (λ ab o. then (pair (string s o)) (λ cd q. ok (four ab cd) q))
+    second : (a : Name) (m : Res Name) → mapRes (map textPlace) (more a (then m (λ b o. more b (then (string s o) (λ c p. more c (then (string s p) (λ d q. ok (d ∷ []) q)))))))
+        ≡ then (with (textPlace a) m) (λ ab o. then (pair (string s o)) (λ cd q. ok (four ab cd) q))
     second a (ok b o) = third a b (string s o)
     second a (refuse x p r f) = refl
 
-    first : (m : Res Name) → mapRes (map lies) (then m (λ a n. more a (then (string s n) (λ b o. more b (then (string s o) (λ c p. more c (then (string s p) (λ d q. ok (d ∷ []) q))))))))
+    first : (m : Res Name) → mapRes (map textPlace) (then m (λ a n. more a (then (string s n) (λ b o. more b (then (string s o) (λ c p. more c (then (string s p) (λ d q. ok (d ∷ []) q))))))))
         ≡ then (pair m) (λ ab o. then (pair (string s o)) (λ cd q. ok (four ab cd) q))
     first (ok a n) = second a (string s n)
     first (refuse x p r f) = refl
 
 -- the header that strings and numbers make
-abbrev pub joinedHead : ℕ → List (ℕ × ℕ) → Numbers → Shown × ℕ
+abbrev pub joinedHead : ℕ → List (ℕ × ℕ) → Numbers → HeaderPlaces × ℕ
 joinedHead i ls ns = (record { identifier = i; texts = ls; size = ns .size; offset = ns .offset; space = ns .space }, ns .count)
 
-pub header-parts : (i : ℕ) (s : List ℕ) (at : ℕ) → then (mapRes (map lies) (strings s at)) (λ ls p. then (numbers s p) (λ ns q. ok (joinedHead i ls ns) q)) ≡ mapRes headed (headerFrom i s at)
+pub header-parts : (i : ℕ) (s : List ℕ) (at : ℕ) → then (mapRes (map textPlace) (strings s at)) (λ ls p. then (numbers s p) (λ ns q. ok (joinedHead i ls ns) q)) ≡ mapRes headed (headerFrom i s at)
 unfolding headerFrom
 header-parts i s at = first (strings s at)
   where
-    second : (ts : List Name) (m : Res Numbers) → then m (λ ns q. ok (joinedHead i (map lies ts) ns) q) ≡ mapRes headed (then m (λ ns q. ok (record { identifier = i; texts = ts; numbers = ns }) q))
+    second : (ts : List Name) (m : Res Numbers) → then m (λ ns q. ok (joinedHead i (map textPlace ts) ns) q) ≡ mapRes headed (then m (λ ns q. ok (record { identifier = i; texts = ts; numbers = ns }) q))
     second ts (ok ns q) = refl
     second ts (refuse x p r f) = refl
 
-    first : (m : Res (List Name)) → then (mapRes (map lies) m) (λ ls p. then (numbers s p) (λ ns q. ok (joinedHead i ls ns) q)) ≡ mapRes headed (then m (λ ts p. then (numbers s p) (λ ns q. ok (record { identifier = i; texts = ts; numbers = ns }) q)))
+    first : (m : Res (List Name)) → then (mapRes (map textPlace) m) (λ ls p. then (numbers s p) (λ ns q. ok (joinedHead i ls ns) q)) ≡ mapRes headed (then m (λ ts p. then (numbers s p) (λ ns q. ok (record { identifier = i; texts = ts; numbers = ns }) q)))
     first (ok ts p) = second ts (numbers s p)
     first (refuse x p r f) = refl
 
@@ -193,7 +195,7 @@ map-then g (refuse x p r f) k = refl
 -- ---- the closing tag
 
 pub known-no : (t : ℕ) → unknown ≡ knownTag t → isTag t ≡ false
-known-no t h = go (eqb t 0x7370_666C_7370_6F74) (eqb t 0x7370_666C_7072_6F63) h
+known-no t h = go (eqb t (chars "spflspot")) (eqb t (chars "spflproc")) h
   where
     go : (a b : Bool) → unknown ≡ pick a (tagged spot) (pick b (tagged process) unknown) → pick a true b ≡ false
     go true b e = let z : _≡_ {A = ℕ} 0 1 = cc in absurd (omega arith)
@@ -201,7 +203,7 @@ known-no t h = go (eqb t 0x7370_666C_7370_6F74) (eqb t 0x7370_666C_7072_6F63) h
     go false false e = refl
 
 pub known-is : (t : ℕ) (g : Tag) → tagged g ≡ knownTag t → (isTag t ≡ true) × (g ≡ tagOf t)
-known-is t g h = go (eqb t 0x7370_666C_7370_6F74) (eqb t 0x7370_666C_7072_6F63) h
+known-is t g h = go (eqb t (chars "spflspot")) (eqb t (chars "spflproc")) h
   where
     go : (a b : Bool) → tagged g ≡ pick a (tagged spot) (pick b (tagged process) unknown) → (pick a true b ≡ true) × (g ≡ pick a spot process)
     go true b e = (refl, cc)
@@ -250,19 +252,19 @@ module _ (s : List ℕ) where
   too-long h = rw (lt-leb (length s) limit h)
 
   -- behind a header that was read
-  book-from : (h : Header) (p : ℕ) → header s 0 ≡ ok h p → verdict report (book s 0) ≡ verdict (reported (shown h) (h .numbers .count) p) (rest (h .numbers .count) (h .numbers .space) s p)
+  book-from : (h : Header) (p : ℕ) → header s 0 ≡ ok h p → verdict report (book s 0) ≡ verdict (reported (headerPlaces h) (h .numbers .count) p) (rest (h .numbers .count) (h .numbers .space) s p)
   unfolding book rest
   book-from h p e = rw e (first (each n 0 (λ i. colour (componentsOf (h .numbers .space))) s p) refl)
     where
       n : ℕ
       n = h .numbers .count
 
-      second : (es : List Entry) (m : Res Tag) → length es ≡ n → verdict report (then m (λ t q. ok (record { header = h; first = p; entries = es; tag = t }) q)) ≡ verdict (reported (shown h) n p) m
-      second es (ok t q) l = ap (λ (k : ℕ). accepted (reported (shown h) k p t)) l
+      second : (es : List Entry) (m : Res Tag) → length es ≡ n → verdict report (then m (λ t q. ok (record { header = h; first = p; entries = es; tag = t }) q)) ≡ verdict (reported (headerPlaces h) n p) m
+      second es (ok t q) l = ap (λ (k : ℕ). accepted (reported (headerPlaces h) k p t)) l
       second es (refuse x q r f) l = refl
 
       first : (m : Res (List Entry)) → each n 0 (λ i. colour (componentsOf (h .numbers .space))) s p ≡ m
-          → verdict report (then m (λ es q. then (closing s q) (λ t z. ok (record { header = h; first = p; entries = es; tag = t }) z))) ≡ verdict (reported (shown h) n p) (then m (λ es q. closing s q))
+          → verdict report (then m (λ es q. then (closing s q) (λ t z. ok (record { header = h; first = p; entries = es; tag = t }) z))) ≡ verdict (reported (headerPlaces h) n p) (then m (λ es q. closing s q))
       first (ok es q) d = second es (closing s q) (each-length (λ i. colour (componentsOf (h .numbers .space))) s n 0 p d)
       first (refuse x q r f) d = refl
 
@@ -279,17 +281,17 @@ module _ (s : List ℕ) where
         go (ok hd p) d k = clash k
         go (refuse y p r f) d k = rw d (let u : y ≡ x = cc in let v : p ≡ q = cc in let w : r ≡ 0 = cc in let z : f ≡ 0 = cc in λ i. refused (u i) (v i) (w i) (z i))
 
-    pub good-header : (sh : Shown) (n p : ℕ) → ok (sh, n) p ≡ mapRes headed (header s 0) → verdict (reported sh n p) (rest n (sh .space) s p) ≡ verdict report (acb s)
+    pub good-header : (sh : HeaderPlaces) (n p : ℕ) → ok (sh, n) p ≡ mapRes headed (header s 0) → verdict (reported sh n p) (rest n (sh .space) s p) ≡ verdict report (acb s)
     good-header sh n p e = sym (ap (verdict report) (sym whole) ∙ go (header s 0) refl e)
       where
         go : (m : Res Header) → header s 0 ≡ m → ok (sh, n) p ≡ mapRes headed m → verdict report (book s 0) ≡ verdict (reported sh n p) (rest n (sh .space) s p)
         go (ok hd q) d k =
             let z : (sh, n) ≡ headed hd = ok-value k in
-            let a : sh ≡ shown hd = ap (λ (y : Shown × ℕ). y .0) z in
-            let b : n ≡ hd .numbers .count = ap (λ (y : Shown × ℕ). y .1) z in
+            let a : sh ≡ headerPlaces hd = ap (λ (y : HeaderPlaces × ℕ). y .0) z in
+            let b : n ≡ hd .numbers .count = ap (λ (y : HeaderPlaces × ℕ). y .1) z in
             let c : p ≡ q = ok-place k in
             book-from hd q d
-            ∙ sym (ap (λ (y : Shown). verdict (reported y n p) (rest n (y .space) s p)) a ∙ ap₂ (λ (y r : ℕ). verdict (reported (shown hd) y r) (rest y (hd .numbers .space) s r)) b c)
+            ∙ sym (ap (λ (y : HeaderPlaces). verdict (reported y n p) (rest n (y .space) s p)) a ∙ ap₂ (λ (y r : ℕ). verdict (reported (headerPlaces hd) y r) (rest y (hd .numbers .space) s r)) b c)
         go (refuse y q r f) d k = clash (sym k)
 
 pub components-most : (x : ℕ) → componentsOf x ≤ 4

@@ -9,16 +9,17 @@ ghost use Rattle.algebra.specs.Text.{place};
 ghost use Rattle.fields.specs.Answer.{toldStep};
 ghost use Rattle.names.specs.Answer.{toldName};
 ghost use Rattle.acb.specs.Reading.{string, colour, isSpace, componentsOf, pageSize, space, opening, strings, numbers, header, closing, acb};
-ghost use Rattle.acb_judge.specs.Parts.{two, offsets, headerFrom, rest, knownTag};
-ghost use Rattle.acb_judge.specs.Answer.{lies, report, reported, told, toldHeader, toldOpening, toldTwo, toldStrings, toldCounts, toldHead, headed, toldKnown, toldClosing};
+ghost use Rattle.acb_judge.specs.scaffold.Parts.{two, offsets, headerFrom, rest, knownTag};
+ghost use Rattle.acb_judge.specs.Answer.{textPlace, report, reported, told, toldHeader};
+ghost use Rattle.acb_judge.specs.scaffold.Answer.{toldOpening, toldTwo, toldStrings, toldCounts, toldHead, headed, toldKnown, toldClosing};
 use acb::LIMIT;
 use acb::PROCESS;
 use acb::SIGNATURE;
 use acb::SPOT;
+use fields::FieldEnd;
 use fields::Number16;
 use fields::Number32;
 use fields::Number64;
-use fields::Step;
 use names::NameAt;
 
 // Where a string lies: the place of its first unit, and its number of units.
@@ -61,13 +62,13 @@ pub enum Answer {
 }
 
 // A 16-bit number and the next place, or a refusal.
-pub enum Opening {
+pub enum IdentifierAt {
     Is(u16, usize),
     Refused(u32, usize),
 }
 
 // Two strings and the next place, or a refusal.
-pub enum Two {
+pub enum TwoStrings {
     Is(Text, Text, usize),
     Refused(u32, usize),
 }
@@ -85,13 +86,13 @@ pub enum Counts {
 }
 
 // The header, the number of records and the place of the first, or a refusal.
-pub enum Head {
+pub enum HeaderAnswer {
     Is(Header, u16, usize),
     Refused(u32, usize),
 }
 
 // A closing tag, where the bytes are one.
-pub enum Known {
+pub enum KnownTag {
     Is(Tag),
     Unknown,
 }
@@ -120,27 +121,27 @@ fn string_at(file: &[u8], at: usize) -> NameAt
 }
 
 // The record of n components at `at`. A missing component is missing at the file's end.
-fn colour_at(file: &[u8], at: usize, n: usize) -> Step
+fn colour_at(file: &[u8], at: usize, n: usize) -> FieldEnd
     requires { ⌜ n ≤ 4 ⌝ }
     ensures { λ r. ⌜ toldStep r ≡ done (colour n (now (file .entry)) at) ⌝ }
 {
     match string_at(file, at) {
-        NameAt::Refused(x, p) => Step::Refused(x, p),
+        NameAt::Refused(x, p) => FieldEnd::Refused(x, p),
         NameAt::Is(_, _, code) => {
             let left = file.len() - code;
             if left < 6 + n {
                 if left < 6 {
-                    return Step::Refused(2, code);
+                    return FieldEnd::Refused(2, code);
                 }
-                return Step::Refused(2, file.len());
+                return FieldEnd::Refused(2, file.len());
             }
-            Step::Next(code + (6 + n))
+            FieldEnd::Next(code + (6 + n))
         }
     }
 }
 
 // The `count` records of n components from `at`.
-fn colours_at(file: &[u8], at: usize, count: u16, n: usize) -> Step
+fn colours_at(file: &[u8], at: usize, count: u16, n: usize) -> FieldEnd
     requires { ⌜ n ≤ 4 ⌝ }
     ensures { λ r. ⌜ toldStep r ≡ done (each count 0 (λ i. colour n) (now (file .entry)) at) ⌝ }
 {
@@ -148,16 +149,16 @@ fn colours_at(file: &[u8], at: usize, count: u16, n: usize) -> Step
     let mut i: u16 = 0;
     while i < count {
         match colour_at(file, p, n) {
-            Step::Refused(x, q) => {
-                return Step::Refused(x, q);
+            FieldEnd::Refused(x, q) => {
+                return FieldEnd::Refused(x, q);
             }
-            Step::Next(q) => {
+            FieldEnd::Next(q) => {
                 p = q;
             }
         }
         i += 1;
     }
-    Step::Next(p)
+    FieldEnd::Next(p)
 }
 
 // ---- the header
@@ -185,33 +186,33 @@ pub fn components_of(space: u16) -> usize
 }
 
 // `8BCB`, 1, and the identifier.
-fn opening_at(file: &[u8]) -> Opening
+fn opening_at(file: &[u8]) -> IdentifierAt
     ensures { λ r. ⌜ toldOpening r ≡ opening (now (file .entry)) 0 ⌝ }
 {
     let Number32::Is(signature, a) = fields::u32_at(file, 0) else {
-        return Opening::Refused(2, 0);
+        return IdentifierAt::Refused(2, 0);
     };
     if signature != SIGNATURE {
-        return Opening::Refused(3, 0);
+        return IdentifierAt::Refused(3, 0);
     }
     match fields::u16_is(file, a, 1, 3) {
-        Step::Refused(x, p) => Opening::Refused(x, p),
-        Step::Next(b) => match fields::u16_at(file, b) {
-            Number16::Short => Opening::Refused(2, b),
-            Number16::Is(identifier, next) => Opening::Is(identifier, next),
+        FieldEnd::Refused(x, p) => IdentifierAt::Refused(x, p),
+        FieldEnd::Next(b) => match fields::u16_at(file, b) {
+            Number16::Short => IdentifierAt::Refused(2, b),
+            Number16::Is(identifier, next) => IdentifierAt::Is(identifier, next),
         },
     }
 }
 
 // The two strings from `at`.
-fn two_at(file: &[u8], at: usize) -> Two
+fn two_at(file: &[u8], at: usize) -> TwoStrings
     ensures { λ r. ⌜ toldTwo r ≡ two (now (file .entry)) at ⌝ }
 {
     match string_at(file, at) {
-        NameAt::Refused(x, p) => Two::Refused(x, p),
+        NameAt::Refused(x, p) => TwoStrings::Refused(x, p),
         NameAt::Is(first, units, next) => match string_at(file, next) {
-            NameAt::Refused(x, p) => Two::Refused(x, p),
-            NameAt::Is(second, more, end) => Two::Is(
+            NameAt::Refused(x, p) => TwoStrings::Refused(x, p),
+            NameAt::Is(second, more, end) => TwoStrings::Is(
                 Text {
                     place: first,
                     units,
@@ -228,13 +229,13 @@ fn two_at(file: &[u8], at: usize) -> Two
 
 // Title, prefix, suffix and description from `at`.
 fn strings_at(file: &[u8], at: usize) -> Strings
-    ensures { λ r. ⌜ toldStrings r ≡ mapRes (map lies) (strings (now (file .entry)) at) ⌝ }
+    ensures { λ r. ⌜ toldStrings r ≡ mapRes (map textPlace) (strings (now (file .entry)) at) ⌝ }
 {
     match two_at(file, at) {
-        Two::Refused(x, p) => Strings::Refused(x, p),
-        Two::Is(title, prefix, next) => match two_at(file, next) {
-            Two::Refused(x, p) => Strings::Refused(x, p),
-            Two::Is(suffix, description, end) => {
+        TwoStrings::Refused(x, p) => Strings::Refused(x, p),
+        TwoStrings::Is(title, prefix, next) => match two_at(file, next) {
+            TwoStrings::Refused(x, p) => Strings::Refused(x, p),
+            TwoStrings::Is(suffix, description, end) => {
                 Strings::Is(title, prefix, suffix, description, end)
             }
         },
@@ -242,29 +243,29 @@ fn strings_at(file: &[u8], at: usize) -> Strings
 }
 
 // A 16-bit number that is not 0, else 5.
-fn size_at(file: &[u8], at: usize) -> Opening
+fn size_at(file: &[u8], at: usize) -> IdentifierAt
     ensures { λ r. ⌜ toldOpening r ≡ judged 2 pageSize (now (file .entry)) at ⌝ }
 {
     let Number16::Is(size, next) = fields::u16_at(file, at) else {
-        return Opening::Refused(2, at);
+        return IdentifierAt::Refused(2, at);
     };
     if size == 0 {
-        return Opening::Refused(5, at);
+        return IdentifierAt::Refused(5, at);
     }
-    Opening::Is(size, next)
+    IdentifierAt::Is(size, next)
 }
 
 // A space, else 4.
-fn space_at(file: &[u8], at: usize) -> Opening
+fn space_at(file: &[u8], at: usize) -> IdentifierAt
     ensures { λ r. ⌜ toldOpening r ≡ judged 2 space (now (file .entry)) at ⌝ }
 {
     let Number16::Is(space, next) = fields::u16_at(file, at) else {
-        return Opening::Refused(2, at);
+        return IdentifierAt::Refused(2, at);
     };
     if !is_space(space) {
-        return Opening::Refused(4, at);
+        return IdentifierAt::Refused(4, at);
     }
-    Opening::Is(space, next)
+    IdentifierAt::Is(space, next)
 }
 
 // Page offset and space from `at`, behind a colour count and a page size.
@@ -275,8 +276,8 @@ fn offset_at(file: &[u8], at: usize, count: u16, size: u16) -> Counts
         return Counts::Refused(2, at);
     };
     match space_at(file, p) {
-        Opening::Refused(x, q) => Counts::Refused(x, q),
-        Opening::Is(space, end) => Counts::Is(count, size, offset, space, end),
+        IdentifierAt::Refused(x, q) => Counts::Refused(x, q),
+        IdentifierAt::Is(space, end) => Counts::Is(count, size, offset, space, end),
     }
 }
 
@@ -288,20 +289,20 @@ fn counts_at(file: &[u8], at: usize) -> Counts
         return Counts::Refused(2, at);
     };
     match size_at(file, p) {
-        Opening::Refused(x, q) => Counts::Refused(x, q),
-        Opening::Is(size, q) => offset_at(file, q, count, size),
+        IdentifierAt::Refused(x, q) => Counts::Refused(x, q),
+        IdentifierAt::Is(size, q) => offset_at(file, q, count, size),
     }
 }
 
 // Strings and numbers from `at`, behind an identifier.
-fn fields_at(file: &[u8], at: usize, identifier: u16) -> Head
+fn fields_at(file: &[u8], at: usize, identifier: u16) -> HeaderAnswer
     ensures { λ r. ⌜ toldHead r ≡ mapRes headed (headerFrom identifier (now (file .entry)) at) ⌝ }
 {
     match strings_at(file, at) {
-        Strings::Refused(x, p) => Head::Refused(x, p),
+        Strings::Refused(x, p) => HeaderAnswer::Refused(x, p),
         Strings::Is(title, prefix, suffix, description, p) => match counts_at(file, p) {
-            Counts::Refused(x, q) => Head::Refused(x, q),
-            Counts::Is(count, size, offset, space, first) => Head::Is(
+            Counts::Refused(x, q) => HeaderAnswer::Refused(x, q),
+            Counts::Is(count, size, offset, space, first) => HeaderAnswer::Is(
                 Header {
                     identifier,
                     title,
@@ -320,27 +321,27 @@ fn fields_at(file: &[u8], at: usize, identifier: u16) -> Head
 }
 
 // The header.
-fn header_at(file: &[u8]) -> Head
+fn header_at(file: &[u8]) -> HeaderAnswer
     ensures { λ r. ⌜ toldHead r ≡ mapRes headed (header (now (file .entry)) 0) ⌝ }
 {
     match opening_at(file) {
-        Opening::Refused(x, p) => Head::Refused(x, p),
-        Opening::Is(identifier, p) => fields_at(file, p, identifier),
+        IdentifierAt::Refused(x, p) => HeaderAnswer::Refused(x, p),
+        IdentifierAt::Is(identifier, p) => fields_at(file, p, identifier),
     }
 }
 
 // ---- the file
 
-fn tag_of(tag: u64) -> Known
+fn tag_of(tag: u64) -> KnownTag
     ensures { λ r. ⌜ toldKnown r ≡ knownTag tag ⌝ }
 {
     if tag == SPOT {
-        return Known::Is(Tag::Spot);
+        return KnownTag::Is(Tag::Spot);
     }
     if tag == PROCESS {
-        return Known::Is(Tag::Process);
+        return KnownTag::Is(Tag::Process);
     }
-    Known::Unknown
+    KnownTag::Unknown
 }
 
 // The closing tag at `at`, if any, and the file's end.
@@ -353,7 +354,7 @@ fn closing_at(file: &[u8], at: usize) -> Closing
     let Number64::Is(bits, end) = fields::u64_at(file, at) else {
         return Closing::Refused(2, at);
     };
-    let Known::Is(tag) = tag_of(bits) else {
+    let KnownTag::Is(tag) = tag_of(bits) else {
         return Closing::Refused(3, at);
     };
     if end != file.len() {
@@ -367,8 +368,8 @@ fn rest_at(file: &[u8], header: Header, count: u16, first: usize) -> Answer
     ensures { λ r. ⌜ told r ≡ verdict (reported (toldHeader header) count first) (rest count (header .space) (now (file .entry)) first) ⌝ }
 {
     match colours_at(file, first, count, components_of(header.space)) {
-        Step::Refused(number, place) => Answer::Refused { number, place },
-        Step::Next(end) => match closing_at(file, end) {
+        FieldEnd::Refused(number, place) => Answer::Refused { number, place },
+        FieldEnd::Next(end) => match closing_at(file, end) {
             Closing::Refused(number, place) => Answer::Refused { number, place },
             Closing::Is(tag) => Answer::Accepted {
                 header,
@@ -391,7 +392,7 @@ pub fn judge(file: &[u8]) -> Answer
         };
     }
     match header_at(file) {
-        Head::Refused(number, place) => Answer::Refused { number, place },
-        Head::Is(header, count, first) => rest_at(file, header, count, first),
+        HeaderAnswer::Refused(number, place) => Answer::Refused { number, place },
+        HeaderAnswer::Is(header, count, first) => rest_at(file, header, count, first),
     }
 }

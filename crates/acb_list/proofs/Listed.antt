@@ -12,42 +12,42 @@ use Rattle.algebra.specs.Reader.{Res, ok, refuse, pick}
 use Rattle.algebra.specs.Table.{Verdict, accepted, refused as refusedFile, verdict, filled}
 use Rattle.algebra.proofs.Exact.{length-map}
 use Rattle.algebra.proofs.Firsts.{all-source}
-use Rattle.acb.specs.Grammar.{Tag, Book, Swatch, Allowed, File, file}
+use Rattle.acb.specs.Grammar.{Tag, Book, AllowedRecord, Allowed, File, file}
 use Rattle.acb.specs.Reading.{Entry, Contents, componentsOf, acb, colourOf, bookOf}
-use Rattle.acb.specs.Row.{Given, width, givenOf, row}
+use Rattle.acb.specs.Row.{RecordRow, width, givenOf, row}
 use Rattle.acb.proofs.Row.{six-back, four-back}
 use Rattle.acb.proofs.Laws.{components-some, space-components}
 use Rattle.acb.proofs.RoundTrip.{accepted-allowed, thirteen-each}
-use Rattle.acb_judge.specs.Answer.{Shown, Report, reported, report}
+use Rattle.acb_judge.specs.Answer.{HeaderPlaces, Report, reported, report}
 use Rattle.acb_read.specs.Table.{entriesOf}
 use Rattle.acb_read.specs.Walked.{walked}
 use Rattle.acb_read.proofs.Walking.{walked-all}
-use Rattle.acb_view.specs.View.{dummy, dummiesIn}
-use Rattle.acb_view.proofs.Listed.{table-dummies}
+use Rattle.acb_shown_file.specs.View.{dummy, dummiesIn}
+use Rattle.acb_shown_file.proofs.Listed.{table-dummies}
 use Rattle.walk.specs.Names.{namePart}
 use Rattle.listing.specs.Buffer.{Buffer, putAll}
 use Rattle.listing.specs.Text.{ascii, decimal, word, name, lines, refusal}
 use Rattle.listing.proofs.Putting.{put-append, lines-turn, lines-none}
 use Rattle.acb_list.specs.Listing.{heading, texts, line, pagesFrom, pages, listing}
-use Rattle.acb_list.specs.Parts.{given-line}
+use Rattle.acb_list.specs.scaffold.Parts.{given-line}
 
 -- ---- lines of records
 
-module _ (f : ℕ → Given → List ℕ) (all o : Buffer) (i : ℕ) {gs : List Given} (inv : all ≡ putAll o (lines f i gs)) where
-  pub line-put : {g : Given} {more : List Given} → gs ≡ g ∷ more → {q : Buffer} → q ≡ putAll o (f i g) → all ≡ putAll q (lines f (i + 1) more)
-  line-put {g} {more} e h = lines-turn f all o i g more (inv ∙ ap (λ (l : List Given). putAll o (lines f i l)) e) h
+module _ (f : ℕ → RecordRow → List ℕ) (all o : Buffer) (i : ℕ) {gs : List RecordRow} (inv : all ≡ putAll o (lines f i gs)) where
+  pub line-put : {g : RecordRow} {more : List RecordRow} → gs ≡ g ∷ more → {q : Buffer} → q ≡ putAll o (f i g) → all ≡ putAll q (lines f (i + 1) more)
+  line-put {g} {more} e h = lines-turn f all o i g more (inv ∙ ap (λ (l : List RecordRow). putAll o (lines f i l)) e) h
 
   pub lines-put : gs ≡ [] → all ≡ o
-  lines-put e = lines-none f all o i (inv ∙ ap (λ (l : List Given). putAll o (lines f i l)) e)
+  lines-put e = lines-none f all o i (inv ∙ ap (λ (l : List RecordRow). putAll o (lines f i l)) e)
 
 -- the records that steps give have the lines of those that were read
 module _ (s : List ℕ) (n : ℕ) (few : n ≤ 4) where
-  same-line : (i : ℕ) (e : Entry) → Swatch n (colourOf e) → given-line s n i (givenOf e) ≡ line s i e
+  same-line : (i : ℕ) (e : Entry) → AllowedRecord n (colourOf e) → given-line s n i (givenOf e) ≡ line s i e
   same-line i e h =
       ap₂ (λ (cs ks : List ℕ). decimal i ++ (ascii " " ++ name cs ++ joined word ks ++ ascii " " ++ name (namePart s (e .name .first) (length (e .name .units))) ++ ascii "\n"))
       (six-back (e .code) (h .code .count)) (four-back n (e .components) few (h .components .count))
 
-  same-lines : (i j : ℕ) (es : List Entry) → All (λ k e. Swatch n (colourOf e)) j es → lines (given-line s n) i (map givenOf es) ≡ lines (line s) i es
+  same-lines : (i j : ℕ) (es : List Entry) → All (λ k e. AllowedRecord n (colourOf e)) j es → lines (given-line s n) i (map givenOf es) ≡ lines (line s) i es
   unfolding lines
   same-lines i j [] h = refl
   same-lines i j (e ∷ es) h = ap₂ (λ (x y : List ℕ). x ++ y) (same-line i e (h .0)) (same-lines (i + 1) (j + 1) es (h .1))
@@ -60,9 +60,9 @@ read-lines : (s : List ℕ) → Bytes s → {c : Contents} {q : ℕ} → acb s �
 read-lines s bytes {c} {q} e =
     let x : ℕ = c .header .numbers .space in
     let a : Allowed (bookOf c) = allowed-in (accepted-allowed bytes e .0) in
-    let w = subst (λ (m : ℕ). All (λ k y. Swatch m y) 0 (map colourOf (c .entries))) (sym (space-components (a .space))) (a .colours) in
+    let w = subst (λ (m : ℕ). All (λ k y. AllowedRecord m y) 0 (map colourOf (c .entries))) (sym (space-components (a .space))) (a .colours) in
     ap (lines (given-line s (componentsOf x)) 0) (walked-all s e)
-    ∙ same-lines s (componentsOf x) (components-some x .1) 0 0 (c .entries) (all-source colourOf (λ k y. Swatch (componentsOf x) y) 0 (c .entries) w)
+    ∙ same-lines s (componentsOf x) (components-some x .1) 0 0 (c .entries) (all-source colourOf (λ k y. AllowedRecord (componentsOf x) y) 0 (c .entries) w)
 
 -- ---- pages
 

@@ -8,11 +8,11 @@ use Rattle.algebra.specs.Reader.{Res, ok, refuse, pick}
 use Rattle.algebra.specs.Numbers.{joined}
 use Rattle.acb.specs.Reading.{Entry, Contents}
 use Rattle.acb.specs.Grammar.{Tag, none, spot, process}
-use Rattle.acb_judge.specs.Answer.{Shown, shown}
-use Rattle.acb_show.specs.Texts.{shownText}
-use Rattle.acb_show.specs.Answer.{Told, record-is, refused, pageOf}
-use Rattle.acb_show.specs.Pages.{sampleOf}
-use Rattle.acb_view.specs.View.{dummy}
+use Rattle.acb_judge.specs.Answer.{HeaderPlaces, headerPlaces}
+use Rattle.acb_shown_values.specs.Texts.{shownText}
+use Rattle.acb_shown_values.specs.Answer.{Told, record-is, refused, pageOf}
+use Rattle.acb_shown_values.specs.Pages.{sampleOf}
+use Rattle.acb_shown_file.specs.View.{dummy}
 use Rattle.walk.specs.Names.{namePart}
 use Rattle.listing.specs.Text.{ascii, decimal, word, name, lines, refusal}
 
@@ -21,10 +21,10 @@ ending none = ascii "none\n"
 ending spot = ascii "spot\n"
 ending process = ascii "process\n"
 
-abbrev pub numbers : Shown → List ℕ
+abbrev pub numbers : HeaderPlaces → List ℕ
 numbers h = word (h .size) ++ word (h .offset) ++ word (h .identifier)
 
-abbrev pub heading : Shown → Tag → ℕ → List ℕ
+abbrev pub heading : HeaderPlaces → Tag → ℕ → List ℕ
 heading h t count = ascii "ACB" ++ word count ++ word (h .space) ++ numbers h ++ ascii " " ++ ending t
 
 -- a header string as it is shown, behind its label: by where it lies in the file s
@@ -53,11 +53,11 @@ pagesFrom f size (suc k) p left = pick (eqb left 0) [] (f p ++ pagesFrom f size 
 abbrev pub pages : ℕ → ℕ → ℕ → List Bool → List ℕ
 pages count size offset ds = pick (eqb size 0) [] (pagesFrom (λ p. page p (pageOf (sampleOf size offset p ds))) size count 0 count)
 
-abbrev pub book : List ℕ → Shown → Tag → List Entry → List ℕ
+abbrev pub book : List ℕ → HeaderPlaces → Tag → List Entry → List ℕ
 book s h t es =
     heading h t (length es) ++ texts s (h .texts) ++ lines (line s) 0 es ++ pages (length es) (h .size) (h .offset) (map dummy es) ++ ascii "end\n"
 
 -- the listing of a file s, by what reading it gives
 abbrev pub listing : List ℕ → Res Contents → List ℕ
-listing s (ok c q) = book s (shown (c .header)) (c .tag) (c .entries)
+listing s (ok c q) = book s (headerPlaces (c .header)) (c .tag) (c .entries)
 listing s (refuse x p r f) = refusal x p

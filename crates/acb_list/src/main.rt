@@ -6,22 +6,22 @@ ghost use lib.ListN.{length, take};
 ghost use Rattle.algebra.specs.Numbers.{joined};
 ghost use Rattle.acb.specs.Reading.{componentsOf, acb};
 ghost use Rattle.acb_judge.specs.Answer.{toldText, toldHeader, toldTag};
-ghost use Rattle.acb_show.specs.Answer.{toldPage};
+ghost use Rattle.acb_shown_values.specs.Answer.{toldPage};
 ghost use Rattle.listing.specs.Buffer.{putAll};
 ghost use Rattle.acb_read.specs.Answer.{toldSwatch};
 ghost use Rattle.acb_read.specs.Walked.{givenIn, walked};
-ghost use Rattle.acb_view.specs.View.{dummiesIn};
+ghost use Rattle.acb_shown_file.specs.View.{dummiesIn};
 ghost use Rattle.listing.specs.Text.{word, lines, taken};
 ghost use Rattle.acb_list.specs.Listing.{ending, numbers, heading, texts, pages, listing};
-ghost use Rattle.acb_list.specs.Parts.{record-text, given-line};
+ghost use Rattle.acb_list.specs.scaffold.Parts.{record-text, given-line};
 ghost use Rattle.acb_list.specs.Listing.{text as Listing·text, page as Listing·page};
 use acb::WIDTH;
 use acb_judge::Answer;
 use acb_judge::Header;
 use acb_judge::Tag;
 use acb_judge::Text;
-use acb_read::Swatch;
-use acb_show::Page;
+use acb_read::BookRecord;
+use acb_shown_values::Page;
 use listing::finish;
 use listing::put;
 use listing::put_name;
@@ -76,7 +76,7 @@ fn put_shown(out: &mut [u8], n: usize, label: &[u8], file: &[u8], text: Text) ->
     at = put_name(
         out,
         at,
-        acb_show::shown_text(name_part(file, text.place, text.units)),
+        acb_shown_values::shown_text(name_part(file, text.place, text.units)),
     );
     put(out, at, b'\n')
 }
@@ -118,18 +118,18 @@ fn put_components(out: &mut [u8], n: usize, values: &[u8], components: usize) ->
 
 // What stands in a record's line after its number. The six bytes of the code are listed as those of a name
 // would be.
-fn put_record(out: &mut [u8], n: usize, file: &[u8], swatch: Swatch, components: usize) -> usize
+fn put_record(out: &mut [u8], n: usize, file: &[u8], swatch: BookRecord, components: usize) -> usize
     ensures { λ r. ⌜ (now (out .exit), r) ≡ putAll (now (out .entry), n) (record-text (now (file .entry)) components (givenIn (toldSwatch swatch))) ⌝ }
 {
     let code = swatch.code;
     let values = swatch.components;
     let name = swatch.name;
-    let lies = acb_read::lies_of(name);
+    let string = acb_read::text_place(name);
     let mut at = put(out, n, b' ');
     at = put_name(out, at, &code);
     at = put_components(out, at, &values, components);
     at = put(out, at, b' ');
-    at = put_name(out, at, name_part(file, lies.place, lies.units));
+    at = put_name(out, at, name_part(file, string.place, string.units));
     put(out, at, b'\n')
 }
 
@@ -187,7 +187,7 @@ fn put_pages(out: &mut [u8], n: usize, table: &[u32], count: usize, size: u16, o
     let mut left = count;
     let mut page: usize = 0;
     while 0 < left {
-        let shown = acb_view::page_in(table, count, size, offset, page);
+        let shown = acb_shown_file::page_in(table, count, size, offset, page);
         at = put_page(out, at, page, shown);
         if left <= size as usize {
             return at;

@@ -18,7 +18,7 @@ use Rattle.acb.specs.Reading.{Entry, Contents, acb}
 use Rattle.acb.specs.Row.{width, numbers, givenOf, row}
 use Rattle.acb_judge.specs.Answer.{Report, report}
 use Rattle.acb_read.specs.Table.{entriesOf, blank, nameBytesIn}
-use Rattle.acb_read.specs.Answer.{Shown, shown}
+use Rattle.acb_read.specs.Answer.{RecordPlaces, recordPlaces}
 use Rattle.acb_read.specs.Walked.{step, passed, walked}
 use Rattle.acb_read.proofs.Walking.{short, walked-all, record-step, name-inside}
 
@@ -44,15 +44,15 @@ module _ (s : List ℕ) {b : Report} (a : Accepted report (acb s) b) where
       (ap (λ (n : ℕ). joined numbers (walked (a .0 .header .numbers .space) s (a .0 .first) n)) (sym counts)
       ∙ ap (joined numbers) (walked-all s (a .2)) ∙ joined-map numbers givenOf (a .0 .entries) ∙ sym (ap (λ (m : Res Contents). joined row (recordsIn entriesOf m)) (a .2)))
 
-  pub record-walked : (i : ℕ) → i < b .count → step (b .header .space) s (passed (b .header .space) s (b .first) i) .0 ≡ shown (recordAt entriesOf blank i (acb s))
+  pub record-walked : (i : ℕ) → i < b .count → step (b .header .space) s (passed (b .header .space) s (b .first) i) .0 ≡ recordPlaces (recordAt entriesOf blank i (acb s))
   record-walked i h =
-      at-first (λ x p. step x s (passed x s p i) .0 ≡ shown (recordAt entriesOf blank i (acb s)))
-      (record-step s (a .2) i (omega (arith, counts)) ∙ ap (λ (m : Res Contents). shown (accepted (getD (recordsIn entriesOf m) i blank))) (sym (a .2)) ∙ ap shown (record-found entriesOf report (λ (r : Report). r .count) (λ c. refl) (acb s) blank i a h))
+      at-first (λ x p. step x s (passed x s p i) .0 ≡ recordPlaces (recordAt entriesOf blank i (acb s)))
+      (record-step s (a .2) i (omega (arith, counts)) ∙ ap (λ (m : Res Contents). recordPlaces (accepted (getD (recordsIn entriesOf m) i blank))) (sym (a .2)) ∙ ap recordPlaces (record-found entriesOf report (λ (r : Report). r .count) (λ c. refl) (acb s) blank i a h))
 
 -- ---- the part of the file that a name is
 
 module _ (s : List ℕ) (i : ℕ) where
-  name-by : (v : Verdict Entry) → recordAt entriesOf blank i (acb s) ≡ v → (p u : ℕ) → accepted (p, u) ≡ shown v .name → (p + 2 * u ≤ length s) × (length s ≤ limit) × (part s p (p + 2 * u - p) ≡ nameBytesIn s v)
+  name-by : (v : Verdict Entry) → recordAt entriesOf blank i (acb s) ≡ v → (p u : ℕ) → accepted (p, u) ≡ recordPlaces v .name → (p + 2 * u ≤ length s) × (length s ≤ limit) × (part s p (p + 2 * u - p) ≡ nameBytesIn s v)
   name-by (accepted e) r p u k =
       let l : _≡_ {A = ℕ × ℕ} (p, u) (e .name .first, length (e .name .units)) = cc in
       let x : p ≡ e .name .first = ap (λ (w : ℕ × ℕ). w .0) l in
@@ -71,16 +71,16 @@ module _ (s : List ℕ) (i : ℕ) where
           pick-found false v b = let z : _≡_ {A = ℕ} 0 1 = cc in absurd (omega arith)
   name-by (refused x q r f) w p u k = let z : _≡_ {A = ℕ} 0 1 = cc in absurd (omega arith)
 
-  module _ (p u : ℕ) (e : accepted (p, u) ≡ shown (recordAt entriesOf blank i (acb s)) .name) where
+  module _ (p u : ℕ) (e : accepted (p, u) ≡ recordPlaces (recordAt entriesOf blank i (acb s)) .name) where
     pub name-in : (p + 2 * u ≤ length s) × (length s ≤ limit)
     name-in = let k = name-by (recordAt entriesOf blank i (acb s)) refl p u e in (k .0, k .1)
 
     pub name-part : part s p (p + 2 * u - p) ≡ nameBytesIn s (recordAt entriesOf blank i (acb s))
     name-part = name-by (recordAt entriesOf blank i (acb s)) refl p u e .2
 
-  pub name-none : (x p r f : ℕ) → refused x p r f ≡ shown (recordAt entriesOf blank i (acb s)) .name → [] ≡ nameBytesIn s (recordAt entriesOf blank i (acb s))
+  pub name-none : (x p r f : ℕ) → refused x p r f ≡ recordPlaces (recordAt entriesOf blank i (acb s)) .name → [] ≡ nameBytesIn s (recordAt entriesOf blank i (acb s))
   name-none x p r f e = go (recordAt entriesOf blank i (acb s)) e
     where
-      go : (v : Verdict Entry) → refused x p r f ≡ shown v .name → [] ≡ nameBytesIn s v
+      go : (v : Verdict Entry) → refused x p r f ≡ recordPlaces v .name → [] ≡ nameBytesIn s v
       go (accepted y) k = let z : _≡_ {A = ℕ} 0 1 = cc in absurd (omega arith)
       go (refused y q w z) k = refl

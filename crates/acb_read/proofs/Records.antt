@@ -18,9 +18,9 @@ use Rattle.algebra.proofs.Inverse.{clash, ok-value, ok-place, done-inv, then-in
 use Rattle.acb.specs.Reading.{string, Entry, colour, componentsOf}
 use Rattle.acb.proofs.Laws.{components-some}
 use Rattle.acb_judge.proofs.Judging.{string-is, colour-in}
-use Rattle.acb_read.specs.Answer.{Shown, shown}
+use Rattle.acb_read.specs.Answer.{RecordPlaces, recordPlaces}
 use Rattle.acb_read.specs.Walked.{stepped, step}
-use Rattle.acb_read.specs.Parts.{wholeAt}
+use Rattle.acb_read.specs.scaffold.Parts.{wholeAt}
 
 -- ---- bytes in a row
 
@@ -52,7 +52,7 @@ pub record Recorded (s : List ℕ) (n at : ℕ) (e : Entry) (q : ℕ) : Type 0 w
   pub start : 4 ≤ length s - at
   pub next : at + 4 + 2 * num 4 s at + 6 + n ≡ q
   pub inside : q ≤ length s
-  pub is : (shown (accepted e), q) ≡ wholeAt n s (at + 4) (num 4 s at)
+  pub is : (recordPlaces (accepted e), q) ≡ wholeAt n s (at + 4) (num 4 s at)
 
 string-inv : (s : List ℕ) (at : ℕ) {nm : Name} {q : ℕ} → string s at ≡ ok nm q → (nm .first ≡ at + 4) × (length (nm .units) ≡ num 4 s at) × (at + 4 + 2 * num 4 s at ≡ q) × (4 ≤ length s - at) × (num 4 s at * 2 ≤ length s - (at + 4))
 unfolding string
@@ -116,19 +116,19 @@ module _ (x : ℕ) (s : List ℕ) (at : ℕ) where
   n = componentsOf x
 
   -- no record stands there
-  none : ((e : Entry) (q : ℕ) → Recorded s n at e q → ⊥) → (shown (refused 5 0 0 0), at) ≡ step x s at
+  none : ((e : Entry) (q : ℕ) → Recorded s n at e q → ⊥) → (recordPlaces (refused 5 0 0 0), at) ≡ step x s at
   unfolding step
   none h = go (colour n s at) refl
     where
-      go : (m : Res Entry) → colour n s at ≡ m → (shown (refused 5 0 0 0), at) ≡ stepped at m
+      go : (m : Res Entry) → colour n s at ≡ m → (recordPlaces (refused 5 0 0 0), at) ≡ stepped at m
       go (ok e q) d = absurd (h e q (recorded s n at (components-some x) d))
       go (refuse y p r f) d = refl
 
-  pub step-short : refuse 2 at 0 0 ≡ field 4 s at → (shown (refused 5 0 0 0), at) ≡ step x s at
+  pub step-short : refuse 2 at 0 0 ≡ field 4 s at → (recordPlaces (refused 5 0 0 0), at) ≡ step x s at
   step-short e = none (λ y q r. clash (e ∙ field-in 4 s at (r .start)))
 
   module _ (u first : ℕ) (e : ok u first ≡ field 4 s at) where
-    pub step-cut : length s < first + 2 * u + 6 + n → (shown (refused 5 0 0 0), at) ≡ step x s at
+    pub step-cut : length s < first + 2 * u + 6 + n → (recordPlaces (refused 5 0 0 0), at) ≡ step x s at
     step-cut h = let f = field-inv 4 s at (sym e) in none (λ y q r. omega (arith, f .1, f .2, r .next, r .inside))
 
     pub step-whole : first + 2 * u + 6 + n ≤ length s → wholeAt n s first u ≡ step x s at
@@ -142,21 +142,3 @@ module _ (x : ℕ) (s : List ℕ) (at : ℕ) where
         ap₂ (λ (a b : ℕ). wholeAt n s a b) (sym (f .2)) (sym (f .1)) ∙ sym (r .is) ∙ sym (ap (stepped at) (d .1))
 
 -- ---- a row as it is stored
-
--- twelve numbers stored one after the other
-pub twelve-sets : (t : List ℕ) (p a b c d e f g h j k l m : ℕ)
-    → set (set (set (set (set (set (set (set (set (set (set (set t p a) (p + 1) b) (p + 2) c) (p + 3) d) (p + 4) e) (p + 5) f) (p + 6) g) (p + 7) h) (p + 8) j) (p + 9) k) (p + 10) l) (p + 11) m
-    ≡ sets t p (a ∷ b ∷ c ∷ d ∷ e ∷ f ∷ g ∷ h ∷ j ∷ k ∷ l ∷ m ∷ [])
-twelve-sets t p a b c d e f g h j k l m =
-    let e1 : p + 1 ≡ suc p = omega arith in
-    let e2 : p + 2 ≡ suc (suc p) = omega arith in
-    let e3 : p + 3 ≡ suc (suc (suc p)) = omega arith in
-    let e4 : p + 4 ≡ suc (suc (suc (suc p))) = omega arith in
-    let e5 : p + 5 ≡ suc (suc (suc (suc (suc p)))) = omega arith in
-    let e6 : p + 6 ≡ suc (suc (suc (suc (suc (suc p))))) = omega arith in
-    let e7 : p + 7 ≡ suc (suc (suc (suc (suc (suc (suc p)))))) = omega arith in
-    let e8 : p + 8 ≡ suc (suc (suc (suc (suc (suc (suc (suc p))))))) = omega arith in
-    let e9 : p + 9 ≡ suc (suc (suc (suc (suc (suc (suc (suc (suc p)))))))) = omega arith in
-    let e10 : p + 10 ≡ suc (suc (suc (suc (suc (suc (suc (suc (suc (suc p))))))))) = omega arith in
-    let e11 : p + 11 ≡ suc (suc (suc (suc (suc (suc (suc (suc (suc (suc (suc p)))))))))) = omega arith in
-    λ i. set (set (set (set (set (set (set (set (set (set (set (set t p a) (e1 i) b) (e2 i) c) (e3 i) d) (e4 i) e) (e5 i) f) (e6 i) g) (e7 i) h) (e8 i) j) (e9 i) k) (e10 i) l) (e11 i) m

@@ -14,10 +14,10 @@ use Rattle.algebra.specs.Table.{accepted}
 use Rattle.algebra.proofs.Inverse.{ok-value, then-inv, pick-inv, each-inv, each-length}
 use Rattle.algebra.proofs.Stores.{sets-append}
 use Rattle.acb.specs.Reading.{Entry, colour, componentsOf, header, Contents, closing, book, acb}
-use Rattle.acb.specs.Row.{Given, width, numbers, givenOf}
+use Rattle.acb.specs.Row.{RecordRow, width, numbers, givenOf}
 use Rattle.acb.proofs.Laws.{components-some}
 use Rattle.acb_read.specs.Table.{blank}
-use Rattle.acb_read.specs.Answer.{Shown, shown}
+use Rattle.acb_read.specs.Answer.{RecordPlaces, recordPlaces}
 use Rattle.acb_read.specs.Walked.{stepped, step, passed, givenIn, walked}
 use Rattle.acb_read.proofs.Records.{Recorded, recorded}
 
@@ -56,13 +56,13 @@ module _ (x : ℕ) (s : List ℕ) (at : ℕ) where
       go (refuse y p r f) d = omega arith
 
 -- one row more is stored
-pub row-stored : (all t t′ : List ℕ) (p q : ℕ) (g : Given) (gs : List Given) → all ≡ sets t p (joined numbers (g ∷ gs)) → t′ ≡ sets t p (numbers g) → q ≡ p + width → all ≡ sets t′ q (joined numbers gs)
+pub row-stored : (all t t′ : List ℕ) (p q : ℕ) (g : RecordRow) (gs : List RecordRow) → all ≡ sets t p (joined numbers (g ∷ gs)) → t′ ≡ sets t p (numbers g) → q ≡ p + width → all ≡ sets t′ q (joined numbers gs)
 unfolding joined
 row-stored all t t′ p q g gs e h w = e ∙ sets-append (numbers g) (joined numbers gs) t p ∙ ap (λ (k : ℕ). sets (sets t p (numbers g)) k (joined numbers gs)) (sym w) ∙ ap (λ (o : List ℕ). sets o q (joined numbers gs)) (sym h)
 
-pub rows-stored : (all t : List ℕ) (p : ℕ) (gs : List Given) → all ≡ sets t p (joined numbers gs) → gs ≡ [] → all ≡ t
+pub rows-stored : (all t : List ℕ) (p : ℕ) (gs : List RecordRow) → all ≡ sets t p (joined numbers gs) → gs ≡ [] → all ≡ t
 unfolding joined
-rows-stored all t p gs e h = e ∙ ap (λ (l : List Given). sets t p (joined numbers l)) h
+rows-stored all t p gs e h = e ∙ ap (λ (l : List RecordRow). sets t p (joined numbers l)) h
 
 -- ---- records that were read one after the other
 
@@ -77,7 +77,7 @@ module _ (x : ℕ) (s : List ℕ) where
   first-walked (suc m) i at {es} {q} e (suc n) h =
       let t = each-inv one s m i at e in
       ap (λ (r : Res Entry). givenIn (stepped at r .0) ∷ walked x s (stepped at r .1) n) (t .3)
-      ∙ ap (λ (l : List Given). givenOf (t .0) ∷ l) (first-walked m (i + 1) (t .1) {es = t .2} {q = q} (t .4) n (omega arith)) ∙ ap (λ (l : List Entry). map givenOf (take (suc n) l)) (t .5)
+      ∙ ap (λ (l : List RecordRow). givenOf (t .0) ∷ l) (first-walked m (i + 1) (t .1) {es = t .2} {q = q} (t .4) n (omega arith)) ∙ ap (λ (l : List Entry). map givenOf (take (suc n) l)) (t .5)
 
   from-walked : (m i at : ℕ) {es : List Entry} {q : ℕ} → each m i one s at ≡ ok es q → (k n : ℕ) → k + n ≤ m → walked x s (passed x s at k) n ≡ map givenOf (take n (drop k es))
   unfolding passed step
@@ -126,7 +126,7 @@ module _ (s : List ℕ) {c : Contents} {q : ℕ} (e : acb s ≡ ok c q) where
   walked-all = first-walked x s (length (c .entries)) 0 (c .first) (read-so .2) (length (c .entries)) (omega arith) ∙ ap (map givenOf) (take-all (length (c .entries)) (c .entries) (omega arith))
 
   module _ (i : ℕ) (h : i < length (c .entries)) where
-    pub record-step : step x s (passed x s (c .first) i) .0 ≡ shown (accepted (getD (c .entries) i blank))
+    pub record-step : step x s (passed x s (c .first) i) .0 ≡ recordPlaces (accepted (getD (c .entries) i blank))
     unfolding step
     record-step = let r = record-stands x s (length (c .entries)) 0 (c .first) (read-so .2) i h in ap (λ (m : Res Entry). stepped (passed x s (c .first) i) m .0) (r .1)
 

@@ -1,4 +1,4 @@
 pub mod Table
 pub mod Answer
 pub mod Walked
-pub mod Parts
+pub mod scaffold

@@ -11,9 +11,9 @@ ghost use Rattle.acb.specs.Reading.{acb};
 ghost use Rattle.acb.specs.Row.{width, numbers, row};
 ghost use Rattle.acb_judge.specs.Answer.{toldText, report, told};
 ghost use Rattle.acb_read.specs.Table.{entriesOf, blank, nameBytesIn};
-ghost use Rattle.acb_read.specs.Answer.{toldPlace, shown, toldSwatch, toldStep};
-ghost use Rattle.acb_read.specs.Walked.{step, passed, liesOf, givenIn, walked};
-ghost use Rattle.acb_read.specs.Parts.{fourthAt, wholeAt};
+ghost use Rattle.acb_read.specs.Answer.{toldPlace, recordPlaces, toldSwatch, toldStep};
+ghost use Rattle.acb_read.specs.Walked.{step, passed, namePlaceOf, givenIn, walked};
+ghost use Rattle.acb_read.specs.scaffold.Parts.{fourthAt, wholeAt};
 use acb::WIDTH;
 use acb_judge::Answer;
 use acb_judge::Text;
@@ -27,25 +27,25 @@ pub enum NamePlace {
 
 // A record: its code, its components, 0 in the place that its space does not use, and where its
 // name lies. On a refusal code and components are zeros.
-pub struct Swatch {
+pub struct BookRecord {
     pub code: [u8; 6],
     pub components: [u8; 4],
     pub name: NamePlace,
 }
 
 // A record, and the place behind it.
-pub struct Step {
-    pub swatch: Swatch,
+pub struct RecordStep {
+    pub swatch: BookRecord,
     pub next: usize,
 }
 
 // ---- records one after the other
 
 // No record: zeros beside the refusal.
-fn none(number: u32, place: usize) -> Swatch
-    ensures { λ r. ⌜ toldSwatch r ≡ shown (refused number place 0 0) ⌝ }
+fn none(number: u32, place: usize) -> BookRecord
+    ensures { λ r. ⌜ toldSwatch r ≡ recordPlaces (refused number place 0 0) ⌝ }
 {
-    Swatch {
+    BookRecord {
         code: [0; 6],
         components: [0; 4],
         name: NamePlace::Refused { number, place },
@@ -53,10 +53,10 @@ fn none(number: u32, place: usize) -> Swatch
 }
 
 // No record stands at `at`.
-fn lost(at: usize) -> Step
-    ensures { λ r. ⌜ toldStep r ≡ (shown (refused 5 0 0 0), at) ⌝ }
+fn lost(at: usize) -> RecordStep
+    ensures { λ r. ⌜ toldStep r ≡ (recordPlaces (refused 5 0 0 0), at) ⌝ }
 {
-    Step {
+    RecordStep {
         swatch: none(5, 0),
         next: at,
     }
@@ -74,14 +74,14 @@ fn fourth_at(file: &[u8], code: usize, n: usize) -> u8
 }
 
 // The record of n components whose name has so many units from `first` on, which is whole.
-fn whole_at(file: &[u8], first: usize, units: u32, n: usize) -> Step
+fn whole_at(file: &[u8], first: usize, units: u32, n: usize) -> RecordStep
     requires { ⌜ (3 ≤ n) × (first + 2 * units + 6 + n ≤ length (now file)) ⌝ }
     ensures { λ r. ⌜ toldStep r ≡ wholeAt n (now (file .entry)) first units ⌝ }
 {
     let code = first + 2 * (units as usize);
     let last = fourth_at(file, code, n);
-    Step {
-        swatch: Swatch {
+    RecordStep {
+        swatch: BookRecord {
             code: [
                 file[code],
                 file[code + 1],
@@ -102,7 +102,7 @@ fn whole_at(file: &[u8], first: usize, units: u32, n: usize) -> Step
 
 // The record at `at` of a book of a space, and the place behind it; 5 and the place itself where no
 // whole record stands there.
-pub fn step_at(file: &[u8], at: usize, space: u16) -> Step
+pub fn step_at(file: &[u8], at: usize, space: u16) -> RecordStep
     ensures { λ r. ⌜ toldStep r ≡ step space (now (file .entry)) at ⌝ }
 {
     let Number32::Is(units, first) = fields::u32_at(file, at) else {
@@ -136,8 +136,8 @@ pub fn place_at(file: &[u8], at: usize, space: u16, i: usize) -> usize
 // ---- the table
 
 // Where a name lies; at place 0 without units on a refusal.
-pub fn lies_of(name: NamePlace) -> Text
-    ensures { λ r. ⌜ toldText r ≡ liesOf (toldPlace name) ⌝ }
+pub fn text_place(name: NamePlace) -> Text
+    ensures { λ r. ⌜ toldText r ≡ namePlaceOf (toldPlace name) ⌝ }
 {
     match name {
         NamePlace::At { place, units } => Text { place, units },
@@ -154,65 +154,45 @@ fn wide(x: u8) -> u32
     x as u32
 }
 
-// Stores the numbers of a row; nothing else knows their order. The stores stand by themselves, so that
-// their proof knows of nothing else.
-fn put_numbers(
-    table: &mut [u32],
-    to: usize,
-    place: u32,
-    units: u32,
-    a: u32,
-    b: u32,
-    c: u32,
-    d: u32,
-    e: u32,
-    f: u32,
-    g: u32,
-    h: u32,
-    k: u32,
-    l: u32,
-)
+// Stores the numbers of a row; no other function stores one. The loop stands by itself, so that its
+// proof knows of nothing else.
+fn put_numbers(table: &mut [u32], to: usize, row: [u32; 12])
     requires { ⌜ to + width ≤ length (now table) ⌝ }
-    ensures { λ _. ⌜ now (table .exit) ≡ sets (now (table .entry)) to (place ∷ units ∷ a ∷ b ∷ c ∷ d ∷ e ∷ f ∷ g ∷ h ∷ k ∷ l ∷ []) ⌝ }
+    ensures { λ _. ⌜ now (table .exit) ≡ sets (now (table .entry)) to row ⌝ }
 {
-    table[to] = place;
-    table[to + 1] = units;
-    table[to + 2] = a;
-    table[to + 3] = b;
-    table[to + 4] = c;
-    table[to + 5] = d;
-    table[to + 6] = e;
-    table[to + 7] = f;
-    table[to + 8] = g;
-    table[to + 9] = h;
-    table[to + 10] = k;
-    table[to + 11] = l;
+    let mut i: usize = 0;
+    while i < WIDTH {
+        table[to + i] = row[i];
+        i += 1;
+    }
 }
 
 // Stores a record as a row.
-fn put_row(table: &mut [u32], to: usize, swatch: Swatch)
+fn put_row(table: &mut [u32], to: usize, swatch: BookRecord)
     requires { ⌜ (to + width ≤ length (now table)) × (givenIn (toldSwatch swatch) .name .0 < 2 ^ 32) ⌝ }
     ensures { λ _. ⌜ now (table .exit) ≡ sets (now (table .entry)) to (numbers (givenIn (toldSwatch swatch))) ⌝ }
 {
     let name = swatch.name;
     let code = swatch.code;
     let ks = swatch.components;
-    let lies = lies_of(name);
+    let string = text_place(name);
     put_numbers(
         table,
         to,
-        lies.place as u32,
-        lies.units,
-        wide(code[0]),
-        wide(code[1]),
-        wide(code[2]),
-        wide(code[3]),
-        wide(code[4]),
-        wide(code[5]),
-        wide(ks[0]),
-        wide(ks[1]),
-        wide(ks[2]),
-        wide(ks[3]),
+        [
+            string.place as u32,
+            string.units,
+            wide(code[0]),
+            wide(code[1]),
+            wide(code[2]),
+            wide(code[3]),
+            wide(code[4]),
+            wide(code[5]),
+            wide(ks[0]),
+            wide(ks[1]),
+            wide(ks[2]),
+            wide(ks[3]),
+        ],
     );
 }
 
@@ -263,8 +243,8 @@ pub fn read(file: &[u8], table: &mut [u32]) -> Answer
 // ---- a record by its number
 
 // Record i of a file.
-pub fn record_at(file: &[u8], i: usize) -> Swatch
-    ensures { λ r. ⌜ toldSwatch r ≡ shown (recordAt entriesOf blank i (acb (now (file .entry)))) ⌝ }
+pub fn record_at(file: &[u8], i: usize) -> BookRecord
+    ensures { λ r. ⌜ toldSwatch r ≡ recordPlaces (recordAt entriesOf blank i (acb (now (file .entry)))) ⌝ }
 {
     match acb_judge::judge(file) {
         Answer::Refused { number, place } => none(number, place),

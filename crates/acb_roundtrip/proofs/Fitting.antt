@@ -16,14 +16,14 @@ use Rattle.algebra.proofs.Places.{length-nums, nums-lt}
 use Rattle.algebra.proofs.Exact.{all-map, all-both, length-map}
 use Rattle.algebra.proofs.Tells.{first-none, first-inv, pick-none, faults-inv, faults-none, faults-from}
 use Rattle.algebra.proofs.Firsts.{test-holds, all-image}
-use Rattle.acb.specs.Grammar.{Ending, tagged, other, String, Swatch}
+use Rattle.acb.specs.Grammar.{Ending, tagged, other, String, AllowedRecord}
 use Rattle.acb.specs.Reading.{componentsOf}
-use Rattle.acb_judge.specs.Answer.{Shown}
+use Rattle.acb_judge.specs.Answer.{HeaderPlaces}
 use Rattle.acb.specs.Faults as a
 use Rattle.acb.specs.Faults.{endingFault, EndingFits, bookFault, BookFits}
-use Rattle.acb_records.specs.Writing.{unitsIn, componentsIn, colourIn, bookIn, sizes, stringSize, sizeIn, size, textFault, byteFault, headFault, colourFault, fault}
-use Rattle.acb.specs.Row.{Given}
-use Rattle.acb_records.proofs.Judging.{text-in, text-cut, head-fine}
+use Rattle.acb_write_judge.specs.Writing.{unitsIn, componentsIn, colourIn, bookIn, sizes, stringSize, sizeIn, size, textFault, byteFault, headFault, colourFault, fault}
+use Rattle.acb.specs.Row.{RecordRow}
+use Rattle.acb_write_judge.proofs.Judging.{text-in, text-cut, head-fine}
 use Rattle.acb.proofs.Laws.{components-some}
 use Rattle.acb_write.proofs.Puts.{Shaped, length-file}
 use Rattle.acb_roundtrip.specs.Tie.{Headed, made, TextFitting, Fitting, BookFitting}
@@ -83,13 +83,13 @@ module _ (text : List ℕ) where
   -- ---- a record
 
   module _ (n : ℕ) where
-    record-sound : (g : Given) → Fitting text n g → colourFault text n g ≡ 0
+    record-sound : (g : RecordRow) → Fitting text n g → colourFault text n g ≡ 0
     unfolding colourFault
     record-sound g f =
         first-none (textFault text (g .name)) _ (text-sound (g .name) (f .named))
         ∙ first-none (faults byteFault (g .code)) _ (bytes-none (g .code) (f .code-small)) ∙ bytes-none (componentsIn n g) (f .components-small)
 
-    sound-record : (g : Given) → Shaped g → colourFault text n g ≡ 0 → sizeIn n g ≤ limit → Fitting text n g
+    sound-record : (g : RecordRow) → Shaped g → colourFault text n g ≡ 0 → sizeIn n g ≤ limit → Fitting text n g
     unfolding colourFault
     sound-record g s e h =
         let x = first-inv (textFault text (g .name)) (firstOf (faults byteFault (g .code)) (faults byteFault (componentsIn n g))) e in
@@ -101,7 +101,7 @@ module _ (text : List ℕ) where
           components-small = none-bytes (componentsIn n g) (y .1);
         }
 
-    record-swatch : Bytes text → n ≤ 4 → (g : Given) → Fitting text n g → Swatch n (colourIn text n g)
+    record-swatch : Bytes text → n ≤ 4 → (g : RecordRow) → Fitting text n g → AllowedRecord n (colourIn text n g)
     record-swatch bytes few g f = record {
       name = text-string bytes (g .name) (f .named);
       code = record { count = f .six; each = f .code-small };
@@ -110,7 +110,7 @@ module _ (text : List ℕ) where
 
 -- ---- the book
 
-module _ (text : List ℕ) (h : Shown) (t : Ending) (gs : List Given) where
+module _ (text : List ℕ) (h : HeaderPlaces) (t : Ending) (gs : List RecordRow) where
   module _ (f : BookFitting text h t gs) where
     shaped : All (λ k g. Shaped g) 0 gs
     shaped = all-map (λ k g. Fitting text (componentsOf (h .space)) g) (λ k g. Shaped g) (λ k g r. (r .six, r .four)) 0 gs (f .records)
@@ -129,7 +129,7 @@ module _ (text : List ℕ) (h : Shown) (t : Ending) (gs : List Given) where
           size = f .headed .size-small;
           offset = f .headed .offset-small;
           space = f .headed .space-small;
-          colours = all-image (colourIn text m) (λ k c. Swatch m c) 0 gs (all-map (λ k g. Fitting text m g) (λ k g. Swatch m (colourIn text m g)) (λ k g r. record-swatch text m bytes (components-some (h .space) .1) g r) 0 gs (f .records));
+          colours = all-image (colourIn text m) (λ k c. AllowedRecord m c) 0 gs (all-map (λ k g. Fitting text m g) (λ k g. AllowedRecord m (colourIn text m g)) (λ k g r. record-swatch text m bytes (components-some (h .space) .1) g r) 0 gs (f .records));
           tag = f .tag;
         }
 
@@ -154,7 +154,7 @@ module _ (text : List ℕ) (h : Shown) (t : Ending) (gs : List Given) where
       let y = first-inv (faults (colourFault text m) gs) (endingFault t) (a .1) in
       let z = head-fine text h (length gs) (a .0) in
       let P : ℕ → ℕ × ℕ → Type 0 = λ k l. (textFault text l ≡ 0) × (stringSize l ≤ limit) in
-      let Q : ℕ → Given → Type 0 = λ k g. Shaped g × ((colourFault text m g ≡ 0) × (sizeIn m g ≤ limit)) in
+      let Q : ℕ → RecordRow → Type 0 = λ k g. Shaped g × ((colourFault text m g ≡ 0) × (sizeIn m g ≤ limit)) in
       record {
         headed = hd;
         strings = all-map P (λ k l. TextFitting text l) (λ k l r. sound-text text l (r .0) (r .1)) 0 (h .texts)

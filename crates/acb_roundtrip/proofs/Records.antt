@@ -12,13 +12,13 @@ use Rattle.algebra.proofs.Places.{length-nums}
 use Rattle.algebra.proofs.Inverse.{then-inv, pick-inv, body-inv, ok-value, each-none, each-inv}
 use Rattle.algebra.proofs.Exact.{all-map, all-both, length-map}
 use Rattle.algebra.proofs.Firsts.{all-image, all-source}
-use Rattle.acb.specs.Grammar.{Colour, tagged, Book, String, Swatch, Allowed, File, file}
+use Rattle.acb.specs.Grammar.{Colour, tagged, Book, String, AllowedRecord, Allowed, File, file}
 use Rattle.acb.specs.Reading.{string, Entry, colour, componentsOf, Header, strings, numbers, opening, header, closing, Contents, book, acb, colourOf, bookOf}
-use Rattle.acb_judge.specs.Answer.{lies, shown}
+use Rattle.acb_judge.specs.Answer.{textPlace, headerPlaces}
 use Rattle.acb.proofs.Row.{six-back, four-back}
 use Rattle.acb.proofs.Laws.{components-some, space-components, space-small}
 use Rattle.acb.proofs.RoundTrip.{accepted-allowed}
-use Rattle.acb_records.specs.Writing.{unitsIn, colourIn, bookIn}
+use Rattle.acb_write_judge.specs.Writing.{unitsIn, colourIn, bookIn}
 use Rattle.acb.specs.Row.{givenOf}
 use Rattle.acb_roundtrip.specs.Tie.{tabled, TextFitting, Fitting, BookFitting}
 
@@ -81,7 +81,7 @@ module _ (s : List ℕ) where
 
 module _ (s : List ℕ) (n : ℕ) (few : n ≤ 4) where
   abbrev Sound : Entry → Type 0
-  Sound e = NameIn s (e .name) × Swatch n (colourOf e)
+  Sound e = NameIn s (e .name) × AllowedRecord n (colourOf e)
 
   colour-back : (e : Entry) → Sound e → colourIn s n (givenOf e) ≡ colourOf e
   colour-back e h =
@@ -103,11 +103,11 @@ module _ (s : List ℕ) (n : ℕ) (few : n ≤ 4) where
     components-small = subst (λ (l : List ℕ). All (λ i b. b < 256) 0 l) (sym (four-back n (e .components) few (h .1 .components .count))) (h .1 .components .each);
   }
 
-texts-back : (s : List ℕ) (i : ℕ) (ts : List Name) → All (λ k nm. NameIn s nm) i ts → map (unitsIn s) (map lies ts) ≡ map (λ (nm : Name). nm .units) ts
+texts-back : (s : List ℕ) (i : ℕ) (ts : List Name) → All (λ k nm. NameIn s nm) i ts → map (unitsIn s) (map textPlace ts) ≡ map (λ (nm : Name). nm .units) ts
 texts-back s i [] h = refl
 texts-back s i (nm ∷ ts) h = ap₂ (λ (x : List ℕ) (xs : List (List ℕ)). x ∷ xs) (h .0 .are) (texts-back s (i + 1) ts (h .1))
 
-texts-fit : (s : List ℕ) (nm : Name) → NameIn s nm → String (nm .units) → TextFitting s (lies nm)
+texts-fit : (s : List ℕ) (nm : Name) → NameIn s nm → String (nm .units) → TextFitting s (textPlace nm)
 texts-fit s nm h k = record { counted = k .counted; inside = h .inside }
 
 allowed-in : {b : Book} {s : List ℕ} → File b s → Allowed b
@@ -120,14 +120,14 @@ module _ (s : List ℕ) (bytes : Bytes s) {c : Contents} {q : ℕ} (e : acb s �
   abbrev n : ℕ
   n = componentsOf (c .header .numbers .space)
 
-  swatches : All (λ k x. Swatch n x) 0 (map colourOf (c .entries))
-  swatches = subst (λ (m : ℕ). All (λ k x. Swatch m x) 0 (map colourOf (c .entries))) (sym (space-components (allowed .space))) (allowed .colours)
+  swatches : All (λ k x. AllowedRecord n x) 0 (map colourOf (c .entries))
+  swatches = subst (λ (m : ℕ). All (λ k x. AllowedRecord m x) 0 (map colourOf (c .entries))) (sym (space-components (allowed .space))) (allowed .colours)
 
-  sounds : All (λ k x. NameIn s (x .name) × Swatch n (colourOf x)) 0 (c .entries)
-  sounds = all-both (λ k x. NameIn s (x .name)) (λ k x. Swatch n (colourOf x)) 0 (c .entries) (all-lie s e .1) (all-source colourOf (λ k x. Swatch n x) 0 (c .entries) swatches)
+  sounds : All (λ k x. NameIn s (x .name) × AllowedRecord n (colourOf x)) 0 (c .entries)
+  sounds = all-both (λ k x. NameIn s (x .name)) (λ k x. AllowedRecord n (colourOf x)) 0 (c .entries) (all-lie s e .1) (all-source colourOf (λ k x. AllowedRecord n x) 0 (c .entries) swatches)
 
   -- it is the book that was read
-  pub given-book : bookIn s (shown (c .header)) (tagged (c .tag)) (tabled (c .entries)) ≡ bookOf c
+  pub given-book : bookIn s (headerPlaces (c .header)) (tagged (c .tag)) (tabled (c .entries)) ≡ bookOf c
   given-book =
       let a = texts-back s 0 (c .header .texts) (all-lie s e .0) in
       let b = colours-back s n (components-some (c .header .numbers .space) .1) 0 (c .entries) sounds in
@@ -142,20 +142,20 @@ module _ (s : List ℕ) (bytes : Bytes s) {c : Contents} {q : ℕ} (e : acb s �
       }
 
   -- it fits
-  pub given-fit : BookFitting s (shown (c .header)) (tagged (c .tag)) (tabled (c .entries))
+  pub given-fit : BookFitting s (headerPlaces (c .header)) (tagged (c .tag)) (tabled (c .entries))
   given-fit = record {
     headed = record {
-      four = length-map lies (c .header .texts) ∙ sym (length-map (λ (nm : Name). nm .units) (c .header .texts)) ∙ allowed .four;
+      four = length-map textPlace (c .header .texts) ∙ sym (length-map (λ (nm : Name). nm .units) (c .header .texts)) ∙ allowed .four;
       identifier-small = allowed .identifier;
       size-small = allowed .size .1;
       offset-small = allowed .offset;
       space-small = space-small (allowed .space);
     };
-    strings = all-image lies (λ k l. TextFitting s l) 0 (c .header .texts)
-        (all-map (λ k nm. NameIn s nm × String (nm .units)) (λ k nm. TextFitting s (lies nm)) (λ k nm h. texts-fit s nm (h .0) (h .1)) 0 (c .header .texts)
+    strings = all-image textPlace (λ k l. TextFitting s l) 0 (c .header .texts)
+        (all-map (λ k nm. NameIn s nm × String (nm .units)) (λ k nm. TextFitting s (textPlace nm)) (λ k nm h. texts-fit s nm (h .0) (h .1)) 0 (c .header .texts)
         (all-both (λ k nm. NameIn s nm) (λ k nm. String (nm .units)) 0 (c .header .texts) (all-lie s e .0) (all-source (λ (nm : Name). nm .units) (λ k us. String us) 0 (c .header .texts) (allowed .texts))));
     count = subst (λ (k : ℕ). k < 256 ^ 2) (length-map colourOf (c .entries) ∙ sym (length-map givenOf (c .entries))) (allowed .count);
     records = all-image givenOf (λ k g. Fitting s n g) 0 (c .entries)
-        (all-map (λ k x. NameIn s (x .name) × Swatch n (colourOf x)) (λ k x. Fitting s n (givenOf x)) (λ k x h. taken-fits s n (components-some (c .header .numbers .space) .1) x h) 0 (c .entries) sounds);
+        (all-map (λ k x. NameIn s (x .name) × AllowedRecord n (colourOf x)) (λ k x. Fitting s n (givenOf x)) (λ k x h. taken-fits s n (components-some (c .header .numbers .space) .1) x h) 0 (c .entries) sounds);
     tag = tt;
   }

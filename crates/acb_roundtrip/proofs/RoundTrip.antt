@@ -13,12 +13,12 @@ use Rattle.algebra.specs.Writing.{bytes}
 use Rattle.algebra.proofs.Firsts.{test-holds}
 use Rattle.acb.specs.Grammar.{Tag, none, spot, process, Ending, tagged, other, Book, tagBytes, fileBytes}
 use Rattle.acb.specs.Reading.{Entry, Contents, componentsOf, acb}
-use Rattle.acb_judge.specs.Answer.{Shown, shown}
+use Rattle.acb_judge.specs.Answer.{HeaderPlaces, headerPlaces}
 use Rattle.acb.specs.Faults.{EndingFits, bookFault}
 use Rattle.acb.proofs.RoundTrip.{allowed-reads, written-number, written-allowed}
-use Rattle.acb_records.specs.Writing.{colourIn, bookIn, sizeIn, size, colourFault, fault, needed, written}
+use Rattle.acb_write_judge.specs.Writing.{colourIn, bookIn, sizeIn, size, colourFault, fault, needed, written}
 use Rattle.algebra.specs.Table.{whole}
-use Rattle.acb.specs.Row.{Given, width, taken, row}
+use Rattle.acb.specs.Row.{RecordRow, width, taken, row}
 use Rattle.acb_write.proofs.Puts.{givens-shaped}
 use Rattle.acb_roundtrip.specs.Tie.{Headed, Holds, made, tabled, BookFitting, Alike, AllAlike}
 use Rattle.acb_roundtrip.proofs.Fitting.{length-made, book-fits, fault-same, faultless-fit}
@@ -29,17 +29,17 @@ use Rattle.acb_roundtrip.proofs.Spare.{colour-alike, fault-alike, size-
 -- ---- what is written reads back
 
 -- a header, records and a tag without a fault are made into a file that holds their book, and that is as long as the writer says
-pub written-reads : (text : List ℕ) (h : Shown) (t : Ending) (run : List ℕ) → Bytes text → Headed h → fault text h t (whole width taken run) ≡ 0
+pub written-reads : (text : List ℕ) (h : HeaderPlaces) (t : Ending) (run : List ℕ) → Bytes text → Headed h → fault text h t (whole width taken run) ≡ 0
     → Holds (made text h t (whole width taken run)) (bookIn text h t (whole width taken run)) × (length (made text h t (whole width taken run)) ≡ size h t (whole width taken run))
 written-reads text h t run b hd e =
-    let gs : List Given = whole width taken run in
+    let gs : List RecordRow = whole width taken run in
     let d : Book = bookIn text h t gs in
     let fit = faultless-fit text h t gs hd (givens-shaped run _ 0 0) e in
     let x = test-holds (leb (length (fileBytes d)) limit) (bookFault d) 1 (omega arith) (sym (fault-same text h t gs fit) ∙ e) in
     (allowed-reads (written-allowed d (book-fits text h t gs fit b) (x .1) (leb-true (length (fileBytes d)) limit (x .0))), length-made text h t gs fit)
 
 -- where the writer says that it wrote n bytes, the first n bytes are a file that holds the book that was given, and the rest is as it was
-pub written-holds : (text : List ℕ) (h : Shown) (t : Ending) (run out out′ : List ℕ) (n : ℕ) → Bytes text → Headed h → written text h t (whole width taken run) out ≡ (bytes n, out′)
+pub written-holds : (text : List ℕ) (h : HeaderPlaces) (t : Ending) (run out out′ : List ℕ) (n : ℕ) → Bytes text → Headed h → written text h t (whole width taken run) out ≡ (bytes n, out′)
     → (n ≤ length out′) × (length out′ ≡ length out) × Holds (take n out′) (bookIn text h t (whole width taken run)) × (drop n out′ ≡ drop n out)
 written-holds text h t run out out′ n b hd e =
     let file : List ℕ = made text h t (whole width taken run) in
@@ -58,17 +58,17 @@ read-gives es = rows-given es
 
 -- the header, the records and the tag of an accepted file, written back with the file itself for their strings and names, are the file, byte for byte
 pub read-writes : (s : List ℕ) → Bytes s → {c : Contents} {q : ℕ} → acb s ≡ ok c q
-    → (out : List ℕ) → length s ≤ length out → written s (shown (c .header)) (tagged (c .tag)) (tabled (c .entries)) out ≡ (bytes (length s), s ++ drop (length s) out)
+    → (out : List ℕ) → length s ≤ length out → written s (headerPlaces (c .header)) (tagged (c .tag)) (tabled (c .entries)) out ≡ (bytes (length s), s ++ drop (length s) out)
 read-writes s b e out h = writes-all s b e out h
 
 -- and they need as many bytes as the file has
-pub read-needs : (s : List ℕ) → Bytes s → {c : Contents} {q : ℕ} → acb s ≡ ok c q → needed s (shown (c .header)) (tagged (c .tag)) (tabled (c .entries)) ≡ bytes (length s)
+pub read-needs : (s : List ℕ) → Bytes s → {c : Contents} {q : ℕ} → acb s ≡ ok c q → needed s (headerPlaces (c .header)) (tagged (c .tag)) (tabled (c .entries)) ≡ bytes (length s)
 read-needs s b e = needs-all s b e
 
 -- ---- refusals
 
 -- of a header and records that fit their fields the writer's refusal, 11 aside, has the number that the reader gives for the bytes made of them; 0 is none
-pub refusals-agree : (text : List ℕ) → Bytes text → (h : Shown) (t : Ending) (gs : List Given) → BookFitting text h t gs → fault text h t gs ≡ numberOf (acb (made text h t gs))
+pub refusals-agree : (text : List ℕ) → Bytes text → (h : HeaderPlaces) (t : Ending) (gs : List RecordRow) → BookFitting text h t gs → fault text h t gs ≡ numberOf (acb (made text h t gs))
 refusals-agree text b h t gs fit = fault-same text h t gs fit ∙ sym (written-number (bookIn text h t gs) (book-fits text h t gs fit b))
 
 -- the tag that stands for all others is none of the file's
@@ -87,11 +87,11 @@ other-fits = record {
 -- ---- spare places
 
 -- records that differ only in spare places are the same colour, of the same fault and length
-pub spare-ignored : (text : List ℕ) (n : ℕ) (g h : Given) → Alike n g h
+pub spare-ignored : (text : List ℕ) (n : ℕ) (g h : RecordRow) → Alike n g h
     → (colourIn text n g ≡ colourIn text n h) × (colourFault text n g ≡ colourFault text n h) × (sizeIn n g ≡ sizeIn n h)
 spare-ignored text n g h x = (colour-alike text n g h x, fault-alike text n g h x, size-alike text n g h x)
 
 -- and so they are written the same
-pub spare-writes : (text : List ℕ) (h : Shown) (t : Ending) (gs hs : List Given) → AllAlike (componentsOf (h .space)) gs hs
+pub spare-writes : (text : List ℕ) (h : HeaderPlaces) (t : Ending) (gs hs : List RecordRow) → AllAlike (componentsOf (h .space)) gs hs
     → (needed text h t gs ≡ needed text h t hs) × ((out : List ℕ) → written text h t gs out ≡ written text h t hs out)
 spare-writes text h t gs hs x = (needed-alike text h t gs hs x, written-alike text h t gs hs x)

@@ -10,51 +10,51 @@ use Rattle.algebra.specs.Writing.{needs, writes}
 use Rattle.acb.specs.Grammar.{Colour, Ending, fileBytes}
 use Rattle.acb.specs.Reading.{componentsOf}
 use Rattle.acb.specs.Faults.{endingFault}
-use Rattle.acb_judge.specs.Answer.{Shown}
-use Rattle.acb_records.specs.Writing.{unitsIn, colourIn, sizes, sizeIn, endingSize, headSize, textFault, byteFault, headFault, colourFault, fault, needed, written}
-use Rattle.acb.specs.Row.{Given}
+use Rattle.acb_judge.specs.Answer.{HeaderPlaces}
+use Rattle.acb_write_judge.specs.Writing.{unitsIn, colourIn, sizes, sizeIn, endingSize, headSize, textFault, byteFault, headFault, colourFault, fault, needed, written}
+use Rattle.acb.specs.Row.{RecordRow}
 use Rattle.acb_roundtrip.specs.Tie.{Alike, AllAlike}
 
 module _ (text : List ℕ) (n : ℕ) where
-  pub colour-alike : (g h : Given) → Alike n g h → colourIn text n g ≡ colourIn text n h
+  pub colour-alike : (g h : RecordRow) → Alike n g h → colourIn text n g ≡ colourIn text n h
   colour-alike g h x = λ i. record { name = unitsIn text (x .same-name i); code = x .same-code i; components = x .same-components i }
 
-  pub fault-alike : (g h : Given) → Alike n g h → colourFault text n g ≡ colourFault text n h
+  pub fault-alike : (g h : RecordRow) → Alike n g h → colourFault text n g ≡ colourFault text n h
   unfolding colourFault
   fault-alike g h x = λ i. firstOf (textFault text (x .same-name i)) (firstOf (faults byteFault (x .same-code i)) (faults byteFault (x .same-components i)))
 
-  pub size-alike : (g h : Given) → Alike n g h → sizeIn n g ≡ sizeIn n h
+  pub size-alike : (g h : RecordRow) → Alike n g h → sizeIn n g ≡ sizeIn n h
   size-alike g h x = ap (λ (l : ℕ × ℕ). 4 + 2 * l .1 + (6 + n)) (x .same-name)
 
   -- ---- all of them
 
-  colours-alike : (gs hs : List Given) → AllAlike n gs hs → map (colourIn text n) gs ≡ map (colourIn text n) hs
+  colours-alike : (gs hs : List RecordRow) → AllAlike n gs hs → map (colourIn text n) gs ≡ map (colourIn text n) hs
   colours-alike [] [] x = refl
   colours-alike [] (h ∷ hs) x = absurd x
   colours-alike (g ∷ gs) [] x = absurd x
   colours-alike (g ∷ gs) (h ∷ hs) x = ap₂ (λ (c : Colour) (cs : List Colour). c ∷ cs) (colour-alike g h (x .0)) (colours-alike gs hs (x .1))
 
-  faults-alike : (gs hs : List Given) → AllAlike n gs hs → faults (colourFault text n) gs ≡ faults (colourFault text n) hs
+  faults-alike : (gs hs : List RecordRow) → AllAlike n gs hs → faults (colourFault text n) gs ≡ faults (colourFault text n) hs
   unfolding faults
   faults-alike [] [] x = refl
   faults-alike [] (h ∷ hs) x = absurd x
   faults-alike (g ∷ gs) [] x = absurd x
   faults-alike (g ∷ gs) (h ∷ hs) x = ap₂ (λ (a b : ℕ). firstOf a b) (fault-alike g h (x .0)) (faults-alike gs hs (x .1))
 
-  sizes-alike : (gs hs : List Given) → AllAlike n gs hs → sizes (sizeIn n) gs ≡ sizes (sizeIn n) hs
+  sizes-alike : (gs hs : List RecordRow) → AllAlike n gs hs → sizes (sizeIn n) gs ≡ sizes (sizeIn n) hs
   unfolding sizes
   sizes-alike [] [] x = refl
   sizes-alike [] (h ∷ hs) x = absurd x
   sizes-alike (g ∷ gs) [] x = absurd x
   sizes-alike (g ∷ gs) (h ∷ hs) x = ap₂ (λ (a b : ℕ). a + b) (size-alike g h (x .0)) (sizes-alike gs hs (x .1))
 
-  length-alike : (gs hs : List Given) → AllAlike n gs hs → length gs ≡ length hs
+  length-alike : (gs hs : List RecordRow) → AllAlike n gs hs → length gs ≡ length hs
   length-alike [] [] x = refl
   length-alike [] (h ∷ hs) x = absurd x
   length-alike (g ∷ gs) [] x = absurd x
   length-alike (g ∷ gs) (h ∷ hs) x = ap suc (length-alike gs hs (x .1))
 
-module _ (text : List ℕ) (h : Shown) (t : Ending) (gs hs : List Given) (x : AllAlike (componentsOf (h .space)) gs hs) where
+module _ (text : List ℕ) (h : HeaderPlaces) (t : Ending) (gs hs : List RecordRow) (x : AllAlike (componentsOf (h .space)) gs hs) where
   abbrev m : ℕ
   m = componentsOf (h .space)
 

@@ -8,12 +8,12 @@ use Rattle.algebra.specs.Reader.{ok}
 use Rattle.acb.specs.Grammar.{Ending, Book, fileBytes}
 use Rattle.acb.specs.Faults.{EndingFits}
 use Rattle.acb.specs.Reading.{Entry, Contents, bookOf, componentsOf, acb}
-use Rattle.acb_judge.specs.Answer.{Shown}
-use Rattle.acb_records.specs.Writing.{componentsIn, bookIn}
-use Rattle.acb.specs.Row.{Given, givenOf}
+use Rattle.acb_judge.specs.Answer.{HeaderPlaces}
+use Rattle.acb_write_judge.specs.Writing.{componentsIn, bookIn}
+use Rattle.acb.specs.Row.{RecordRow, givenOf}
 
 -- four strings and numbers of 16 bits, as in a `Header`
-pub record Headed (h : Shown) : Type 0 where
+pub record Headed (h : HeaderPlaces) : Type 0 where
   pub four : length (h .texts) ≡ 4
   pub identifier-small : h .identifier < 256 ^ 2
   pub size-small : h .size < 256 ^ 2
@@ -25,12 +25,12 @@ abbrev pub Holds : List ℕ → Book → Type 0
 Holds s b = (c : Contents) × (acb s ≡ ok c (length s)) × (bookOf c ≡ b)
 
 -- the bytes that are made of a header, given records and a tag, whose strings and names lie in `text`
-abbrev pub made : List ℕ → Shown → Ending → List Given → List ℕ
+abbrev pub made : List ℕ → HeaderPlaces → Ending → List RecordRow → List ℕ
 made text h t gs = fileBytes (bookIn text h t gs)
 
 -- ---- the records of a file that was read, as they are given to a writer
 
-abbrev pub tabled : List Entry → List Given
+abbrev pub tabled : List Entry → List RecordRow
 tabled es = map givenOf es
 
 -- ---- what is given and fits its fields; it may be refused all the same
@@ -41,7 +41,7 @@ pub record TextFitting (text : List ℕ) (l : ℕ × ℕ) : Type 0 where
   pub inside : 0 < l .1 → l .0 + 2 * l .1 ≤ length text
 
 -- six code bytes; the n components that the space has are bytes, another is spare
-pub record Fitting (text : List ℕ) (n : ℕ) (g : Given) : Type 0 where
+pub record Fitting (text : List ℕ) (n : ℕ) (g : RecordRow) : Type 0 where
   pub named : TextFitting text (g .name)
   pub six : length (g .code) ≡ 6
   pub code-small : All (λ i b. b < 256) 0 (g .code)
@@ -49,7 +49,7 @@ pub record Fitting (text : List ℕ) (n : ℕ) (g : Given) : Type 0 where
   pub components-small : All (λ i b. b < 256) 0 (componentsIn n g)
 
 -- the number of records fits 16 bits, and another tag is eight bytes that are none
-pub record BookFitting (text : List ℕ) (h : Shown) (t : Ending) (gs : List Given) : Type 0 where
+pub record BookFitting (text : List ℕ) (h : HeaderPlaces) (t : Ending) (gs : List RecordRow) : Type 0 where
   pub headed : Headed h
   pub strings : All (λ k l. TextFitting text l) 0 (h .texts)
   pub count : length gs < 256 ^ 2
@@ -58,13 +58,13 @@ pub record BookFitting (text : List ℕ) (h : Shown) (t : Ending) (gs : List Giv
 
 -- ---- records of n components that differ only in spare places
 
-pub record Alike (n : ℕ) (g h : Given) : Type 0 where
+pub record Alike (n : ℕ) (g h : RecordRow) : Type 0 where
   pub same-name : g .name ≡ h .name
   pub same-code : g .code ≡ h .code
   pub same-components : componentsIn n g ≡ componentsIn n h
 
 -- one by one
-abbrev pub AllAlike : ℕ → List Given → List Given → Type 0
+abbrev pub AllAlike : ℕ → List RecordRow → List RecordRow → Type 0
 AllAlike n [] [] = Unit
 AllAlike n [] (h ∷ hs) = ⊥
 AllAlike n (g ∷ gs) [] = ⊥

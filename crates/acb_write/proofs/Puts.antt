@@ -1,4 +1,5 @@
 -- Stores one after the other, on plain values. Assumes nothing.
+use Rattle.algebra.specs.Chars.{chars}
 use Rattle.algebra.proofs.Counted.{counted-end, counted-start, counted-turn, length-counted}
 use Prim.Native.Nat.{ℕ, zero, suc, _+_, _*_, _-_, _%_, _≤_, _<_}
 use mathlib.Core.Path.{_≡_, refl, sym, ap, ap₂, _∙_}
@@ -16,12 +17,12 @@ use Rattle.algebra.proofs.Exact.{length-map}
 use Rattle.algebra.proofs.Storing.{as-sets, peel, peel-be, length-kept}
 use Rattle.acb.specs.Grammar.{Tag, none, spot, process, Ending, tagged, other, stringBytes, colourBytes, tagBytes, endingBytes, headBytes, fileBytes}
 use Rattle.acb.specs.Reading.{componentsOf}
-use Rattle.acb_judge.specs.Answer.{Shown}
-use Rattle.acb_records.specs.Writing.{unitsIn, componentsIn, colourIn, bookIn, sizes, stringSize, sizeIn, tagSize, endingSize, headSize, size, textFault}
+use Rattle.acb_judge.specs.Answer.{HeaderPlaces}
+use Rattle.acb_write_judge.specs.Writing.{unitsIn, componentsIn, colourIn, bookIn, sizes, stringSize, sizeIn, tagSize, endingSize, headSize, size, textFault}
 use Rattle.algebra.specs.Table.{rows}
-use Rattle.acb.specs.Row.{Given, width, taken}
-use Rattle.acb_records.specs.Parts.{givenAt, start, numberBytes, headingBytes}
-use Rattle.acb_records.proofs.Judging.{text-inside}
+use Rattle.acb.specs.Row.{RecordRow, width, taken}
+use Rattle.acb_write_judge.specs.scaffold.Parts.{givenAt, start, numberBytes, headingBytes}
+use Rattle.acb_write_judge.proofs.Judging.{text-inside}
 use Rattle.acb.proofs.Laws.{components-some}
 
 -- ---- a string
@@ -74,7 +75,7 @@ module _ (out : List ℕ) (at a b c : ℕ) where
     unfolding be joined
     six-stores e f = simp unary-clauses
 
-module _ (text : List ℕ) (n : ℕ) (g : Given) (six : length (g .code) ≡ 6) where
+module _ (text : List ℕ) (n : ℕ) (g : RecordRow) (six : length (g .code) ≡ 6) where
   pub put-colour : (out o₁ o₂ o₃ : List ℕ) (at p : ℕ) → p ≡ at + stringSize (g .name) → o₁ ≡ sets out at (stringBytes (unitsIn text (g .name))) → o₂ ≡ sets o₁ p (joined (be 1) (g .code))
       → o₃ ≡ sets o₂ (p + 6) (joined (be 1) (componentsIn n g)) → o₃ ≡ sets out at (colourBytes (colourIn text n g))
   unfolding colourBytes
@@ -95,7 +96,7 @@ module _ (text : List ℕ) (n : ℕ) (g : Given) (six : length (g .code) ≡ 6) 
 -- ---- a loop that stores the records of a run
 
 -- six code numbers and four components, as in every record of a run
-abbrev pub Shaped : Given → Type 0
+abbrev pub Shaped : RecordRow → Type 0
 Shaped g = (length (g .code) ≡ 6) × (length (g .components) ≡ 4)
 
 pub givens-shaped : (run : List ℕ) (n k i : ℕ) → All (λ j g. Shaped g) i (rows width taken run n k)
@@ -104,10 +105,10 @@ givens-shaped run zero k i = tt
 givens-shaped run (suc n) k i = ((refl, refl), givens-shaped run n (k + 1) (i + 1))
 
 module _ (text : List ℕ) (m : ℕ) (few : m ≤ 4) where
-  length-shaped : (g : Given) → Shaped g → length (colourBytes (colourIn text m g)) ≡ sizeIn m g
+  length-shaped : (g : RecordRow) → Shaped g → length (colourBytes (colourIn text m g)) ≡ sizeIn m g
   length-shaped g s = length-colour text m g (s .0) (length-take-le m (g .components) (omega (arith, s .1)))
 
-  length-colours : (i : ℕ) (gs : List Given) → All (λ k g. Shaped g) i gs → length (joined colourBytes (map (colourIn text m) gs)) ≡ sizes (sizeIn m) gs
+  length-colours : (i : ℕ) (gs : List RecordRow) → All (λ k g. Shaped g) i gs → length (joined colourBytes (map (colourIn text m) gs)) ≡ sizes (sizeIn m) gs
   unfolding joined sizes
   length-colours i [] h = refl
   length-colours i (g ∷ gs) h = omega (arith, length-append (colourBytes (colourIn text m g)) (joined colourBytes (map (colourIn text m) gs)), length-shaped g (h .0), length-colours (i + 1) gs (h .1))
@@ -115,20 +116,20 @@ module _ (text : List ℕ) (m : ℕ) (few : m ≤ 4) where
 module _ (run text : List ℕ) (m : ℕ) where
   module _ (all out : List ℕ) (n i at : ℕ) where
     pub puts-start : all ≡ sets out at (joined colourBytes (map (colourIn text m) (rows width taken run n 0))) → all ≡ sets out at (joined colourBytes (map (colourIn text m) (rows width taken run (n - 0) 0)))
-    puts-start e = e ∙ ap (λ (gs : List Given). sets out at (joined colourBytes (map (colourIn text m) gs))) (counted-start (givenAt run) n)
+    puts-start e = e ∙ ap (λ (gs : List RecordRow). sets out at (joined colourBytes (map (colourIn text m) gs))) (counted-start (givenAt run) n)
 
     module _ (inv : all ≡ sets out at (joined colourBytes (map (colourIn text m) (rows width taken run (n - i) i)))) where
-      pub puts-turn : m ≤ 4 → i < n → (o : List ℕ) (q : ℕ) → q ≡ at + sizeIn m (givenAt run i) → (g : Given) → g ≡ givenAt run i → o ≡ sets out at (colourBytes (colourIn text m g))
+      pub puts-turn : m ≤ 4 → i < n → (o : List ℕ) (q : ℕ) → q ≡ at + sizeIn m (givenAt run i) → (g : RecordRow) → g ≡ givenAt run i → o ≡ sets out at (colourBytes (colourIn text m g))
           → all ≡ sets o q (joined colourBytes (map (colourIn text m) (rows width taken run (n - (i + 1)) (i + 1))))
       unfolding joined
       puts-turn few h o q w g z s =
-          inv ∙ ap (λ (gs : List Given). sets out at (joined colourBytes (map (colourIn text m) gs))) (counted-turn (givenAt run) n i h)
+          inv ∙ ap (λ (gs : List RecordRow). sets out at (joined colourBytes (map (colourIn text m) gs))) (counted-turn (givenAt run) n i h)
           ∙ peel out o (colourBytes (colourIn text m (givenAt run i))) (joined colourBytes (map (colourIn text m) (rows width taken run (n - (i + 1)) (i + 1)))) at (sizeIn m (givenAt run i)) q (length-shaped text m few (givenAt run i) (refl, refl)) (sym w)
-          (s ∙ ap (λ (x : Given). sets out at (colourBytes (colourIn text m x))) z)
+          (s ∙ ap (λ (x : RecordRow). sets out at (colourBytes (colourIn text m x))) z)
 
       pub puts-end : n ≤ i → out ≡ all
       unfolding joined
-      puts-end h = sym (inv ∙ ap (λ (gs : List Given). sets out at (joined colourBytes (map (colourIn text m) gs))) (counted-end (givenAt run) n i h))
+      puts-end h = sym (inv ∙ ap (λ (gs : List RecordRow). sets out at (joined colourBytes (map (colourIn text m) gs))) (counted-end (givenAt run) n i h))
 
 -- ---- the header
 
@@ -148,7 +149,7 @@ put-texts text a b c d o₀ o₁ o₂ o₃ o₄ at p q r e₁ x e₂ y e₃ z e�
     ∙ peel o₂ o₃ (stringBytes (unitsIn text c)) _ q (stringSize c) r (length-string text c) (sym z) e₃
     ∙ peel o₃ o₄ (stringBytes (unitsIn text d)) [] r (stringSize d) (r + stringSize d) (length-string text d) refl e₄)
 
-module _ (h : Shown) (count : ℕ) where
+module _ (h : HeaderPlaces) (count : ℕ) where
   pub put-numbers : (o₀ o₁ o₂ o₃ o₄ : List ℕ) (at : ℕ) → at + 8 ≤ length o₀ → o₁ ≡ stored o₀ at (be 2 count) → o₂ ≡ stored o₁ (at + 2) (be 2 (h .size))
       → o₃ ≡ stored o₂ (at + 4) (be 2 (h .offset)) → o₄ ≡ stored o₃ (at + 6) (be 2 (h .space)) → o₄ ≡ sets o₀ at (numberBytes h count)
   put-numbers o₀ o₁ o₂ o₃ o₄ at k e₁ e₂ e₃ e₄ =
@@ -175,15 +176,15 @@ module _ (h : Shown) (count : ℕ) where
         let i : List ℕ = be 2 (h .identifier) in
         let ts : List ℕ = joined stringBytes (map (unitsIn text) (h .texts)) in
         let ns : List ℕ = numberBytes h count in
-        omega (arith, length-append (be 4 0x3842_4342) (be 2 1 ++ (i ++ (ts ++ ns))), length-append (be 2 1) (i ++ (ts ++ ns)), length-append i (ts ++ ns), length-append ts ns, length-be 4 0x3842_4342, length-be 2 1, length-be 2 (h .identifier), length-texts text (h .texts), length-numbers)
+        omega (arith, length-append (be 4 (chars "8BCB")) (be 2 1 ++ (i ++ (ts ++ ns))), length-append (be 2 1) (i ++ (ts ++ ns)), length-append i (ts ++ ns), length-append ts ns, length-be 4 (chars "8BCB"), length-be 2 1, length-be 2 (h .identifier), length-texts text (h .texts), length-numbers)
 
-    pub put-head : (o₀ o₁ o₂ o₃ o₄ o₅ : List ℕ) (p : ℕ) → headSize h ≤ length o₀ → o₁ ≡ stored o₀ 0 (be 4 0x3842_4342) → o₂ ≡ stored o₁ 4 (be 2 1) → o₃ ≡ stored o₂ 6 (be 2 (h .identifier))
+    pub put-head : (o₀ o₁ o₂ o₃ o₄ o₅ : List ℕ) (p : ℕ) → headSize h ≤ length o₀ → o₁ ≡ stored o₀ 0 (be 4 (chars "8BCB")) → o₂ ≡ stored o₁ 4 (be 2 1) → o₃ ≡ stored o₂ 6 (be 2 (h .identifier))
         → o₄ ≡ sets o₃ 8 (joined stringBytes (map (unitsIn text) (h .texts))) → p ≡ 8 + sizes stringSize (h .texts) → o₅ ≡ sets o₄ p (numberBytes h count) → o₅ ≡ sets o₀ 0 (headingBytes text h count)
     put-head o₀ o₁ o₂ o₃ o₄ o₅ p k e₁ e₂ e₃ e₄ w e₅ =
-        let l₁ = length-kept o₁ o₀ 0 (be 4 0x3842_4342) e₁ in
+        let l₁ = length-kept o₁ o₀ 0 (be 4 (chars "8BCB")) e₁ in
         let l₂ = length-kept o₂ o₁ 4 (be 2 1) e₂ in
         e₅ ∙ sym (
-        peel-be 4 0x3842_4342 o₀ o₁ _ 0 4 refl (omega arith) e₁
+        peel-be 4 (chars "8BCB") o₀ o₁ _ 0 4 refl (omega arith) e₁
         ∙ peel-be 2 1 o₁ o₂ _ 4 6 refl (omega arith) e₂
         ∙ peel-be 2 (h .identifier) o₂ o₃ _ 6 8 refl (omega arith) e₃
         ∙ peel o₃ o₄ (joined stringBytes (map (unitsIn text) (h .texts))) (numberBytes h count) 8 (sizes stringSize (h .texts)) p (length-texts text (h .texts)) (sym w) e₄)
@@ -191,24 +192,24 @@ module _ (h : Shown) (count : ℕ) where
 -- ---- the closing tag
 
 -- its eight bytes as two numbers
-module _ (o₀ o₁ o₂ : List ℕ) (at : ℕ) (room : at + 8 ≤ length o₀) (e₁ : o₁ ≡ stored o₀ at (be 4 0x7370_666C)) where
-  both : (v : ℕ) → o₂ ≡ stored o₁ (at + 4) (be 4 v) → o₂ ≡ sets o₀ at (be 4 0x7370_666C ++ be 4 v)
+module _ (o₀ o₁ o₂ : List ℕ) (at : ℕ) (room : at + 8 ≤ length o₀) (e₁ : o₁ ≡ stored o₀ at (be 4 (chars "spfl"))) where
+  both : (v : ℕ) → o₂ ≡ stored o₁ (at + 4) (be 4 v) → o₂ ≡ sets o₀ at (be 4 (chars "spfl") ++ be 4 v)
   both v e₂ =
-      let l₁ = length-kept o₁ o₀ at (be 4 0x7370_666C) e₁ in
-      as-sets o₂ o₁ (at + 4) (be 4 v) 4 e₂ (length-be 4 v) (omega arith) ∙ sym (peel-be 4 0x7370_666C o₀ o₁ (be 4 v) at (at + 4) refl (omega arith) e₁)
+      let l₁ = length-kept o₁ o₀ at (be 4 (chars "spfl")) e₁ in
+      as-sets o₂ o₁ (at + 4) (be 4 v) 4 e₂ (length-be 4 v) (omega arith) ∙ sym (peel-be 4 (chars "spfl") o₀ o₁ (be 4 v) at (at + 4) refl (omega arith) e₁)
 
-  pub put-spot : o₂ ≡ stored o₁ (at + 4) (be 4 0x7370_6F74) → o₂ ≡ sets o₀ at (be 8 0x7370_666C_7370_6F74)
+  pub put-spot : o₂ ≡ stored o₁ (at + 4) (be 4 (chars "spot")) → o₂ ≡ sets o₀ at (be 8 (chars "spflspot"))
   unfolding be
-  put-spot e₂ = both 0x7370_6F74 e₂
+  put-spot e₂ = both (chars "spot") e₂
 
-  pub put-process : o₂ ≡ stored o₁ (at + 4) (be 4 0x7072_6F63) → o₂ ≡ sets o₀ at (be 8 0x7370_666C_7072_6F63)
+  pub put-process : o₂ ≡ stored o₁ (at + 4) (be 4 (chars "proc")) → o₂ ≡ sets o₀ at (be 8 (chars "spflproc"))
   unfolding be
-  put-process e₂ = both 0x7072_6F63 e₂
+  put-process e₂ = both (chars "proc") e₂
 
 length-tag : (t : Tag) → length (tagBytes t) ≡ tagSize t
 length-tag none = refl
-length-tag spot = length-be 8 0x7370_666C_7370_6F74
-length-tag process = length-be 8 0x7370_666C_7072_6F63
+length-tag spot = length-be 8 (chars "spflspot")
+length-tag process = length-be 8 (chars "spflproc")
 
 length-ending : (t : Ending) → length (endingBytes t) ≡ endingSize t
 length-ending (tagged t) = length-tag t
@@ -216,7 +217,7 @@ length-ending (other v) = length-be 8 v
 
 -- ---- the whole file
 
-module _ (text : List ℕ) (h : Shown) (t : Ending) (gs : List Given) where
+module _ (text : List ℕ) (h : HeaderPlaces) (t : Ending) (gs : List RecordRow) where
   heading-is : headBytes (bookIn text h t gs) ≡ headingBytes text h (length gs)
   unfolding headBytes
   heading-is = ap (headingBytes text h) (length-map (colourIn text (componentsOf (h .space))) gs)
@@ -233,13 +234,13 @@ module _ (text : List ℕ) (h : Shown) (t : Ending) (gs : List Given) where
       let b : List ℕ = joined colourBytes (map (colourIn text m) gs) in
       omega (arith, length-append a (b ++ endingBytes t), length-append b (endingBytes t), length-head, length-colours text m (components-some (h .space) .1) 0 gs s, length-ending t)
 
-module _ (run text : List ℕ) (h : Shown) (t : Ending) (n : ℕ) where
+module _ (run text : List ℕ) (h : HeaderPlaces) (t : Ending) (n : ℕ) where
   pub put-file : (m : ℕ) → m ≡ componentsOf (h .space) → (o₀ o₁ o₂ o₃ : List ℕ) (p q : ℕ) → o₁ ≡ sets o₀ 0 (headingBytes text h n) → p ≡ headSize h
       → o₂ ≡ sets o₁ p (joined colourBytes (map (colourIn text m) (rows width taken run n 0))) → q ≡ p + sizes (sizeIn m) (rows width taken run n 0)
       → o₃ ≡ sets o₂ q (endingBytes t) → o₃ ≡ sets o₀ 0 (fileBytes (bookIn text h t (rows width taken run n 0)))
   unfolding fileBytes
   put-file m w o₀ o₁ o₂ o₃ p q e₁ x e₂ y e₃ =
-      let gs : List Given = rows width taken run n 0 in
+      let gs : List RecordRow = rows width taken run n 0 in
       let k : ℕ = componentsOf (h .space) in
       let s : headBytes (bookIn text h t gs) ≡ headingBytes text h n = heading-is text h t gs ∙ ap (headingBytes text h) (length-counted (givenAt run) n 0) in
       let u : 0 + headSize h ≡ p = omega arith in

@@ -8,18 +8,19 @@ ghost use Rattle.algebra.specs.Numbers.{be, joined};
 ghost use Rattle.acb.specs.Grammar.{stringBytes, colourBytes, tagBytes, endingBytes, fileBytes};
 ghost use Rattle.acb.specs.Faults.{endingFault};
 ghost use Rattle.acb_judge.specs.Answer.{toldText, toldHeader, toldTag};
-ghost use Rattle.acb_records.specs.Writing.{unitsIn, componentsIn, colourIn, bookIn, sizes, stringSize, sizeIn, tagSize, endingSize, headSize, size, headFault, fault, written};
+ghost use Rattle.acb_write_judge.specs.Writing.{unitsIn, componentsIn, colourIn, bookIn, sizes, stringSize, sizeIn, tagSize, endingSize, headSize, size, headFault, fault, written};
 ghost use Rattle.algebra.specs.Table.{rows, whole};
 ghost use Rattle.acb.specs.Row.{width, taken};
 ghost use Rattle.fields.specs.Answer.{toldWritten};
-ghost use Rattle.acb_records.specs.Answer.{toldEnding};
-ghost use Rattle.acb_records.specs.Parts.{toldRecord, start, numberBytes, headingBytes, StringFits, TextsFit, RecordFits, RecordsFit};
+ghost use Rattle.acb_write_judge.specs.Answer.{toldEnding};
+ghost use Rattle.acb_write_judge.specs.Parts.{toldRecord};
+ghost use Rattle.acb_write_judge.specs.scaffold.Parts.{start, numberBytes, headingBytes, StringFits, TextsFit, RecordFits, RecordsFit};
 use acb::WIDTH;
 use acb_judge::Header;
 use acb_judge::Tag;
 use acb_judge::Text;
-use acb_records::Ending;
-use acb_records::Record;
+use acb_write_judge::Ending;
+use acb_write_judge::Record;
 use fields::Written;
 
 // The halves of the closing tags: `spfl`, and `spot` or `proc`.
@@ -32,24 +33,24 @@ const PROCESS: u32 = (acb::PROCESS % 0x1_0000_0000) as u32;
 // ---- storing
 
 // Where a string begins; 0 for one of no units, whose place may be any.
-fn start_of(lies: Text) -> usize
-    ensures { λ r. ⌜ r ≡ start (toldText lies) ⌝ }
+fn start_of(string: Text) -> usize
+    ensures { λ r. ⌜ r ≡ start (toldText string) ⌝ }
 {
-    if lies.units == 0 {
+    if string.units == 0 {
         return 0;
     }
-    lies.place
+    string.place
 }
 
 // A string from `at`; it answers the next place.
-fn put_string(out: &mut [u8], at: usize, text: &[u8], lies: Text) -> usize
-    requires { ⌜ StringFits (now text) (toldText lies) at (length (now out)) ⌝ }
-    ensures { λ r. ⌜ (r ≡ at + stringSize (toldText lies)) × (now (out .exit) ≡ sets (now (out .entry)) at (stringBytes (unitsIn (now (text .entry)) (toldText lies)))) ⌝ }
+fn put_string(out: &mut [u8], at: usize, text: &[u8], string: Text) -> usize
+    requires { ⌜ StringFits (now text) (toldText string) at (length (now out)) ⌝ }
+    ensures { λ r. ⌜ (r ≡ at + stringSize (toldText string)) × (now (out .exit) ≡ sets (now (out .entry)) at (stringBytes (unitsIn (now (text .entry)) (toldText string)))) ⌝ }
 {
-    let first = start_of(lies);
-    let k = 2 * fields::wide(lies.units);
+    let first = start_of(string);
+    let k = 2 * fields::wide(string.units);
     let end = first + k;
-    fields::put_u32(out, at, lies.units);
+    fields::put_u32(out, at, string.units);
     fields::put_run(out, at + 4, &text[first..end]);
     at + 4 + k
 }
@@ -59,12 +60,12 @@ fn put_code(out: &mut [u8], at: usize, given: Record)
     requires { ⌜ at + 6 ≤ length (now out) ⌝ }
     ensures { λ _. ⌜ now (out .exit) ≡ sets (now (out .entry)) at (joined (be 1) (toldRecord given .code)) ⌝ }
 {
-    out[at] = (given.a % 256) as u8;
-    out[at + 1] = (given.b % 256) as u8;
-    out[at + 2] = (given.c % 256) as u8;
-    out[at + 3] = (given.d % 256) as u8;
-    out[at + 4] = (given.e % 256) as u8;
-    out[at + 5] = (given.f % 256) as u8;
+    out[at] = (given.code0 % 256) as u8;
+    out[at + 1] = (given.code1 % 256) as u8;
+    out[at + 2] = (given.code2 % 256) as u8;
+    out[at + 3] = (given.code3 % 256) as u8;
+    out[at + 4] = (given.code4 % 256) as u8;
+    out[at + 5] = (given.code5 % 256) as u8;
 }
 
 // The n components of a record: three or four.
@@ -72,13 +73,13 @@ fn put_components(out: &mut [u8], at: usize, given: Record, n: usize)
     requires { ⌜ (at + n ≤ length (now out)) × (3 ≤ n) × (n ≤ 4) ⌝ }
     ensures { λ _. ⌜ now (out .exit) ≡ sets (now (out .entry)) at (joined (be 1) (componentsIn n (toldRecord given))) ⌝ }
 {
-    out[at] = (given.k % 256) as u8;
-    out[at + 1] = (given.l % 256) as u8;
-    out[at + 2] = (given.m % 256) as u8;
+    out[at] = (given.component0 % 256) as u8;
+    out[at + 1] = (given.component1 % 256) as u8;
+    out[at + 2] = (given.component2 % 256) as u8;
     if n == 3 {
         return;
     }
-    out[at + 3] = (given.n % 256) as u8;
+    out[at + 3] = (given.component3 % 256) as u8;
 }
 
 // A record of n components from `at`; it answers the next place.
@@ -100,7 +101,7 @@ fn put_colours(out: &mut [u8], at: usize, run: &[u32], text: &[u8], count: usize
     let mut p = at;
     let mut i: usize = 0;
     while i < count {
-        p = put_colour(out, p, text, acb_records::record_at(run, i), n);
+        p = put_colour(out, p, text, acb_write_judge::record_at(run, i), n);
         i += 1;
     }
     p
@@ -198,7 +199,7 @@ pub fn write(
 ) -> Written
     ensures { λ r. ⌜ (toldWritten r, now (out .exit)) ≡ written (now (text .entry)) (toldHeader header) (toldEnding ending) (whole width taken (now (records .entry))) (now (out .entry)) ⌝ }
 {
-    match acb_records::write_length(header, ending, records, text) {
+    match acb_write_judge::write_length(header, ending, records, text) {
         Written::Refused(x) => Written::Refused(x),
         Written::Bytes(size) => {
             if out.len() < size {

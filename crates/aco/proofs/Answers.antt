@@ -20,7 +20,7 @@ use Rattle.algebra.proofs.Stops.{judged-refuses, each-stops}
 use Rattle.algebra.proofs.Tails.{Tail, tail-left, tail-after, judged-wrong, judged-cut}
 use Rattle.colour.specs.declared.space.Colour.{Colour}
 use Rattle.colour.specs.Spaces.{known}
-use Rattle.aco.specs.Reading.{space, colour, version, heading, fieldOf, compared, twin, Entry, entry, black, secondCount, second, unnamed, after}
+use Rattle.aco.specs.Reading.{space, colour, version, heading, fieldOf, compared, repeatedField, Entry, entry, zeroColour, secondCount, second, unnamed, after}
 use Rattle.aco.proofs.Fine.{version-fine, compared-fine}
 
 -- a heading that is cut: 2 at the version, or at the count
@@ -40,7 +40,7 @@ module _ (s : List ℕ) (bytes : Bytes s) (i : ℕ) (c : Colour) (five : length 
 
   -- f fields that are c's, and then one that is refused
   fields-stop : (f : ℕ) (l : List ℕ) → f < 5 → Tail s at (joined (be 2) (take f fields) ++ l) → (z r g : ℕ)
-      → (Tail s (at + 2 * f) l → twin i c f s (at + 2 * f) ≡ refuse z (at + 2 * f) r g) → entry i c s at ≡ refuse z (at + 2 * f) r g
+      → (Tail s (at + 2 * f) l → repeatedField i c f s (at + 2 * f) ≡ refuse z (at + 2 * f) r g) → entry i c s at ≡ refuse z (at + 2 * f) r g
   unfolding entry
   fields-stop f l h t z r g stop =
       let y : List ℕ = take f fields in
@@ -52,9 +52,9 @@ module _ (s : List ℕ) (bytes : Bytes s) (i : ℕ) (c : Colour) (five : length 
       let sm : getD fields k 0 < 256 ^ 2 = all-at (λ k v. v < 256 ^ 2) 0 0 fields small k (omega arith) in
       (subst (λ (n : ℕ). n < 256 ^ 2) (sym e) sm, compared-fine i c (0 + k) (getD y k 0) (e ∙ ap (λ (n : ℕ). getD fields n 0) (sym (zero-add k))))) in
       let len : at + length (joined (be 2) y) ≡ at + 2 * f = omega (arith, length-bes 2 y) in
-      let e : each 5 0 (twin i c) s at ≡ refuse z (at + 2 * f) r g =
-      each-stops {p = twin i c} {Ok = Twin} (λ f. judged-exact s bytes 2 (compared i c f)) 5 0 at y (omega arith) fit (tail-left s at (joined (be 2) y) l t)
-      (subst₂ (λ (k m : ℕ). twin i c k s m ≡ refuse z (at + 2 * f) r g) (sym (zero-add (length y) ∙ ly)) (sym len) (stop (tail-after s at (joined (be 2) y) l (at + 2 * f) len t))) in
+      let e : each 5 0 (repeatedField i c) s at ≡ refuse z (at + 2 * f) r g =
+      each-stops {p = repeatedField i c} {Ok = Twin} (λ f. judged-exact s bytes 2 (compared i c f)) 5 0 at y (omega arith) fit (tail-left s at (joined (be 2) y) l t)
+      (subst₂ (λ (k m : ℕ). repeatedField i c k s m ≡ refuse z (at + 2 * f) r g) (sym (zero-add (length y) ∙ ly)) (sym len) (stop (tail-after s at (joined (be 2) y) l (at + 2 * f) len t))) in
       rw e
 
   pub field-cut-first : (f : ℕ) (l : List ℕ) → f < 5 → length l < 2 → Tail s at (joined (be 2) (take f fields) ++ l) → entry i c s at ≡ refuse 2 (at + 2 * f) 0 0
@@ -73,11 +73,11 @@ one-list-ends s cs = simp (eq-eqb (length s) (length s) refl)
 -- list 2 behind its heading
 module _ (s : List ℕ) (cs : List Colour) (at n r : ℕ) (head : heading 2 (secondCount (length cs)) s at ≡ ok n r) where
   -- its records in turn, each with its name: what the first that is refused gets
-  pub record-first : {z p i f : ℕ} → each (length cs) 0 (λ i. entry i (getD cs i black)) s r ≡ refuse z p i f → second cs s at ≡ refuse z p i f
+  pub record-first : {z p i f : ℕ} → each (length cs) 0 (λ i. entry i (getD cs i zeroColour)) s r ≡ refuse z p i f → second cs s at ≡ refuse z p i f
   unfolding second
   record-first e = rw head (rw e)
 
   -- bytes behind them: 6 where they begin
-  pub left-over-last : (es : List Entry) (q : ℕ) → each (length cs) 0 (λ i. entry i (getD cs i black)) s r ≡ ok es q → q < length s → second cs s at ≡ refuse 6 q 0 0
+  pub left-over-last : (es : List Entry) (q : ℕ) → each (length cs) 0 (λ i. entry i (getD cs i zeroColour)) s r ≡ ok es q → q < length s → second cs s at ≡ refuse 6 q 0 0
   unfolding second
   left-over-last es q e more = rw head (rw e (ended-left (record { lists = 2; records = es }) s q more))

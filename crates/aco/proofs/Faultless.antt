@@ -17,11 +17,11 @@ use Rattle.colour.specs.Spaces.{known, allowed}
 use Rattle.aco.specs.Grammar.{Swatch, Sample, Allowed, Palette}
 use Rattle.aco.specs.Faults.{spaceFault, sampleFault, fieldsFault, colourFault, swatchesFault, paletteFault, Fits}
 use Rattle.aco.proofs.Written.{ownName}
-use Rattle.aco.proofs.Laws.{hue, Painted, painted-sized, allowed-painted, painted-allowed, space-known, known-space, allowed-sample, sample-allowed}
+use Rattle.aco.proofs.Laws.{hue, AllowedColour, allowed-colour-sized, allowed-allowed-colour, allowed-colour-allowed, space-known, known-space, allowed-sample, sample-allowed}
 
 -- ---- no fault, so allowed
 
-colour-sound : (w : Swatch) → Fits w → colourFault w ≡ 0 → Painted (hue w)
+colour-sound : (w : Swatch) → Fits w → colourFault w ≡ 0 → AllowedColour (hue w)
 unfolding fieldsFault
 colour-sound w f e =
     let x : ℕ = w .space in
@@ -47,7 +47,7 @@ faultless-allowed ws fits e =
     let cs = faults-inv (λ k. colourFault) 0 ws (faults-from colourFault 0 ws ∙ j .0) in
     let ns = faults-inv (λ k. ownName) 0 ws (faults-from ownName 0 ws ∙ j .1) in record {
       count = leb-true (length ws) 4096 (pick-none (leb (length ws) 4096) 5 (omega arith) (i .0));
-      swatches = all-map (λ k w. Fits w × ((colourFault w ≡ 0) × (ownName w ≡ 0))) (λ k w. Allowed w) (λ k w h. painted-allowed w (colour-sound w (h .0) (h .1 .0)) (name-sound w (h .0) (h .1 .1))) 0 ws
+      swatches = all-map (λ k w. Fits w × ((colourFault w ≡ 0) × (ownName w ≡ 0))) (λ k w. Allowed w) (λ k w h. allowed-colour-allowed w (colour-sound w (h .0) (h .1 .0)) (name-sound w (h .0) (h .1 .1))) 0 ws
           (all-both (λ k w. Fits w) (λ k w. (colourFault w ≡ 0) × (ownName w ≡ 0)) 0 ws fits (all-both (λ k w. colourFault w ≡ 0) (λ k w. ownName w ≡ 0) 0 ws cs ns));
     }
 
@@ -75,7 +75,7 @@ allowed-faultless ws pal =
 -- what the grammar allows fits its fields
 pub allowed-fits : (w : Swatch) → Allowed w → Fits w
 allowed-fits w a =
-    let z = painted-sized (hue w) (allowed-painted w a) in record {
+    let z = allowed-colour-sized (hue w) (allowed-allowed-colour w a) in record {
       small = z .small;
       four = z .four;
       each-small = z .each-small;

@@ -14,8 +14,8 @@ use Rattle.algebra.specs.Reader.{ok, pick, Judged, fine, judged, each}
 use Rattle.algebra.specs.Text.{Name, name, front}
 use Rattle.algebra.proofs.Inverse.{then-inv, pick-inv, judged-inv, name-inv, front-nums, ended-inv, each-none, each-inv, each-length, fields-inv, fields-fine, ok-value, ok-place}
 use Rattle.colour.specs.declared.space.Colour.{Colour}
-use Rattle.aco.specs.Reading.{colour, heading, fieldOf, twin, Entry, entry, Contents, black, second, unnamed, after, lists, aco, version, firstCount, compared, secondCount}
-use Rattle.aco.specs.Raw.{rawColours}
+use Rattle.aco.specs.Reading.{colour, heading, fieldOf, repeatedField, Entry, entry, Contents, zeroColour, second, unnamed, after, lists, aco, version, firstCount, compared, secondCount}
+use Rattle.aco.specs.scaffold.Raw.{rawColours}
 use Rattle.aco.specs.Places.{nextEntry, entryPlace}
 use Rattle.aco.proofs.Fine.{fine-version, fine-first, fine-second, fine-compared}
 use Rattle.aco.proofs.Raw.{colours-raw, colours-inside}
@@ -46,7 +46,7 @@ pub entry-inv : (i : ℕ) (c : Colour) (s : List ℕ) (at : ℕ) {e : Entry} {q 
 unfolding entry
 entry-inv i c s at {e} {q} h =
     let j : ℕ → ℕ → Judged = compared i c in
-    let t = then-inv (each 5 0 (twin i c) s at) _ h in
+    let t = then-inv (each 5 0 (repeatedField i c) s at) _ h in
     let x = fields-inv 2 j s 5 0 at (t .2) in
     let u = then-inv (name 4 s (t .1)) _ (t .3) in
     let ten : t .1 ≡ at + 10 = omega arith in
@@ -73,32 +73,32 @@ entry-inv i c s at {e} {q} h =
 
 -- the records of list 2 in turn: each stands at its place
 module _ (s : List ℕ) (cs : List Colour) (n : ℕ) (d : Entry) where
-  pub entries-inv : (m i : ℕ) {es : List Entry} {q : ℕ} → each m i (λ k. entry k (getD cs k black)) s (entryPlace s n i) ≡ ok es q
-      → (k : ℕ) → k < m → (to : ℕ) × Entered s (getD cs (i + k) black) (entryPlace s n (i + k)) (getD es k d) to
+  pub entries-inv : (m i : ℕ) {es : List Entry} {q : ℕ} → each m i (λ k. entry k (getD cs k zeroColour)) s (entryPlace s n i) ≡ ok es q
+      → (k : ℕ) → k < m → (to : ℕ) × Entered s (getD cs (i + k) zeroColour) (entryPlace s n (i + k)) (getD es k d) to
   unfolding entryPlace
   entries-inv zero i e k h = absurd (omega arith)
   entries-inv (suc m) i e zero h =
-      let t = each-inv (λ k. entry k (getD cs k black)) s m i (entryPlace s n i) e in
-      let x = entry-inv i (getD cs i black) s (entryPlace s n i) (t .3) in
-      (t .1, rw (add-zero i) (subst (λ (l : List Entry). Entered s (getD cs i black) (entryPlace s n i) (getD l 0 d) (t .1)) (t .5) x))
+      let t = each-inv (λ k. entry k (getD cs k zeroColour)) s m i (entryPlace s n i) e in
+      let x = entry-inv i (getD cs i zeroColour) s (entryPlace s n i) (t .3) in
+      (t .1, rw (add-zero i) (subst (λ (l : List Entry). Entered s (getD cs i zeroColour) (entryPlace s n i) (getD l 0 d) (t .1)) (t .5) x))
   entries-inv (suc m) i {es} {q} e (suc k) h =
-      let t = each-inv (λ k. entry k (getD cs k black)) s m i (entryPlace s n i) e in
-      let x = entry-inv i (getD cs i black) s (entryPlace s n i) (t .3) in
+      let t = each-inv (λ k. entry k (getD cs k zeroColour)) s m i (entryPlace s n i) e in
+      let x = entry-inv i (getD cs i zeroColour) s (entryPlace s n i) (t .3) in
       let p : t .1 ≡ entryPlace s n (i + 1) = sym (x .next) ∙ ap (entryPlace s n) (sym (add-one i)) in
-      let r = entries-inv m (i + 1) {es = t .2} {q = q} (subst (λ (z : ℕ). each m (i + 1) (λ k. entry k (getD cs k black)) s z ≡ ok (t .2) q) p (t .4)) k (omega arith) in
+      let r = entries-inv m (i + 1) {es = t .2} {q = q} (subst (λ (z : ℕ). each m (i + 1) (λ k. entry k (getD cs k zeroColour)) s z ≡ ok (t .2) q) p (t .4)) k (omega arith) in
       let y : i + 1 + k ≡ i + suc k = omega arith in
-      (r .0, subst₂ (λ (z : ℕ) (l : List Entry). Entered s (getD cs z black) (entryPlace s n z) (getD l (suc k) d) (r .0)) y (t .5) (r .1))
+      (r .0, subst₂ (λ (z : ℕ) (l : List Entry). Entered s (getD cs z zeroColour) (entryPlace s n z) (getD l (suc k) d) (r .0)) y (t .5) (r .1))
 
   -- list 2 ends behind its last record
-  pub entries-end : (m i : ℕ) {es : List Entry} {q : ℕ} → each m i (λ k. entry k (getD cs k black)) s (entryPlace s n i) ≡ ok es q → entryPlace s n (i + m) ≡ q
+  pub entries-end : (m i : ℕ) {es : List Entry} {q : ℕ} → each m i (λ k. entry k (getD cs k zeroColour)) s (entryPlace s n i) ≡ ok es q → entryPlace s n (i + m) ≡ q
   unfolding entryPlace
-  entries-end zero i e = ap (entryPlace s n) (add-zero i) ∙ each-none (λ k. entry k (getD cs k black)) s i (entryPlace s n i) e .1
+  entries-end zero i e = ap (entryPlace s n) (add-zero i) ∙ each-none (λ k. entry k (getD cs k zeroColour)) s i (entryPlace s n i) e .1
   entries-end (suc m) i {es} {q} e =
-      let t = each-inv (λ k. entry k (getD cs k black)) s m i (entryPlace s n i) e in
-      let x = entry-inv i (getD cs i black) s (entryPlace s n i) (t .3) in
+      let t = each-inv (λ k. entry k (getD cs k zeroColour)) s m i (entryPlace s n i) e in
+      let x = entry-inv i (getD cs i zeroColour) s (entryPlace s n i) (t .3) in
       let p : t .1 ≡ entryPlace s n (i + 1) = sym (x .next) ∙ ap (entryPlace s n) (sym (add-one i)) in
       let y : i + suc m ≡ i + 1 + m = omega arith in
-      ap (entryPlace s n) y ∙ entries-end m (i + 1) {es = t .2} {q = q} (subst (λ (z : ℕ). each m (i + 1) (λ k. entry k (getD cs k black)) s z ≡ ok (t .2) q) p (t .4))
+      ap (entryPlace s n) y ∙ entries-end m (i + 1) {es = t .2} {q = q} (subst (λ (z : ℕ). each m (i + 1) (λ k. entry k (getD cs k zeroColour)) s z ≡ ok (t .2) q) p (t .4))
 
 -- ---- the file
 
@@ -116,7 +116,7 @@ pub record First (s : List ℕ) (cs : List Colour) (r : ℕ) : Type 0 where
 -- what follows it: the file's end, or list 2 with the records es
 pub data Then (s : List ℕ) (cs : List Colour) (r : ℕ) (c : Contents) (q : ℕ) : Type 0 where
   one : r ≡ length s → record { lists = 1; records = map unnamed cs } ≡ c → r ≡ q → Then s cs r c q
-  two : (es : List Entry) (z : ℕ) → heading 2 (secondCount (length cs)) s r ≡ ok (length cs) (r + 4) → each (length cs) 0 (λ i. entry i (getD cs i black)) s (r + 4) ≡ ok es z
+  two : (es : List Entry) (z : ℕ) → heading 2 (secondCount (length cs)) s r ≡ ok (length cs) (r + 4) → each (length cs) 0 (λ i. entry i (getD cs i zeroColour)) s (r + 4) ≡ ok es z
       → z ≡ length s → record { lists = 2; records = es } ≡ c → z ≡ q → Then s cs r c q
 
 first-of : (s : List ℕ) (cs : List Colour) (r n m : ℕ) → length s ≤ 16777216 → heading 1 firstCount s 0 ≡ ok n m → each n 0 (λ i. colour) s m ≡ ok cs r → First s cs r
@@ -143,9 +143,9 @@ second-inv s cs r c q e =
     let t = then-inv (heading 2 j s r) _ e in
     let x = heading-inv 2 j s r (t .2) in
     let l : t .0 ≡ length cs = fine-second (length cs) (t .0) (x .4) in
-    let u = then-inv (each (length cs) 0 (λ i. entry i (getD cs i black)) s (t .1)) _ (t .3) in
+    let u = then-inv (each (length cs) 0 (λ i. entry i (getD cs i zeroColour)) s (t .1)) _ (t .3) in
     let z = ended-inv (record { lists = 2; records = u .0 }) s (u .1) (u .3) in
-    two (u .0) (u .1) (t .2 ∙ ap₂ (λ (a b : ℕ). ok a b) l (sym (x .2))) (ap (λ (p : ℕ). each (length cs) 0 (λ i. entry i (getD cs i black)) s p) (x .2) ∙ u .2) (z .0) (z .1) (z .2)
+    two (u .0) (u .1) (t .2 ∙ ap₂ (λ (a b : ℕ). ok a b) l (sym (x .2))) (ap (λ (p : ℕ). each (length cs) 0 (λ i. entry i (getD cs i zeroColour)) s p) (x .2) ∙ u .2) (z .0) (z .1) (z .2)
 
 after-inv : (s : List ℕ) (cs : List Colour) (r : ℕ) (c : Contents) (q : ℕ) → after cs s r ≡ ok c q → Then s cs r c q
 unfolding after

@@ -20,7 +20,7 @@ use Rattle.colour.specs.Spaces as spaces
 use Rattle.colour.specs.Spaces.{uses, full, known, ranged, allowed}
 use Rattle.colour.proofs.Laws.{chrominance-plus, chrominance-minus, allowed-small}
 use Rattle.aco.specs.Grammar.{Swatch, Scale, upTo, chrominance, unused, Chrominance, plus, minus, On, Space, rgb, hsb, cmyk, lab, gray, Sample, Allowed, colourBytes, entryBytes}
-use Rattle.aco.specs.Reading.{space, sample, samples, colour, heading, twin, Entry, entry, swatch, version, compared}
+use Rattle.aco.specs.Reading.{space, sample, samples, colour, heading, repeatedField, Entry, entry, swatch, version, compared}
 use Rattle.aco.proofs.Fine.{space-fine, sample-fine, version-fine, compared-fine, fine-space, fine-sample, fine-version, fine-compared}
 
 -- ---- the reader's table of spaces and the grammar's
@@ -130,11 +130,11 @@ abbrev pub mix : ℕ → List ℕ → Colour
 mix x vs = record { space = x; samples = vs }
 
 -- its ten bytes
-abbrev pub paint : Colour → List ℕ
-paint c = be 2 (c .space) ++ joined (be 2) (c .samples)
+abbrev pub sampleBytes : Colour → List ℕ
+sampleBytes c = be 2 (c .space) ++ joined (be 2) (c .samples)
 
 -- what the grammar asks of a swatch, apart from its name
-pub record Painted (c : Colour) : Type 0 where
+pub record AllowedColour (c : Colour) : Type 0 where
   pub scales : List Scale
   pub of : Space (c .space) scales
   pub four : length (c .samples) ≡ 4
@@ -153,25 +153,25 @@ space-small cmyk = omega arith
 space-small lab = omega arith
 space-small gray = omega arith
 
-pub painted-sized : (c : Colour) → Painted c → Sized c
-painted-sized c p = record {
+pub allowed-colour-sized : (c : Colour) → AllowedColour c → Sized c
+allowed-colour-sized c p = record {
   small = space-small (p .of);
   four = p .four;
   each-small = all-map (Sample (p .scales)) (λ k v. v < 256 ^ 2) (λ k v h. sample-small (p .of) k v h) 0 (c .samples) (p .fit);
 }
 
-pub allowed-painted : (w : Swatch) → Allowed w → Painted (hue w)
-allowed-painted w a = record { scales = a .scales; of = a .space; four = a .four; fit = a .samples }
+pub allowed-allowed-colour : (w : Swatch) → Allowed w → AllowedColour (hue w)
+allowed-allowed-colour w a = record { scales = a .scales; of = a .space; four = a .four; fit = a .samples }
 
-pub painted-allowed : (w : Swatch) → Painted (hue w) → Named 4 (w .name) → Allowed w
-painted-allowed w p n = record { scales = p .scales; space = p .of; four = p .four; samples = p .fit; name = n }
+pub allowed-colour-allowed : (w : Swatch) → AllowedColour (hue w) → Named 4 (w .name) → Allowed w
+allowed-colour-allowed w p n = record { scales = p .scales; space = p .of; four = p .four; samples = p .fit; name = n }
 
 -- the same by the reader's tests
 abbrev pub Tested : Colour → Type 0
 Tested c = ((c .space < 256 ^ 2) × (space (c .space) ≡ fine)) × ((length (c .samples) ≡ 4) × All (λ k v. (v < 256 ^ 2) × (sample (c .space) k v ≡ fine)) 0 (c .samples))
 
-pub painted-tested : (c : Colour) → Painted c → Tested c
-painted-tested c p = (
+pub allowed-colour-tested : (c : Colour) → AllowedColour c → Tested c
+allowed-colour-tested c p = (
   (space-small (p .of), space-fine (c .space) (space-known (p .of))),
   (
     p .four,
@@ -179,8 +179,8 @@ painted-tested c p = (
   ),
 )
 
-tested-painted : (c : Colour) → Tested c → Painted c
-tested-painted c t =
+tested-allowed-colour : (c : Colour) → Tested c → AllowedColour c
+tested-allowed-colour c t =
     let x = known-space (c .space) (fine-space (c .space) (t .0 .1)) in record {
       scales = x .0;
       of = x .1;
@@ -192,8 +192,8 @@ tested-painted c t =
 abbrev pub label : Colour → List ℕ → Swatch
 label c us = record { space = c .space; samples = c .samples; name = us }
 
-abbrev pub titled : Colour → Name → Entry
-titled c nm = record { colour = c; name = nm }
+abbrev pub namedEntry : Colour → Name → Entry
+namedEntry c nm = record { colour = c; name = nm }
 
 module _ (s : List ℕ) (bytes : Bytes s) where
   -- the samples of a colour of the space x, and the colour that is given
@@ -215,10 +215,10 @@ module _ (s : List ℕ) (bytes : Bytes s) where
       (λ c h. append-nil (joined (be 2) (c .samples)))
 
   -- a colour
-  pub colour-exact : Exact s colour (λ c. c) Painted paint
+  pub colour-exact : Exact s colour (λ c. c) AllowedColour sampleBytes
   unfolding colour
   colour-exact =
-      same-exact (bind-exact (λ c. c .space) (judged-exact s bytes 2 space) rest-exact) Painted paint (λ c h. tested-painted c h) (λ c h. painted-tested c h) (λ c h. refl)
+      same-exact (bind-exact (λ c. c .space) (judged-exact s bytes 2 space) rest-exact) AllowedColour sampleBytes (λ c h. tested-allowed-colour c h) (λ c h. allowed-colour-tested c h) (λ c h. refl)
 
   -- a list's version and its count
   pub heading-exact : (v : ℕ) → v < 256 ^ 2 → (count : ℕ → Judged) → Exact s (heading v count) (λ n. n) (λ n. (n < 256 ^ 2) × (count n ≡ fine)) (λ n. be 2 v ++ be 2 n)
@@ -231,10 +231,10 @@ module _ (s : List ℕ) (bytes : Bytes s) where
       (λ n. (n < 256 ^ 2) × (count n ≡ fine)) (λ n. be 2 v ++ be 2 n) (λ n h. h .1) (λ n h. (tt, h)) (λ n h. refl)
 
   -- the five fields of a record, where list 1's colour is c: they are c's
-  pub twins-exact : (i : ℕ) (c : Colour) → Sized c → Exact s (each 5 0 (twin i c)) (λ vs. tt {0}) (λ u. Unit {0}) (λ u. paint c)
+  pub repeats-exact : (i : ℕ) (c : Colour) → Sized c → Exact s (each 5 0 (repeatedField i c)) (λ vs. tt {0}) (λ u. Unit {0}) (λ u. sampleBytes c)
   unfolding joined
-  twins-exact i c p =
-      one-exact (each-exact {p = twin i c} {Ok = Twin} (λ f. judged-exact s bytes 2 (compared i c f)) 5 0) l
+  repeats-exact i c p =
+      one-exact (each-exact {p = repeatedField i c} {Ok = Twin} (λ f. judged-exact s bytes 2 (compared i c f)) 5 0) l
       (len, all-by Twin 0 0 l (λ k h. (all-at (λ k v. v < 256 ^ 2) 0 0 l small k h, compared-fine i c (0 + k) (getD l k 0) (ap (λ (n : ℕ). getD l n 0) (sym (zero-add k))))))
       (λ bs h. ext-getD 0 bs l (h .0 ∙ sym len) (λ k g.
       fine-compared i c (0 + k) (getD bs k 0) (all-at Twin 0 0 bs (h .1) k g .1) ∙ ap (λ (n : ℕ). getD l n 0) (zero-add k)))
@@ -251,10 +251,10 @@ module _ (s : List ℕ) (bytes : Bytes s) where
       small : All (λ k v. v < 256 ^ 2) 0 l
       small = (p .small, all-from (λ v. v < 256 ^ 2) 0 1 (c .samples) (p .each-small))
 
-  named-exact : (c : Colour) → Exact s (name 4 >>= (λ nm. give (titled c nm))) swatch (λ w. Named 4 (w .name) × (hue w ≡ c)) (λ w. nameBytes 4 (w .name) ++ [])
+  named-exact : (c : Colour) → Exact s (name 4 >>= (λ nm. give (namedEntry c nm))) swatch (λ w. Named 4 (w .name) × (hue w ≡ c)) (λ w. nameBytes 4 (w .name) ++ [])
   named-exact c =
-      bind-exact {k = λ nm. give (titled c nm)} {viewD = swatch} {OkD = λ w. hue w ≡ c} {rest = λ w. []} (λ w. w .name) (name-exact s 4 bytes)
-      (λ nm. same-exact (give-exact s (titled c nm) swatch) (λ w. (hue w ≡ c) × (w .name ≡ nm .units)) (λ w. [])
+      bind-exact {k = λ nm. give (namedEntry c nm)} {viewD = swatch} {OkD = λ w. hue w ≡ c} {rest = λ w. []} (λ w. w .name) (name-exact s 4 bytes)
+      (λ nm. same-exact (give-exact s (namedEntry c nm) swatch) (λ w. (hue w ≡ c) × (w .name ≡ nm .units)) (λ w. [])
       (λ w e. (sym (ap hue e), sym (ap (λ (y : Swatch). y .name) e)))
       (λ w e. ap₂ (λ (y : Colour) (us : List ℕ). label y us) (sym (e .0)) (sym (e .1)))
       (λ w e. refl))
@@ -264,10 +264,10 @@ module _ (s : List ℕ) (bytes : Bytes s) where
   unfolding entry entryBytes colourBytes
   entry-exact i c p =
       same-exact
-      (bind-exact {k = λ vs. name 4 >>= (λ nm. give (titled c nm))} {OkD = λ w. Named 4 (w .name) × (hue w ≡ c)} (λ w. tt {0}) (twins-exact i c p)
+      (bind-exact {k = λ vs. name 4 >>= (λ nm. give (namedEntry c nm))} {OkD = λ w. Named 4 (w .name) × (hue w ≡ c)} (λ w. tt {0}) (repeats-exact i c p)
       (λ vs. same-exact (named-exact c) (λ w. (Named 4 (w .name) × (hue w ≡ c)) × (tt {0} ≡ tt)) (λ w. nameBytes 4 (w .name) ++ []) (λ w h. (h, refl)) (λ w h. h .0) (λ w h. refl)))
       (λ w. (hue w ≡ c) × Named 4 (w .name)) entryBytes (λ w h. (h .1 .1, h .1 .0)) (λ w h. (tt, (h .1, h .0)))
-      (λ w h. ap₂ (λ (y : Colour) (l : List ℕ). paint y ++ l) (sym (h .0)) (append-nil (nameBytes 4 (w .name))))
+      (λ w h. ap₂ (λ (y : Colour) (l : List ℕ). sampleBytes y ++ l) (sym (h .0)) (append-nil (nameBytes 4 (w .name))))
 
 -- ---- each moves forward, stays inside and depends only on the bytes that it passed
 
@@ -281,4 +281,4 @@ heading-lawful v count = bind-lawful (judged 2 (version v)) _ (judged-lawful 2 (
 
 pub entry-lawful : (i : ℕ) (c : Colour) → Lawful (entry i c)
 unfolding entry
-entry-lawful i c = bind-lawful (each 5 0 (twin i c)) _ (each-lawful (twin i c) (λ f. judged-lawful 2 (compared i c f)) 5 0) (λ vs. bind-lawful (name 4) _ (name-lawful 4) (λ nm. give-lawful (titled c nm)))
+entry-lawful i c = bind-lawful (each 5 0 (repeatedField i c)) _ (each-lawful (repeatedField i c) (λ f. judged-lawful 2 (compared i c f)) 5 0) (λ vs. bind-lawful (name 4) _ (name-lawful 4) (λ nm. give-lawful (namedEntry c nm)))

@@ -11,7 +11,7 @@ use Rattle.algebra.specs.Refusal.{Of, among, Placed, ends, Numbered}
 use Rattle.algebra.proofs.Placed.{unless-numbered, differ-numbered, refusal-placed, placed-then, placed-pick, judged-placed, ended-placed, name-placed, each-placed, limited-placed}
 use Rattle.colour.specs.declared.space.Colour.{Colour}
 use Rattle.colour.specs.Spaces.{known, allowed}
-use Rattle.aco.specs.Reading.{most, space, sample, samples, colour, heading, fieldOf, twin, entry, second, after, lists, aco, black, version, firstCount, compared, secondCount}
+use Rattle.aco.specs.Reading.{most, space, sample, samples, colour, heading, fieldOf, repeatedField, entry, second, after, lists, aco, zeroColour, version, firstCount, compared, secondCount}
 use Rattle.aco.specs.Refusals.{refusals}
 
 module _ {s : List ℕ} where
@@ -31,7 +31,7 @@ module _ {s : List ℕ} where
   entry-placed : (i : ℕ) (c : Colour) (at : ℕ) → at ≤ length s → Placed refusals s (entry i c s at)
   unfolding entry
   entry-placed i c at l =
-      placed-then (each 5 0 (twin i c) s at) _ (each-placed (twin i c) (λ f r g. judged-placed (among refl) 2 (compared i c f) r (λ v. differ-numbered (eqb v (fieldOf c f)) _ _ (among refl)) g) 5 0 at l)
+      placed-then (each 5 0 (repeatedField i c) s at) _ (each-placed (repeatedField i c) (λ f r g. judged-placed (among refl) 2 (compared i c f) r (λ v. differ-numbered (eqb v (fieldOf c f)) _ _ (among refl)) g) 5 0 at l)
       (λ vs q h. placed-then (name 4 s q) _ (name-placed (among refl) (among refl) 4 q h) (λ nm e g. ends g))
 
   second-placed : (cs : List Colour) (at : ℕ) → at ≤ length s → Placed refusals s (second cs s at)
@@ -39,8 +39,8 @@ module _ {s : List ℕ} where
   second-placed cs at l =
       let j : ℕ → Judged = secondCount (length cs) in
       placed-then (heading 2 j s at) _ (heading-placed 2 j (λ n. differ-numbered (eqb n (length cs)) _ _ (among refl)) at l)
-      (λ n q h. placed-then (each (length cs) 0 (λ i. entry i (getD cs i black)) s q) _
-      (each-placed (λ i. entry i (getD cs i black)) (λ i r g. entry-placed i (getD cs i black) r g) (length cs) 0 q h) (λ es e g. ended-placed (among refl) (record { lists = 2; records = es }) e g))
+      (λ n q h. placed-then (each (length cs) 0 (λ i. entry i (getD cs i zeroColour)) s q) _
+      (each-placed (λ i. entry i (getD cs i zeroColour)) (λ i r g. entry-placed i (getD cs i zeroColour) r g) (length cs) 0 q h) (λ es e g. ended-placed (among refl) (record { lists = 2; records = es }) e g))
 
   after-placed : (cs : List Colour) (at : ℕ) → at ≤ length s → Placed refusals s (after cs s at)
   unfolding after

@@ -12,8 +12,8 @@ use Rattle.algebra.proofs.Places.{getD-nums}
 use Rattle.algebra.proofs.Inverse.{then-inv, judged-inv, fields-inv, fields-fine, fields-inside, each-none, each-inv, each-moves, ok-value, ok-place}
 use Rattle.colour.specs.declared.space.Colour.{Colour}
 use Rattle.colour.specs.Spaces.{known, allowed}
-use Rattle.aco.specs.Reading.{space, sample, samples, colour, fieldOf, black}
-use Rattle.aco.specs.Raw.{rawColour, rawColours}
+use Rattle.aco.specs.Reading.{space, sample, samples, colour, fieldOf, zeroColour}
+use Rattle.aco.specs.scaffold.Raw.{rawColour, rawColours}
 use Rattle.aco.proofs.Fine.{fine-space, fine-sample}
 
 -- ---- one colour
@@ -81,7 +81,7 @@ length-raw zero s at = refl
 length-raw (suc n) s at = ap suc (length-raw n s (at + 10))
 
 -- colour i of the list stands ten bytes behind the one before
-pub getD-raw : (n : ℕ) (s : List ℕ) (at i : ℕ) → i < n → getD (rawColours n s at) i black ≡ rawColour s (at + 10 * i)
+pub getD-raw : (n : ℕ) (s : List ℕ) (at i : ℕ) → i < n → getD (rawColours n s at) i zeroColour ≡ rawColour s (at + 10 * i)
 unfolding rawColours
 getD-raw zero s at i h = absurd (omega arith)
 getD-raw (suc n) s at zero h = ap (λ (p : ℕ). rawColour s p) (sym (add-zero at))
@@ -95,5 +95,5 @@ unfolding nums
 field-raw s at f h = getD-nums 2 s 5 at f h
 
 -- field f of colour i
-pub fields-raw : (n : ℕ) (s : List ℕ) (at i f : ℕ) → i < n → f < 5 → fieldOf (getD (rawColours n s at) i black) f ≡ num 2 s (at + 10 * i + 2 * f)
+pub fields-raw : (n : ℕ) (s : List ℕ) (at i f : ℕ) → i < n → f < 5 → fieldOf (getD (rawColours n s at) i zeroColour) f ≡ num 2 s (at + 10 * i + 2 * f)
 fields-raw n s at i f h g = ap (λ (c : Colour). fieldOf c f) (getD-raw n s at i h) ∙ field-raw s (at + 10 * i) f g

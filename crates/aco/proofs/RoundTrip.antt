@@ -16,8 +16,8 @@ use Rattle.algebra.proofs.Exact.{length-map}
 use Rattle.algebra.proofs.Tells.{outcome-number}
 use Rattle.colour.specs.declared.space.Colour.{Colour}
 use Rattle.aco.specs.Grammar.{Swatch, File, plain, named, twoLists}
-use Rattle.aco.specs.Reading.{fieldOf, Entry, entry, Contents, black, unnamed, lists, aco, swatch, secondCount}
-use Rattle.aco.specs.Raw.{rawColour, rawColours}
+use Rattle.aco.specs.Reading.{fieldOf, Entry, entry, Contents, zeroColour, unnamed, lists, aco, swatch, secondCount}
+use Rattle.aco.specs.scaffold.Raw.{rawColour, rawColours}
 use Rattle.aco.specs.Places.{entryPlace}
 use Rattle.aco.specs.Damaged.{Damaged}
 use Rattle.aco.specs.Faults.{paletteFault, Fits}
@@ -88,7 +88,7 @@ records-count s {c} {q} e = let i = aco-inv s e in go (i .0) (i .1) (i .2) (i .3
   where
     go : (cs : List Colour) (r : ℕ) → First s cs r → Then s cs r c q → length (c .records) ≡ num 2 s 2
     go cs r f (one end x z) = sym (ap (λ (y : Contents). length (y .records)) x) ∙ length-map unnamed cs ∙ sym (f .count)
-    go cs r f (two es y hd list end x z) = sym (ap (λ (y : Contents). length (y .records)) x) ∙ each-length (λ i. entry i (getD cs i black)) s (length cs) 0 (r + 4) list ∙ sym (f .count)
+    go cs r f (two es y hd list end x z) = sym (ap (λ (y : Contents). length (y .records)) x) ∙ each-length (λ i. entry i (getD cs i zeroColour)) s (length cs) 0 (r + 4) list ∙ sym (f .count)
 
 -- one list: the colours that stand there, without names
 pub one-list : (s : List ℕ) {c : Contents} {q : ℕ} → aco s ≡ ok c q → c .lists ≡ 1 → (c .records ≡ map unnamed (rawColours (num 2 s 2) s 4)) × (length s ≡ 4 + 10 * num 2 s 2)
@@ -100,9 +100,9 @@ one-list s {c} {q} e l = let i = aco-inv s e in go (i .0) (i .1) (i .2) (i .3)
     go cs r f (two es y hd list end x z) = let w : 2 ≡ c .lists = ap (λ (y : Contents). y .lists) x in absurd (omega arith)
 
 -- record i of one list
-pub one-record : (s : List ℕ) {c : Contents} {q : ℕ} → aco s ≡ ok c q → c .lists ≡ 1 → (i : ℕ) → i < num 2 s 2 → getD (c .records) i (unnamed black) ≡ unnamed (rawColour s (4 + 10 * i))
+pub one-record : (s : List ℕ) {c : Contents} {q : ℕ} → aco s ≡ ok c q → c .lists ≡ 1 → (i : ℕ) → i < num 2 s 2 → getD (c .records) i (unnamed zeroColour) ≡ unnamed (rawColour s (4 + 10 * i))
 one-record s {c} e l i h =
-    ap (λ (r : List Entry). getD r i (unnamed black)) (one-list s e l .0) ∙ List·getD-map unnamed (rawColours (num 2 s 2) s 4) i black ∙ ap unnamed (getD-raw (num 2 s 2) s 4 i h)
+    ap (λ (r : List Entry). getD r i (unnamed zeroColour)) (one-list s e l .0) ∙ List·getD-map unnamed (rawColours (num 2 s 2) s 4) i zeroColour ∙ ap unnamed (getD-raw (num 2 s 2) s 4 i h)
 
 -- one list or two
 pub lists-are : (s : List ℕ) {c : Contents} {q : ℕ} → aco s ≡ ok c q → (1 ≤ c .lists) × (c .lists ≤ 2)
@@ -124,7 +124,7 @@ two-lists s {c} {q} e l = let x = aco-inv s e in go (x .0) (x .1) (x .2) (x .3)
         let start : r + 4 ≡ entryPlace s n 0 = omega (arith, f .end, f .count) in
         let h = heading-inv 2 (secondCount (length cs)) s r hd in
         let k : n ≡ 0 + length cs = omega (arith, f .count) in
-        (omega (arith, f .end, f .count, h .3), ap (entryPlace s n) k ∙ entries-end s cs n (unnamed black) (length cs) 0 {es = es} {q = y} (subst (λ (p : ℕ). each (length cs) 0 (λ k. entry k (getD cs k black)) s p ≡ ok es y) start list) ∙ end)
+        (omega (arith, f .end, f .count, h .3), ap (entryPlace s n) k ∙ entries-end s cs n (unnamed zeroColour) (length cs) 0 {es = es} {q = y} (subst (λ (p : ℕ). each (length cs) 0 (λ k. entry k (getD cs k zeroColour)) s p ≡ ok es y) start list) ∙ end)
 
 -- record i of two lists: its colour stands in list 1 and again in list 2, and its name behind that
 pub record Placed (s : List ℕ) (i : ℕ) (e : Entry) : Type 0 where
@@ -136,20 +136,20 @@ pub record Placed (s : List ℕ) (i : ℕ) (e : Entry) : Type 0 where
   pub count : length (e .name .units) ≡ num 4 s (entryPlace s (num 2 s 2) i + 10) - 1
   pub inside : entryPlace s (num 2 s 2) i + 14 + 2 * num 4 s (entryPlace s (num 2 s 2) i + 10) ≤ length s
 
-pub records-place : (s : List ℕ) {c : Contents} {q : ℕ} → aco s ≡ ok c q → c .lists ≡ 2 → (i : ℕ) → i < num 2 s 2 → Placed s i (getD (c .records) i (unnamed black))
+pub records-place : (s : List ℕ) {c : Contents} {q : ℕ} → aco s ≡ ok c q → c .lists ≡ 2 → (i : ℕ) → i < num 2 s 2 → Placed s i (getD (c .records) i (unnamed zeroColour))
 unfolding entryPlace
 records-place s {c} {q} e l i h = let x = aco-inv s e in go (x .0) (x .1) (x .2) (x .3)
   where
-    go : (cs : List Colour) (r : ℕ) → First s cs r → Then s cs r c q → Placed s i (getD (c .records) i (unnamed black))
+    go : (cs : List Colour) (r : ℕ) → First s cs r → Then s cs r c q → Placed s i (getD (c .records) i (unnamed zeroColour))
     go cs r f (one end x z) = let w : 1 ≡ c .lists = ap (λ (y : Contents). y .lists) x in absurd (omega arith)
     go cs r f (two es y hd list end x z) =
         let n : ℕ = num 2 s 2 in
         let start : r + 4 ≡ entryPlace s n 0 = omega (arith, f .end, f .count) in
-        let t = entries-inv s cs n (unnamed black) (length cs) 0 {es = es} {q = y} (subst (λ (p : ℕ). each (length cs) 0 (λ k. entry k (getD cs k black)) s p ≡ ok es y) start list) i (omega (arith, f .count)) in
+        let t = entries-inv s cs n (unnamed zeroColour) (length cs) 0 {es = es} {q = y} (subst (λ (p : ℕ). each (length cs) 0 (λ k. entry k (getD cs k zeroColour)) s p ≡ ok es y) start list) i (omega (arith, f .count)) in
         let k : 0 + i ≡ i = zero-add i in
-        let en : Entered s (getD cs i black) (entryPlace s n i) (getD es i (unnamed black)) (t .0) = subst (λ (j : ℕ). Entered s (getD cs j black) (entryPlace s n j) (getD es i (unnamed black)) (t .0)) k (t .1) in
-        let cl : getD cs i black ≡ rawColour s (4 + 10 * i) = ap (λ (l : List Colour). getD l i black) (f .are) ∙ getD-raw (length cs) s 4 i (omega (arith, f .count)) in
-        subst (λ (v : Contents). Placed s i (getD (v .records) i (unnamed black))) x (record {
+        let en : Entered s (getD cs i zeroColour) (entryPlace s n i) (getD es i (unnamed zeroColour)) (t .0) = subst (λ (j : ℕ). Entered s (getD cs j zeroColour) (entryPlace s n j) (getD es i (unnamed zeroColour)) (t .0)) k (t .1) in
+        let cl : getD cs i zeroColour ≡ rawColour s (4 + 10 * i) = ap (λ (l : List Colour). getD l i zeroColour) (f .are) ∙ getD-raw (length cs) s 4 i (omega (arith, f .count)) in
+        subst (λ (v : Contents). Placed s i (getD (v .records) i (unnamed zeroColour))) x (record {
           is = sym (en .hue) ∙ cl;
           twice = λ g b. sym (field-raw s (4 + 10 * i) g b) ∙ sym (ap (λ (v : Colour). fieldOf v g) cl) ∙ sym (en .same g b);
           first = en .first;

@@ -4,7 +4,7 @@ use mathlib.Core.Path.{_≡_, refl, sym, ap, _∙_}
 use mathlib.Core.List.{List, [], _∷_}
 use lib.ListN.{length, getD, length-append}
 use native.Mathlib.Omega.{arith}
-use Rattle.aco.specs.Row.{Given, width, numbers, taken}
+use Rattle.aco.specs.Row.{RecordRow, width, numbers, taken}
 
 -- a list of four by its elements
 pub four : (l : List ℕ) → length l ≡ 4 → l ≡ getD l 0 0 ∷ getD l 1 0 ∷ getD l 2 0 ∷ getD l 3 0 ∷ []
@@ -15,11 +15,11 @@ four (a ∷ b ∷ c ∷ []) e = absurd (omega arith)
 four (a ∷ b ∷ c ∷ d ∷ []) e = refl
 four (a ∷ b ∷ c ∷ d ∷ x ∷ l) e = absurd (omega arith)
 
-module _ (g : Given) (h : length (g .samples) ≡ 4) where
+module _ (g : RecordRow) (h : length (g .samples) ≡ 4) where
   pub length-numbers : length (numbers g) ≡ width
   length-numbers = omega (arith, length-append (g .samples) (g .first ∷ g .units ∷ []))
 
   pub taken-numbers : taken (numbers g) ≡ g
   taken-numbers =
-      let of : List ℕ → Given = λ vs. record { space = g .space; samples = vs; first = g .first; units = g .units } in
+      let of : List ℕ → RecordRow = λ vs. record { space = g .space; samples = vs; first = g .first; units = g .units } in
       ap (λ (vs : List ℕ). taken (numbers (of vs))) (four (g .samples) h) ∙ sym (ap of (four (g .samples) h))

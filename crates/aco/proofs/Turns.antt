@@ -21,7 +21,7 @@ use Rattle.aco.specs.Reading.{space, sample, samples, colour, version, h
 use Rattle.aco.specs.Damaged.{DamagedHeading, version-cut, wrong-version, colours-cut, Begun, DamagedColour, space-cut, wrong-space, sample-cut, wrong-sample, DamagedName, count-cut, no-units, units-cut, unclosed, fieldsOf, DamagedRecord, field-cut, difference, wrong-name}
 use Rattle.aco.proofs.Fine.{space-fine, sample-fine, version-fine}
 use Rattle.aco.proofs.Answers.{unknown-space-first, field-cut-first, difference-first}
-use Rattle.aco.proofs.Laws.{hue, paint, Sized, space-known, space-small, known-space, allowed-sample, sample-allowed, sample-small, twins-exact}
+use Rattle.aco.proofs.Laws.{hue, sampleBytes, Sized, space-known, space-small, known-space, allowed-sample, sample-allowed, sample-small, repeats-exact}
 use Rattle.aco.proofs.Whole.{length-colour}
 
 -- ---- a heading
@@ -106,8 +106,8 @@ module _ (s : List ℕ) (bytes : Bytes s) (i : ℕ) (w : Swatch) (sized : Sized 
   record-stops (difference f v l h fits ne) t = difference-first s bytes i (hue w) five small at f v l h fits ne t
   record-stops (wrong-name l z p d) t =
       let c : Colour = hue w in
-      let ten : at + length (paint c) ≡ at + 10 = ap (λ (k : ℕ). at + k) (length-colour w (sized .four)) in
-      let one = twins-exact s bytes i c sized .reads at tt tt (tail-left s at (paint c) l t) in
-      let two : name 4 s (at + 10) ≡ refuse z (at + 10 + p) 0 0 = name-stops s (at + 10) d (tail-after s at (paint c) l (at + 10) ten t) in
+      let ten : at + length (sampleBytes c) ≡ at + 10 = ap (λ (k : ℕ). at + k) (length-colour w (sized .four)) in
+      let one = repeats-exact s bytes i c sized .reads at tt tt (tail-left s at (sampleBytes c) l t) in
+      let two : name 4 s (at + 10) ≡ refuse z (at + 10 + p) 0 0 = name-stops s (at + 10) d (tail-after s at (sampleBytes c) l (at + 10) ten t) in
       let e : at + 10 + p ≡ at + (10 + p) = omega arith in
       rw (one .1 ∙ ap (λ (k : ℕ). ok (one .0) k) ten) (rw two (ap (λ (k : ℕ). refuse z k 0 0) e))

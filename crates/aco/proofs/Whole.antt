@@ -15,36 +15,36 @@ use Rattle.algebra.proofs.Places.{length-be, length-bes, joined-map, at-in, at-
 use Rattle.algebra.proofs.Exact.{all-map, all-at, all-by, length-map, map-id, length-nameBytes, each-exact}
 use Rattle.colour.specs.declared.space.Colour.{Colour}
 use Rattle.aco.specs.Grammar.{Swatch, rgb, Allowed, Palette, File, plain, named, colourBytes, entryBytes, listOne, listTwo, twoLists}
-use Rattle.aco.specs.Reading.{colour, heading, Entry, entry, Contents, black, second, unnamed, after, lists, aco, swatch, firstCount, secondCount}
+use Rattle.aco.specs.Reading.{colour, heading, Entry, entry, Contents, zeroColour, second, unnamed, after, lists, aco, swatch, firstCount, secondCount}
 use Rattle.aco.proofs.Fine.{first-fine, second-fine}
 use Rattle.aco.proofs.Answers.{one-list-ends}
-use Rattle.aco.proofs.Laws.{hue, paint, label, Painted, Sized, painted-sized, allowed-painted, painted-allowed, colour-exact, heading-exact, entry-exact}
+use Rattle.aco.proofs.Laws.{hue, sampleBytes, label, AllowedColour, Sized, allowed-colour-sized, allowed-allowed-colour, allowed-colour-allowed, colour-exact, heading-exact, entry-exact}
 use Rattle.aco.proofs.Inverse.{First, Then, one, two}
 
 -- ---- the colours of swatches
 
-pub hues-bytes : (ws : List Swatch) → joined paint (map hue ws) ≡ joined colourBytes ws
+pub hues-bytes : (ws : List Swatch) → joined sampleBytes (map hue ws) ≡ joined colourBytes ws
 unfolding colourBytes
-hues-bytes ws = joined-map paint hue ws
+hues-bytes ws = joined-map sampleBytes hue ws
 
-pub all-painted : (i : ℕ) (ws : List Swatch) → All (λ k w. Allowed w) i ws → All (λ k c. Painted c) i (map hue ws)
-all-painted i [] h = tt
-all-painted i (w ∷ ws) h = (allowed-painted w (h .0), all-painted (i + 1) ws (h .1))
+pub all-allowed-colour : (i : ℕ) (ws : List Swatch) → All (λ k w. Allowed w) i ws → All (λ k c. AllowedColour c) i (map hue ws)
+all-allowed-colour i [] h = tt
+all-allowed-colour i (w ∷ ws) h = (allowed-allowed-colour w (h .0), all-allowed-colour (i + 1) ws (h .1))
 
-all-allowed : (i : ℕ) (ws : List Swatch) → All (λ k c. Painted c) i (map hue ws) → All (λ k w. Named 4 (w .name)) i ws → All (λ k w. Allowed w) i ws
+all-allowed : (i : ℕ) (ws : List Swatch) → All (λ k c. AllowedColour c) i (map hue ws) → All (λ k w. Named 4 (w .name)) i ws → All (λ k w. Allowed w) i ws
 all-allowed i [] h g = tt
-all-allowed i (w ∷ ws) h g = (painted-allowed w (h .0) (g .0), all-allowed (i + 1) ws (h .1) (g .1))
+all-allowed i (w ∷ ws) h g = (allowed-colour-allowed w (h .0) (g .0), all-allowed (i + 1) ws (h .1) (g .1))
 
-black-painted : Painted black
-black-painted = record { scales = _; of = rgb; four = refl; fit = (omega arith, (omega arith, (omega arith, (refl, tt)))) }
+zero-colour-allowed-colour : AllowedColour zeroColour
+zero-colour-allowed-colour = record { scales = _; of = rgb; four = refl; fit = (omega arith, (omega arith, (omega arith, (refl, tt)))) }
 
-pub painted-at : (i : ℕ) (cs : List Colour) → All (λ k c. Painted c) i cs → (k : ℕ) → Painted (getD cs k black)
-painted-at i [] h k = black-painted
-painted-at i (c ∷ cs) h zero = h .0
-painted-at i (c ∷ cs) h (suc k) = painted-at (i + 1) cs (h .1) k
+pub allowed-colour-at : (i : ℕ) (cs : List Colour) → All (λ k c. AllowedColour c) i cs → (k : ℕ) → AllowedColour (getD cs k zeroColour)
+allowed-colour-at i [] h k = zero-colour-allowed-colour
+allowed-colour-at i (c ∷ cs) h zero = h .0
+allowed-colour-at i (c ∷ cs) h (suc k) = allowed-colour-at (i + 1) cs (h .1) k
 
-pub hue-at : (ws : List Swatch) (k : ℕ) → getD (map hue ws) k black ≡ hue (getD ws k (label black []))
-hue-at ws k = List·getD-map hue ws k (label black [])
+pub hue-at : (ws : List Swatch) (k : ℕ) → getD (map hue ws) k zeroColour ≡ hue (getD ws k (label zeroColour []))
+hue-at ws k = List·getD-map hue ws k (label zeroColour [])
 
 -- ---- lengths
 
@@ -105,18 +105,18 @@ bytes-two ws =
 
 -- what the reader asks of record i
 abbrev pub Repeats : List Swatch → ℕ → Swatch → Type 0
-Repeats ws i w = (hue w ≡ getD (map hue ws) i black) × Named 4 (w .name)
+Repeats ws i w = (hue w ≡ getD (map hue ws) i zeroColour) × Named 4 (w .name)
 
 pub own-records : (ws : List Swatch) → Palette ws → All (Repeats ws) 0 ws
 own-records ws pal =
-    all-by (Repeats ws) (label black []) 0 ws (λ k g.
-    (sym (hue-at ws k) ∙ ap (λ (i : ℕ). getD (map hue ws) i black) (sym (zero-add k)), all-at (λ k w. Allowed w) (label black []) 0 ws (pal .swatches) k g .name))
+    all-by (Repeats ws) (label zeroColour []) 0 ws (λ k g.
+    (sym (hue-at ws k) ∙ ap (λ (i : ℕ). getD (map hue ws) i zeroColour) (sym (zero-add k)), all-at (λ k w. Allowed w) (label zeroColour []) 0 ws (pal .swatches) k g .name))
 
-pub sized-at : (ws : List Swatch) → Palette ws → (i : ℕ) → Sized (getD (map hue ws) i black)
-sized-at ws pal i = painted-sized (getD (map hue ws) i black) (painted-at 0 (map hue ws) (all-painted 0 ws (pal .swatches)) i)
+pub sized-at : (ws : List Swatch) → Palette ws → (i : ℕ) → Sized (getD (map hue ws) i zeroColour)
+sized-at ws pal i = allowed-colour-sized (getD (map hue ws) i zeroColour) (allowed-colour-at 0 (map hue ws) (all-allowed-colour 0 ws (pal .swatches)) i)
 
-pub record-exact : (s : List ℕ) → Bytes s → (ws : List Swatch) → Palette ws → (i : ℕ) → Exact s (entry i (getD (map hue ws) i black)) swatch (Repeats ws i) entryBytes
-record-exact s bytes ws pal i = entry-exact s bytes i (getD (map hue ws) i black) (sized-at ws pal i)
+pub record-exact : (s : List ℕ) → Bytes s → (ws : List Swatch) → Palette ws → (i : ℕ) → Exact s (entry i (getD (map hue ws) i zeroColour)) swatch (Repeats ws i) entryBytes
+record-exact s bytes ws pal i = entry-exact s bytes i (getD (map hue ws) i zeroColour) (sized-at ws pal i)
 
 -- ---- the grammar's bytes are read
 
@@ -145,8 +145,8 @@ module _ (s : List ℕ) (bytes : Bytes s) (ws : List Swatch) (pal : Palette ws) 
       let cs : List Colour = map hue ws in
       let l : List ℕ = joined colourBytes ws in
       let x = heads 1 (omega arith) firstCount (first-fine n (pal .count)) 0 l h in
-      let y = each-exact {p = λ i. colour} {Ok = λ i c. Painted c} (λ i. colour-exact s bytes) n 0 .reads 4 cs (length-map hue ws, all-painted 0 ws (pal .swatches)) (subst (λ (z : List ℕ). At s 4 z) (sym (hues-bytes ws)) (x .1)) in
-      let q : 4 + length (joined paint cs) ≡ length (be 2 1 ++ (be 2 n ++ l)) =
+      let y = each-exact {p = λ i. colour} {Ok = λ i c. AllowedColour c} (λ i. colour-exact s bytes) n 0 .reads 4 cs (length-map hue ws, all-allowed-colour 0 ws (pal .swatches)) (subst (λ (z : List ℕ). At s 4 z) (sym (hues-bytes ws)) (x .1)) in
+      let q : 4 + length (joined sampleBytes cs) ≡ length (be 2 1 ++ (be 2 n ++ l)) =
       omega (arith, length-append (be 2 1) (be 2 n ++ l), length-append (be 2 n) l, length-be 2 1, length-be 2 n, ap length (hues-bytes ws)) in
       let e : each n 0 (λ i. colour) s 4 ≡ ok cs (length (be 2 1 ++ (be 2 n ++ l))) = y .1 ∙ ap₂ (λ (a : List Colour) (b : ℕ). ok a b) (sym (map-id (y .0)) ∙ y .2) q in
       rw (x .0) (rw e)
@@ -157,14 +157,14 @@ module _ (s : List ℕ) (bytes : Bytes s) (ws : List Swatch) (pal : Palette ws) 
 
   -- list 2, before the file's end or more: its heading, and its records es
   pub second-passes : (q : ℕ) → At s q (listTwo ws) → (es : List Entry) × (heading 2 (secondCount (length (map hue ws))) s q ≡ ok (length ws) (q + 4))
-      × (each (length (map hue ws)) 0 (λ i. entry i (getD (map hue ws) i black)) s (q + 4) ≡ ok es (q + length (listTwo ws))) × (map swatch es ≡ ws)
+      × (each (length (map hue ws)) 0 (λ i. entry i (getD (map hue ws) i zeroColour)) s (q + 4) ≡ ok es (q + length (listTwo ws))) × (map swatch es ≡ ws)
   unfolding listTwo
   second-passes q h =
       let n : ℕ = length ws in
       let cs : List Colour = map hue ws in
       let l : List ℕ = joined entryBytes ws in
       let x = second-heads q l h in
-      let y = each-exact {p = λ i. entry i (getD cs i black)} {Ok = Repeats ws} (record-exact s bytes ws pal) (length cs) 0 .reads (q + 4) ws (sym (length-map hue ws), own-records ws pal) (x .1) in
+      let y = each-exact {p = λ i. entry i (getD cs i zeroColour)} {Ok = Repeats ws} (record-exact s bytes ws pal) (length cs) 0 .reads (q + 4) ws (sym (length-map hue ws), own-records ws pal) (x .1) in
       let z : q + 4 + length l ≡ q + length (be 2 2 ++ (be 2 n ++ l)) =
       omega (arith, length-append (be 2 2) (be 2 n ++ l), length-append (be 2 n) l, length-be 2 2, length-be 2 n) in
       (y .0, x .0, y .1 ∙ ap (λ (k : ℕ). ok (y .0) k) z, y .2)
@@ -214,28 +214,28 @@ bare-named i ws h = all-map (λ k w. w .name ≡ []) (λ k w. Named 4 (w .name))
 
 module _ (s : List ℕ) (bytes : Bytes s) (cs : List Colour) (r : ℕ) (f : First s cs r) where
   -- list 1 is the bytes of swatches that have its colours
-  first-writes : (ws : List Swatch) → map hue ws ≡ cs → All (λ k c. Painted c) 0 cs × At s 0 (listOne ws) × (length (listOne ws) ≡ r)
+  first-writes : (ws : List Swatch) → map hue ws ≡ cs → All (λ k c. AllowedColour c) 0 cs × At s 0 (listOne ws) × (length (listOne ws) ≡ r)
   unfolding listOne
   first-writes ws same =
       let n : ℕ = length cs in
       let len : n ≡ length ws = sym (ap length same) ∙ length-map hue ws in
       let x = heading-exact s bytes 1 (omega arith) firstCount .writes 0 (omega arith) n 4 (f .head) in
-      let y = each-exact {p = λ i. colour} {Ok = λ i c. Painted c} (λ i. colour-exact s bytes) n 0 .writes 4 (omega (arith, f .inside, f .end)) cs r (f .list) in
-      let bs : joined paint (map (λ (c : Colour). c) cs) ≡ joined colourBytes ws = ap (joined paint) (map-id cs ∙ sym same) ∙ hues-bytes ws in
+      let y = each-exact {p = λ i. colour} {Ok = λ i c. AllowedColour c} (λ i. colour-exact s bytes) n 0 .writes 4 (omega (arith, f .inside, f .end)) cs r (f .list) in
+      let bs : joined sampleBytes (map (λ (c : Colour). c) cs) ≡ joined colourBytes ws = ap (joined sampleBytes) (map-id cs ∙ sym same) ∙ hues-bytes ws in
       let m : List ℕ = be 2 (length ws) in
       let l : List ℕ = joined colourBytes ws in
       let hd : At s 0 (be 2 1 ++ m) = subst (λ (k : ℕ). At s 0 (be 2 1 ++ be 2 k)) len (x .1) in
       let four : 0 + length (be 2 1 ++ m) ≡ 4 = omega (arith, length-append (be 2 1) m, length-be 2 1, length-be 2 (length ws)) in
       let at : At s 0 ((be 2 1 ++ m) ++ l) = at-next s 0 (be 2 1 ++ m) l 4 four hd (subst (λ (z : List ℕ). At s 4 z) bs (y .1)) in (
-        subst (λ (z : List Colour). All (λ k c. Painted c) 0 z) (map-id cs) (y .0 .1),
+        subst (λ (z : List Colour). All (λ k c. AllowedColour c) 0 z) (map-id cs) (y .0 .1),
         subst (λ (z : List ℕ). At s 0 z) (append-assoc (be 2 1) m l) at,
         omega (arith, length-append (be 2 1) (m ++ l), length-append m l, length-be 2 1, length-be 2 (length ws), y .2, ap length bs),
       )
 
-  palette-of : (ws : List Swatch) → map hue ws ≡ cs → All (λ k c. Painted c) 0 cs → All (λ k w. Named 4 (w .name)) 0 ws → Palette ws
+  palette-of : (ws : List Swatch) → map hue ws ≡ cs → All (λ k c. AllowedColour c) 0 cs → All (λ k w. Named 4 (w .name)) 0 ws → Palette ws
   palette-of ws same p n = record {
     count = omega (arith, f .few, ap length same, length-map hue ws);
-    swatches = all-allowed 0 ws (subst (λ (z : List Colour). All (λ k c. Painted c) 0 z) (sym same) p) n;
+    swatches = all-allowed 0 ws (subst (λ (z : List Colour). All (λ k c. AllowedColour c) 0 z) (sym same) p) n;
   }
 
   one-writes : r ≡ length s → File 1 (map swatch (map unnamed cs)) s
@@ -247,20 +247,20 @@ module _ (s : List ℕ) (bytes : Bytes s) (cs : List Colour) (r : ℕ) (f : Firs
       (plain (palette-of ws (bare-hues cs) (x .0) (bare-named 0 ws (bare-names 0 cs))) (bare-names 0 cs) (omega (arith, x .2, f .short)))
 
   two-writes : (es : List Entry) (z : ℕ) → heading 2 (secondCount (length cs)) s r ≡ ok (length cs) (r + 4)
-      → each (length cs) 0 (λ i. entry i (getD cs i black)) s (r + 4) ≡ ok es z → z ≡ length s → All (λ k c. Painted c) 0 cs → File 2 (map swatch es) s
+      → each (length cs) 0 (λ i. entry i (getD cs i zeroColour)) s (r + 4) ≡ ok es z → z ≡ length s → All (λ k c. AllowedColour c) 0 cs → File 2 (map swatch es) s
   unfolding twoLists listTwo
   two-writes es z hd list end p =
       let n : ℕ = length cs in
       let ws : List Swatch = map swatch es in
-      let Ok : ℕ → Swatch → Type 0 = λ i w. (hue w ≡ getD cs i black) × Named 4 (w .name) in
+      let Ok : ℕ → Swatch → Type 0 = λ i w. (hue w ≡ getD cs i zeroColour) × Named 4 (w .name) in
       let j : ℕ → Judged = secondCount (length cs) in
       let x = heading-exact s bytes 2 (omega arith) j .writes r (f .inside) n (r + 4) hd in
       let four : length (be 2 2 ++ be 2 n) ≡ 4 = omega (arith, length-append (be 2 2) (be 2 n), length-be 2 2, length-be 2 n) in
-      let y = each-exact {p = λ i. entry i (getD cs i black)} {Ok = Ok} (λ i. entry-exact s bytes i (getD cs i black) (painted-sized (getD cs i black) (painted-at 0 cs p i))) n 0 .writes (r + 4) (omega (arith, at-in s r (be 2 2 ++ be 2 n) (x .1))) es z list in
+      let y = each-exact {p = λ i. entry i (getD cs i zeroColour)} {Ok = Ok} (λ i. entry-exact s bytes i (getD cs i zeroColour) (allowed-colour-sized (getD cs i zeroColour) (allowed-colour-at 0 cs p i))) n 0 .writes (r + 4) (omega (arith, at-in s r (be 2 2 ++ be 2 n) (x .1))) es z list in
       let len : length ws ≡ n = y .0 .0 in
       let same : map hue ws ≡ cs =
-      ext-getD black (map hue ws) cs (length-map hue ws ∙ len) (λ k h.
-      hue-at ws k ∙ all-at Ok (label black []) 0 ws (y .0 .1) k (omega (arith, length-map hue ws)) .0 ∙ ap (λ (i : ℕ). getD cs i black) (zero-add k)) in
+      ext-getD zeroColour (map hue ws) cs (length-map hue ws ∙ len) (λ k h.
+      hue-at ws k ∙ all-at Ok (label zeroColour []) 0 ws (y .0 .1) k (omega (arith, length-map hue ws)) .0 ∙ ap (λ (i : ℕ). getD cs i zeroColour) (zero-add k)) in
       let a = first-writes ws same in
       let m : List ℕ = be 2 (length ws) in
       let l : List ℕ = joined entryBytes ws in

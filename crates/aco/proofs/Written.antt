@@ -20,11 +20,11 @@ use Rattle.algebra.proofs.Tells.{Outcome, good, outcome-fault, outcome-then, ou
 use Rattle.colour.specs.declared.space.Colour.{Colour}
 use Rattle.colour.specs.Spaces.{known, allowed}
 use Rattle.aco.specs.Grammar.{Swatch, colourBytes, entryBytes, listOne, listTwo, twoLists}
-use Rattle.aco.specs.Reading.{space, sample, samples, colour, heading, entry, black, second, after, lists, version, firstCount, secondCount}
+use Rattle.aco.specs.Reading.{space, sample, samples, colour, heading, entry, zeroColour, second, after, lists, version, firstCount, secondCount}
 use Rattle.aco.specs.Faults.{sampleFault, fieldsFault, colourFault, nameFault, swatchesFault, paletteFault, Fits}
 use Rattle.aco.proofs.Fine.{version-fine, second-fine}
 use Rattle.aco.proofs.Raw.{colour-inv}
-use Rattle.aco.proofs.Laws.{hue, paint, mix, label, titled, Sized, twins-exact}
+use Rattle.aco.proofs.Laws.{hue, sampleBytes, mix, label, namedEntry, Sized, repeats-exact}
 use Rattle.aco.proofs.Whole.{hues-bytes, hue-at, length-two}
 
 -- the fault of a swatch's name as a value
@@ -46,13 +46,13 @@ module _ (s : List ℕ) where
       (λ c h. (h .0, tt)) (λ c h. append-nil (joined (be 2) (c .samples)))
       (λ c h. first-zero (faultsFrom (sampleFault x) 0 (c .samples)) ∙ ap (λ (y : ℕ). faultsFrom (sampleFault y) 0 (c .samples)) (sym (h .1)))
 
-  colour-tells : Tells s colour Sized paint (λ c. fieldsFault (c .space) (c .samples))
+  colour-tells : Tells s colour Sized sampleBytes (λ c. fieldsFault (c .space) (c .samples))
   unfolding colour fieldsFault
   colour-tells =
       same-tells (bind-tells {FitsD = λ c. (length (c .samples) ≡ 4) × All (λ k v. v < 256 ^ 2) 0 (c .samples)} (λ c. c .space) (unless-tells s 2 known 4 (omega arith)) (judged-gives s 2 space) rest-tells)
-      Sized paint (λ c. fieldsFault (c .space) (c .samples)) (λ c h. (h .small, (h .four, h .each-small))) (λ c h. refl) (λ c h. refl)
+      Sized sampleBytes (λ c. fieldsFault (c .space) (c .samples)) (λ c h. (h .small, (h .four, h .each-small))) (λ c h. refl) (λ c h. refl)
 
-  colour-gives : Gives s colour (λ c. c) Sized paint
+  colour-gives : Gives s colour (λ c. c) Sized sampleBytes
   colour-gives = record {
     gives = λ at c fit h a q e.
         let i = colour-inv s at e in
@@ -66,11 +66,11 @@ module _ (s : List ℕ) where
   -- ---- a record of list 2
 
   module _ (bytes : Bytes s) where
-    named-tells : (c : Colour) → Tells s (name 4 >>= (λ nm. give (titled c nm))) (λ (w : Swatch). (length (w .name) + 1 < 256 ^ 4) × All (λ k u. u < 256 ^ 2) 0 (w .name)) (λ w. nameBytes 4 (w .name)) ownName
+    named-tells : (c : Colour) → Tells s (name 4 >>= (λ nm. give (namedEntry c nm))) (λ (w : Swatch). (length (w .name) + 1 < 256 ^ 4) × All (λ k u. u < 256 ^ 2) 0 (w .name)) (λ w. nameBytes 4 (w .name)) ownName
     named-tells c =
         same-tells
-        (bind-tells {k = λ nm. give (titled c nm)} {FitsD = λ (w : Swatch). Unit {0}} {rest = λ w. []} {g = λ w. 0} (λ w. w .name) (name-tells s 4) (name-gives s 4)
-        (λ nm. same-tells (give-tells s (titled c nm)) (λ (w : Swatch). Unit {0} × (w .name ≡ nm .units)) (λ w. []) (λ w. 0) (λ w h. tt) (λ w h. refl) (λ w h. refl)))
+        (bind-tells {k = λ nm. give (namedEntry c nm)} {FitsD = λ (w : Swatch). Unit {0}} {rest = λ w. []} {g = λ w. 0} (λ w. w .name) (name-tells s 4) (name-gives s 4)
+        (λ nm. same-tells (give-tells s (namedEntry c nm)) (λ (w : Swatch). Unit {0} × (w .name ≡ nm .units)) (λ w. []) (λ w. 0) (λ w h. tt) (λ w h. refl) (λ w h. refl)))
         (λ w. (length (w .name) + 1 < 256 ^ 4) × All (λ k u. u < 256 ^ 2) 0 (w .name)) (λ w. nameBytes 4 (w .name)) ownName
         (λ w h. (h, tt)) (λ w h. append-nil (nameBytes 4 (w .name))) (λ w h. first-zero (ownName w))
 
@@ -78,26 +78,26 @@ module _ (s : List ℕ) where
     unfolding entry entryBytes colourBytes
     entry-tells i c fit =
         same-tells
-        (bind-tells {k = λ vs. name 4 >>= (λ nm. give (titled c nm))} {FitsD = λ w. (length (w .name) + 1 < 256 ^ 4) × All (λ k u. u < 256 ^ 2) 0 (w .name)} (λ w. tt {0})
-        (exact-tells (twins-exact s bytes i c fit)) (exact-gives (twins-exact s bytes i c fit))
+        (bind-tells {k = λ vs. name 4 >>= (λ nm. give (namedEntry c nm))} {FitsD = λ w. (length (w .name) + 1 < 256 ^ 4) × All (λ k u. u < 256 ^ 2) 0 (w .name)} (λ w. tt {0})
+        (exact-tells (repeats-exact s bytes i c fit)) (exact-gives (repeats-exact s bytes i c fit))
         (λ vs. same-tells (named-tells c) (λ w. ((length (w .name) + 1 < 256 ^ 4) × All (λ k u. u < 256 ^ 2) 0 (w .name)) × (tt {0} ≡ tt)) (λ w. nameBytes 4 (w .name)) ownName (λ w h. h .0) (λ w h. refl) (λ w h. refl)))
         (λ w. (hue w ≡ c) × Fits w) entryBytes ownName (λ w h. (tt, (h .1 .counted, h .1 .units)))
-        (λ w h. ap (λ (y : Colour). paint y ++ nameBytes 4 (w .name)) (sym (h .0))) (λ w h. first-none 0 (ownName w) refl)
+        (λ w h. ap (λ (y : Colour). sampleBytes y ++ nameBytes 4 (w .name)) (sym (h .0))) (λ w h. first-none 0 (ownName w) refl)
 
 -- ---- a whole file
 
 sized-hue : (w : Swatch) → Fits w → Sized (hue w)
 sized-hue w f = record { small = f .small; four = f .four; each-small = f .each-small }
 
-black-sized : Sized black
-black-sized = record { small = omega arith; four = refl; each-small = (omega arith, (omega arith, (omega arith, (omega arith, tt)))) }
+zero-colour-sized : Sized zeroColour
+zero-colour-sized = record { small = omega arith; four = refl; each-small = (omega arith, (omega arith, (omega arith, (omega arith, tt)))) }
 
 sized-all : (i : ℕ) (ws : List Swatch) → All (λ k w. Fits w) i ws → All (λ k c. Sized c) i (map hue ws)
 sized-all i [] h = tt
 sized-all i (w ∷ ws) h = (sized-hue w (h .0), sized-all (i + 1) ws (h .1))
 
-sized-at : (i : ℕ) (ws : List Swatch) → All (λ k w. Fits w) i ws → (k : ℕ) → Sized (getD (map hue ws) k black)
-sized-at i [] h k = black-sized
+sized-at : (i : ℕ) (ws : List Swatch) → All (λ k w. Fits w) i ws → (k : ℕ) → Sized (getD (map hue ws) k zeroColour)
+sized-at i [] h k = zero-colour-sized
 sized-at i (w ∷ ws) h zero = sized-hue w (h .0)
 sized-at i (w ∷ ws) h (suc k) = sized-at (i + 1) ws (h .1) k
 
@@ -125,12 +125,12 @@ module _ (s : List ℕ) (bytes : Bytes s) (ws : List Swatch) (few : length ws < 
       let j : ℕ → Judged = secondCount (length cs) in
       let x = heading-passes s 2 n (omega arith) few j q l h in
       let hd : heading 2 j s q ≡ ok n (q + 4) = x .0 ∙ ap (λ (j : Judged). rule j (q + 2) (ok n (q + 4))) (second-fine (length cs) n (sym len)) in
-      let Ok : ℕ → Swatch → Type 0 = λ i w. (hue w ≡ getD cs i black) × Fits w in
+      let Ok : ℕ → Swatch → Type 0 = λ i w. (hue w ≡ getD cs i zeroColour) × Fits w in
       let fit : All Ok 0 ws =
-      all-by Ok (label black []) 0 ws (λ k g. (sym (hue-at ws k) ∙ ap (λ (i : ℕ). getD cs i black) (sym (zero-add k)), all-at (λ k w. Fits w) (label black []) 0 ws fits k g)) in
+      all-by Ok (label zeroColour []) 0 ws (λ k g. (sym (hue-at ws k) ∙ ap (λ (i : ℕ). getD cs i zeroColour) (sym (zero-add k)), all-at (λ k w. Fits w) (label zeroColour []) 0 ws fits k g)) in
       let z : q + 4 + length l ≡ length s = omega (arith, length-append (be 2 2) (be 2 n ++ l), length-append (be 2 n) l, length-be 2 2, length-be 2 n) in
-      let y = outcome (each-tells {p = λ i. entry i (getD cs i black)} {Fits = Ok} {f = λ i. ownName} (λ i. entry-tells s bytes i (getD cs i black) (sized-at 0 ws fits i)) (length cs) 0) (q + 4) ws (sym len, fit) (x .1) in
-      let y2 : Outcome (each (length cs) 0 (λ i. entry i (getD cs i black)) s (q + 4)) (faults ownName ws) (length s) = subst₂ (λ (a b : ℕ). Outcome (each (length cs) 0 (λ i. entry i (getD cs i black)) s (q + 4)) a b) (faults-from ownName 0 ws) z y in
+      let y = outcome (each-tells {p = λ i. entry i (getD cs i zeroColour)} {Fits = Ok} {f = λ i. ownName} (λ i. entry-tells s bytes i (getD cs i zeroColour) (sized-at 0 ws fits i)) (length cs) 0) (q + 4) ws (sym len, fit) (x .1) in
+      let y2 : Outcome (each (length cs) 0 (λ i. entry i (getD cs i zeroColour)) s (q + 4)) (faults ownName ws) (length s) = subst₂ (λ (a b : ℕ). Outcome (each (length cs) 0 (λ i. entry i (getD cs i zeroColour)) s (q + 4)) a b) (faults-from ownName 0 ws) z y in
       rw hd (outcome-fault _ _ _ (length s) (first-zero (faults ownName ws)) (outcome-then _ _ (faults ownName ws) 0 (length s) (length s) y2 (λ es e. rw (eq-eqb (length s) (length s) refl) (good (record { lists = 2; records = es }) refl refl))))
 
   after-outcome : (q : ℕ) → At s q (listTwo ws) → q + length (listTwo ws) ≡ length s → Outcome (after (map hue ws) s q) (faults ownName ws) (length s)
@@ -141,14 +141,14 @@ module _ (s : List ℕ) (bytes : Bytes s) (ws : List Swatch) (few : length ws < 
   colours-outcome : (at : ℕ) → At s at (joined colourBytes ws) → Outcome (each (length ws) 0 (λ i. colour) s at) (faults colourFault ws) (at + length (joined colourBytes ws))
   colours-outcome at h =
       let m = each (length ws) 0 (λ i. colour) s at in
-      let h2 : At s at (joined paint (map hue ws)) = subst (λ (l : List ℕ). At s at l) (sym (hues-bytes ws)) h in
+      let h2 : At s at (joined sampleBytes (map hue ws)) = subst (λ (l : List ℕ). At s at l) (sym (hues-bytes ws)) h in
       let y = outcome (each-tells {p = λ i. colour} {Fits = λ k c. Sized c} {f = λ k c. fieldsFault (c .space) (c .samples)} (λ i. colour-tells s) (length ws) 0) at (map hue ws) (length-map hue ws, sized-all 0 ws fits) h2 in
       subst₂ (λ (a b : ℕ). Outcome (each (length ws) 0 (λ i. colour) s at) a b)
       (faults-from (λ c. fieldsFault (c .space) (c .samples)) 0 (map hue ws) ∙ faults-map (λ c. fieldsFault (c .space) (c .samples)) hue ws) (ap (λ (l : List ℕ). at + length l) (hues-bytes ws)) y
 
   colours-read : (at : ℕ) → At s at (joined colourBytes ws) → (cs : List Colour) (q : ℕ) → each (length ws) 0 (λ i. colour) s at ≡ ok cs q → cs ≡ map hue ws
   colours-read at h cs q e =
-      let h2 : At s at (joined paint (map hue ws)) = subst (λ (l : List ℕ). At s at l) (sym (hues-bytes ws)) h in
+      let h2 : At s at (joined sampleBytes (map hue ws)) = subst (λ (l : List ℕ). At s at l) (sym (hues-bytes ws)) h in
       sym (map-id cs) ∙ each-gives {p = λ i. colour} {Fits = λ k c. Sized c} (λ i. colour-gives s) (length ws) 0 .gives at (map hue ws) (length-map hue ws, sized-all 0 ws fits) h2 cs q e .0
 
   -- the first fault is the count's, then the colours', then the names'

@@ -6,7 +6,7 @@ use mathlib.Core.List.{List, [], _∷_, _++_}
 use lib.ListN.{length, getD, take}
 use Rattle.algebra.specs.Numbers.{be, joined, All}
 use Rattle.algebra.specs.Text.{Named}
-use Rattle.algebra.specs.Closing.{Open}
+use Rattle.algebra.specs.Closing.{BadlyClosed}
 use Rattle.aco.specs.Grammar.{Swatch, Scale, Space, Sample, Allowed, Palette, colourBytes, entryBytes, listOne, twoLists}
 
 -- ---- parts of a file: the bytes from the part to the file's end, the number, the place counted from the part
@@ -36,7 +36,7 @@ pub data DamagedName : List ℕ → ℕ → ℕ → Type 0 where
   no-units : (l : List ℕ) → DamagedName (be 4 0 ++ l) 8 0
   -- whatever they are, closed or not
   units-cut : (n : ℕ) (l : List ℕ) → 0 < n → n < 256 ^ 4 → length l < 2 * n → DamagedName (be 4 n ++ l) 2 4
-  unclosed : (us l : List ℕ) → length us < 256 ^ 4 → All (λ k u. u < 256 ^ 2) 0 us → Open us → DamagedName (be 4 (length us) ++ (joined (be 2) us ++ l)) 8 0
+  unclosed : (us l : List ℕ) → length us < 256 ^ 4 → All (λ k u. u < 256 ^ 2) 0 us → BadlyClosed us → DamagedName (be 4 (length us) ++ (joined (be 2) us ++ l)) 8 0
 
 -- the five fields of a colour: 0 the space, 1 to 4 the samples
 abbrev pub fieldsOf : Swatch → List ℕ

@@ -2,8 +2,8 @@ pub mod Grammar
 pub mod Reading
 pub mod Row
 pub mod Faults
-pub mod Raw
 pub mod Places
 pub mod Widths
 pub mod Refusals
 pub mod Damaged
+pub mod scaffold

@@ -57,8 +57,8 @@ fieldOf c f = getD (c .space ∷ c .samples) f 0
 abbrev pub compared : ℕ → Colour → ℕ → ℕ → Judged
 compared i c f v = pick (eqb v (fieldOf c f)) fine (fault 7 i f)
 
-abbrev pub twin : ℕ → Colour → ℕ → Reader ℕ
-twin i c f = judged 2 (compared i c f)
+abbrev pub repeatedField : ℕ → Colour → ℕ → Reader ℕ
+repeatedField i c f = judged 2 (compared i c f)
 
 -- a record: its colour, and its name with the place of its first unit
 pub record Entry : Type 0 where
@@ -68,7 +68,7 @@ pub record Entry : Type 0 where
 -- record i, whose colour in list 1 is c: its ten bytes and directly its name
 unfoldable pub entry : ℕ → Colour → Reader Entry
 entry i c = do
-  vs ← each 5 0 (twin i c)
+  vs ← each 5 0 (repeatedField i c)
   nm ← name 4
   give (record { colour = c; name = nm })
 
@@ -77,8 +77,8 @@ pub record Contents : Type 0 where
   pub lists : ℕ
   pub records : List Entry
 
-abbrev pub black : Colour
-black = record { space = 0; samples = 0 ∷ 0 ∷ 0 ∷ 0 ∷ [] }
+abbrev pub zeroColour : Colour
+zeroColour = record { space = 0; samples = 0 ∷ 0 ∷ 0 ∷ 0 ∷ [] }
 
 -- the count of list 1, n, else 7 with record 0 and field 5
 abbrev pub secondCount : ℕ → ℕ → Judged
@@ -88,7 +88,7 @@ secondCount n m = pick (eqb m n) fine (fault 7 0 5)
 unfoldable pub second : List Colour → Reader Contents
 second cs = do
   n ← heading 2 (secondCount (length cs))
-  es ← each (length cs) 0 (λ i. entry i (getD cs i black))
+  es ← each (length cs) 0 (λ i. entry i (getD cs i zeroColour))
   ended (record { lists = 2; records = es })
 
 -- a colour without a name: place 0 and no units

@@ -12,8 +12,8 @@ use Rattle.algebra.specs.Store.{stored, part}
 use Rattle.algebra.proofs.Places.{length-part, num-cong, num-part}
 use Rattle.algebra.proofs.Stores.{stored-in}
 use Rattle.colour.specs.declared.space.Colour.{Colour}
-use Rattle.aco.specs.Reading.{black}
-use Rattle.aco.specs.Raw.{rawColours}
+use Rattle.aco.specs.Reading.{zeroColour}
+use Rattle.aco.specs.scaffold.Raw.{rawColours}
 use Rattle.aco.proofs.Raw.{getD-raw}
 use Rattle.aco_chunks.specs.Chunks.{loaded}
 use Rattle.aco_chunks.specs.Promise.{held}
@@ -64,7 +64,7 @@ module _ (s st : List ℕ) where
     loaded-held : (p : ℕ) → p + 2 ≤ 10 * n → orZero (field 2 (held n s st) p) ≡ num 2 s (4 + p)
     loaded-held p l = ap orZero (field-in 2 (held n s st) p (omega (arith, length-held n h room))) ∙ num-held p l
 
-    pub colour-held : (i : ℕ) → i < n → loaded (held n s st) (10 * i) ≡ getD (rawColours n s 4) i black
+    pub colour-held : (i : ℕ) → i < n → loaded (held n s st) (10 * i) ≡ getD (rawColours n s 4) i zeroColour
     unfolding nums
     colour-held i l =
         ap₂ (λ (x : ℕ) (y : List ℕ). record { space = x; samples = y }) (loaded-held (10 * i) (omega arith))

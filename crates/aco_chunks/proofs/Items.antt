@@ -14,9 +14,9 @@ use Rattle.algebra.specs.Store.{stored}
 use Rattle.algebra.proofs.Laws.{field-in}
 use Rattle.algebra.proofs.Inverse.{then-inv, judged-inv, field-inv, unless-fine, clash}
 use Rattle.colour.specs.declared.space.Colour.{Colour}
-use Rattle.aco.specs.Reading.{most, firstCount, secondCount, space, sample, samples, colour, heading, fieldOf, twin, black, lists}
+use Rattle.aco.specs.Reading.{most, firstCount, secondCount, space, sample, samples, colour, heading, fieldOf, repeatedField, zeroColour, lists}
 use Rattle.aco.specs.Reading as R
-use Rattle.aco.specs.Raw.{rawColours}
+use Rattle.aco.specs.scaffold.Raw.{rawColours}
 use Rattle.algebra.specs.Table.{accepted, refused, verdict}
 use Rattle.aco_judge.specs.Answer.{report}
 use Rattle.aco_chunks.specs.declared.Stage.{Stage}
@@ -49,7 +49,7 @@ module _ (w : ℕ) (s : List ℕ) (from : ℕ) (b : List ℕ) (h : Window w s fr
   entryHead-alone : (i : ℕ) (c : Colour) → Alone w s from b h 14 (entryHead i c)
   unfolding entryHead
   entryHead-alone i c =
-      bind-alone w s from b h 10 4 (each 5 0 (twin i c)) _ (each-alone w s from b h 2 (twin i c) (λ f. judged-alone w s from b h 2 (λ u. pick (eqb u (fieldOf c f)) fine (fault 7 i f))) 5 0) (λ vs. judged-alone w s from b h 4 (λ n. unless (ltb 0 n) 8))
+      bind-alone w s from b h 10 4 (each 5 0 (repeatedField i c)) _ (each-alone w s from b h 2 (repeatedField i c) (λ f. judged-alone w s from b h 2 (λ u. pick (eqb u (fieldOf c f)) fine (fault 7 i f))) 5 0) (λ vs. judged-alone w s from b h 4 (λ n. unless (ltb 0 n) 8))
 
 -- ---- what stands before an item that begins at `from`
 
@@ -193,10 +193,10 @@ module _ (s st : List ℕ) (room : 40960 ≤ length st) where
 
     -- a record up to its name's units
     module _ (w : ℕ) (fourteen : 14 ≤ w) (h : Window w s from b) (n i : ℕ) (p : Passed n store) (l : i < n) (e : all ≡ sealed n (entriesLeft n i s from)) where
-      same-colour : loaded store (10 * i) ≡ getD (raw n s) i black
+      same-colour : loaded store (10 * i) ≡ getD (raw n s) i zeroColour
       same-colour = ap (λ (o : List ℕ). loaded o (10 * i)) (p .holds) ∙ colour-held s st n (p .inside) (omega (arith, p .few)) i l
 
-      entryHead-here : entryHead i (getD (raw n s) i black) s from ≡ shift from (entryHead i (loaded store (10 * i)) b 0)
+      entryHead-here : entryHead i (getD (raw n s) i zeroColour) s from ≡ shift from (entryHead i (loaded store (10 * i)) b 0)
       entryHead-here = ap (λ (c : Colour). entryHead i c s from) (sym same-colour) ∙ at-start w s from b h 14 (entryHead i (loaded store (10 * i))) (entryHead-alone w s from b h i (loaded store (10 * i))) fourteen
 
       entryHead-no : (x q r f : ℕ) → entryHead i (loaded store (10 * i)) b 0 ≡ refuse x q r f → Left (v.Fault x (from + q) r f) (from + 14) store

@@ -16,7 +16,7 @@ use Rattle.aco.proofs.Placed.{colour-placed, heading-placed}
 use Rattle.algebra.proofs.Inverse.{then-inv, judged-inv, unless-fine, clash}
 use Rattle.colour.specs.declared.space.Colour.{Colour}
 use Rattle.colour.specs.Spaces.{known, allowed}
-use Rattle.aco.specs.Reading.{most, colour, heading, fieldOf, twin, compared, firstCount, secondCount}
+use Rattle.aco.specs.Reading.{most, colour, heading, fieldOf, repeatedField, compared, firstCount, secondCount}
 use Rattle.aco_chunks.specs.declared.Stage.{Stage}
 use Rattle.aco_chunks.specs.declared.Stage.the-variants as v
 use Rattle.aco_chunks.specs.Chunks.{loaded, entryHead, colourItem, item}
@@ -29,7 +29,7 @@ colourItem-placed s = placed-then (colour s 0) _ (colour-placed 0 (omega arith))
 entryHead-placed : (s : List ℕ) (i : ℕ) (c : Colour) → Placed refusals s (entryHead i c s 0)
 unfolding entryHead
 entryHead-placed s i c =
-    placed-then (each 5 0 (twin i c) s 0) _ (each-placed (twin i c) (λ f r g. judged-placed (among refl) 2 (compared i c f) r (λ v. differ-numbered (eqb v (fieldOf c f)) _ _ (among refl)) g) 5 0 0 (omega arith))
+    placed-then (each 5 0 (repeatedField i c) s 0) _ (each-placed (repeatedField i c) (λ f r g. judged-placed (among refl) 2 (compared i c f) r (λ v. differ-numbered (eqb v (fieldOf c f)) _ _ (among refl)) g) 5 0 0 (omega arith))
     (λ vs q h. judged-placed (among refl) 4 (λ n. unless (ltb 0 n) 8) q (λ n. unless-numbered (ltb 0 n) (among refl)) h)
 
 field-placed : (s : List ℕ) (w : ℕ) {x p r f : ℕ} → field w s 0 ≡ refuse x p r f → p ≤ length s

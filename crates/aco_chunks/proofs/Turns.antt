@@ -14,8 +14,8 @@ use Rattle.algebra.specs.Text.{Name, name, closedUnits, closed, isEmpty, front}
 use Rattle.algebra.proofs.Laws.{done-refuse, done-const, ended-done, each-turn, each-end, then-ok}
 use Rattle.algebra.proofs.Inverse.{then-inv, judged-inv, clash, ok-place, unless-fine}
 use Rattle.colour.specs.declared.space.Colour.{Colour}
-use Rattle.aco.specs.Reading.{colour, heading, firstCount, secondCount, twin, entry, Entry, Contents, black, second, unnamed, after, lists}
-use Rattle.aco.specs.Raw.{rawColours}
+use Rattle.aco.specs.Reading.{colour, heading, firstCount, secondCount, repeatedField, entry, Entry, Contents, zeroColour, second, unnamed, after, lists}
+use Rattle.aco.specs.scaffold.Raw.{rawColours}
 use Rattle.aco.proofs.Raw.{colours-raw, colour-moves, length-raw}
 use Rattle.algebra.specs.Table.{accepted, refused, verdict}
 use Rattle.aco_judge.specs.Answer.{report}
@@ -157,7 +157,7 @@ module _ (s : List ℕ) where
 
   module _ (n i at : ℕ) (l : i < n) where
     abbrev col : Colour
-    col = getD (raw n s) i black
+    col = getD (raw n s) i zeroColour
 
     entries-by : entriesLeft n i s at ≡ then (done (entry i col s at)) (λ u q. entriesLeft n (i + 1) s q)
     entries-by = ap (λ (m : Res Unit). then m (λ u q. endAt s q)) (each-turn (entryOf (raw n s)) s n i at l) ∙ go (done (entry i col s at))
@@ -177,14 +177,14 @@ module _ (s : List ℕ) where
         go false = refl
     units-by false us a q e h c = ap (λ (k : ℕ). refuse 2 k 0 0) h
 
-    entry-from : (vs : List ℕ) (a m q : ℕ) → each 5 0 (twin i col) s at ≡ ok vs a → judged 4 (λ n. unless (ltb 0 n) 8) s a ≡ ok m q → q ≡ a + 4 → done (entry i col s at) ≡ unitsLeft a m false s q
+    entry-from : (vs : List ℕ) (a m q : ℕ) → each 5 0 (repeatedField i col) s at ≡ ok vs a → judged 4 (λ n. unless (ltb 0 n) 8) s a ≡ ok m q → q ≡ a + 4 → done (entry i col s at) ≡ unitsLeft a m false s q
     unfolding entry name body
     entry-from vs a m q e f h = rw e (rw f (units-by (leb (m * 2) (length s - q)) (nums 2 m s q) a q (q + m * 2) h col))
 
     pub entryHead-turn : {m : ℕ} → entryHead i col s at ≡ ok m (at + 14) → (0 < m) × (entriesLeft n i s at ≡ then (unitsLeft (at + 10) m false s (at + 14)) (λ u q. entriesLeft n (i + 1) s q))
     unfolding entryHead
     entryHead-turn {m} e =
-        let t = then-inv (each 5 0 (twin i col) s at) _ e in
+        let t = then-inv (each 5 0 (repeatedField i col) s at) _ e in
         let j = judged-inv 4 s (t .1) (λ n. unless (ltb 0 n) 8) (t .3) in
         let a : t .1 ≡ at + 10 = omega arith in (
           ltb-true 0 m (unless-fine (ltb 0 m) 8 (j .3)),
@@ -199,7 +199,7 @@ module _ (s : List ℕ) where
 
     entry-off : {x p r f : ℕ} → entryHead i col s at ≡ refuse x p r f → done (entry i col s at) ≡ refuse x p r f
     unfolding entryHead entry name
-    entry-off e = entryHead-off (each 5 0 (twin i col) s at) (λ a. judged 4 (λ n. unless (ltb 0 n) 8) s a) (λ a n q. closedUnits a n s q) e
+    entry-off e = entryHead-off (each 5 0 (repeatedField i col) s at) (λ a. judged 4 (λ n. unless (ltb 0 n) 8) s a) (λ a n q. closedUnits a n s q) e
 
     pub entryHead-stop : {x p r f : ℕ} → entryHead i col s at ≡ refuse x p r f → entriesLeft n i s at ≡ refuse x p r f
     entryHead-stop e = entries-by ∙ ap (λ (y : Res Unit). then y (λ u q. entriesLeft n (i + 1) s q)) (entry-off e)

@@ -8,7 +8,7 @@ use lib.ListN.{length}
 use Rattle.algebra.specs.Reader.{Res, ok, refuse, Reader, then, pick, field, fine, fault, unless, judged, give, _>>=_, each, orZero, limit}
 use Rattle.algebra.specs.Store.{stored}
 use Rattle.colour.specs.declared.space.Colour.{Colour}
-use Rattle.aco.specs.Reading.{colour, heading, firstCount, secondCount, twin}
+use Rattle.aco.specs.Reading.{colour, heading, firstCount, secondCount, repeatedField}
 use Rattle.algebra.specs.Table.{Verdict, accepted, refused}
 use Rattle.aco_chunks.specs.declared.Stage.{Stage}
 use Rattle.aco_chunks.specs.declared.Stage.the-variants as v
@@ -30,7 +30,7 @@ loaded store at =
 -- record i of list 2, whose colour in list 1 is c, up to its count of units, which is not 0
 unfoldable pub entryHead : ℕ → Colour → Reader ℕ
 entryHead i c = do
-  vs ← each 5 0 (twin i c)
+  vs ← each 5 0 (repeatedField i c)
   judged 4 (λ n. unless (ltb 0 n) 8)
 
 -- a colour, of which nothing is handed on

@@ -17,8 +17,8 @@ use Rattle.algebra.proofs.Inverse.{then-inv, field-inv, judged-inv, ended-inv, 
 use Rattle.colour.specs.declared.space.Colour.{Colour}
 use Rattle.colour.specs.Spaces.{known, allowed, sound}
 use Rattle.colour.proofs.Laws.{sound-inv}
-use Rattle.aco.specs.Reading.{most, space, sample, samples, colour, heading, fieldOf, twin, Entry, entry, Contents, black, second, unnamed, after, lists, aco, version, firstCount}
-use Rattle.aco.specs.Raw.{rawColours, headed, afterHeading}
+use Rattle.aco.specs.Reading.{most, space, sample, samples, colour, heading, fieldOf, repeatedField, Entry, entry, Contents, zeroColour, second, unnamed, after, lists, aco, version, firstCount}
+use Rattle.aco.specs.scaffold.Raw.{rawColours, headed, afterHeading}
 use Rattle.algebra.specs.Table.{accepted, refused, verdict}
 use Rattle.aco_judge.specs.Answer.{report}
 use Rattle.aco.proofs.Raw.{colours-raw, colours-inside, length-raw, fields-raw}
@@ -73,7 +73,7 @@ entry-done-by (ok vs a) nm c k = ap (λ (m : Res Unit). then m (λ u q. k q)) (t
 entry-done-by (refuse x p r f) nm c k = refl
 
 abbrev pub entryOf : List Colour → ℕ → Reader Entry
-entryOf cs i = entry i (getD cs i black)
+entryOf cs i = entry i (getD cs i zeroColour)
 
 -- what follows the five fields of record i: its name, and the records after it
 abbrev pub named : List Colour → ℕ → List ℕ → ℕ → ℕ → Res Unit
@@ -81,11 +81,11 @@ named cs n s i a = then (done (name 4 s a)) (λ u q. done (each (n - (i + 1)) (i
 
 module _ (s : List ℕ) (cs : List Colour) where
   pub entry-start : (all : Res Unit) (n i at : ℕ) → all ≡ done (each (n - i) i (entryOf cs) s at) → i < n
-      → all ≡ then (done (each (5 - 0) 0 (twin i (getD cs i black)) s at)) (λ u q. named cs n s i q)
+      → all ≡ then (done (each (5 - 0) 0 (repeatedField i (getD cs i zeroColour)) s at)) (λ u q. named cs n s i q)
   unfolding entry
   entry-start all n i at inv h =
       inv ∙ each-turn (entryOf cs) s n i at h
-      ∙ entry-done-by (each 5 0 (twin i (getD cs i black)) s at) (λ a. name 4 s a) (getD cs i black) (λ q. done (each (n - (i + 1)) (i + 1) (entryOf cs) s q))
+      ∙ entry-done-by (each 5 0 (repeatedField i (getD cs i zeroColour)) s at) (λ a. name 4 s a) (getD cs i zeroColour) (λ q. done (each (n - (i + 1)) (i + 1) (entryOf cs) s q))
 
   pub entry-named : (all : Res Unit) (n i at : ℕ) → all ≡ named cs n s i at → {f u q : ℕ} → place (name 4 s at) ≡ ok (f, u) q → all ≡ done (each (n - (i + 1)) (i + 1) (entryOf cs) s q)
   entry-named all n i at inv e = inv ∙ rw (sym (done-place (name 4 s at)) ∙ ap done e)
@@ -94,30 +94,30 @@ module _ (s : List ℕ) (cs : List Colour) where
   entry-refused all n i at inv e = inv ∙ rw (sym (done-place (name 4 s at)) ∙ ap done e)
 
 module _ (s : List ℕ) (c : Colour) (i f at : ℕ) where
-  pub twin-short : refuse 2 at 0 0 ≡ field 2 s at → done (twin i c f s at) ≡ refuse 2 at 0 0
-  twin-short e = rw (← e)
+  pub repeat-short : refuse 2 at 0 0 ≡ field 2 s at → done (repeatedField i c f s at) ≡ refuse 2 at 0 0
+  repeat-short e = rw (← e)
 
-  pub twin-differs : (v n : ℕ) → ok v n ≡ field 2 s at → (v ≡ fieldOf c f → ⊥) → done (twin i c f s at) ≡ refuse 7 at i f
-  twin-differs v n e h = rw (← e) (simp (ne-eqb _ _ h))
+  pub repeat-differs : (v n : ℕ) → ok v n ≡ field 2 s at → (v ≡ fieldOf c f → ⊥) → done (repeatedField i c f s at) ≡ refuse 7 at i f
+  repeat-differs v n e h = rw (← e) (simp (ne-eqb _ _ h))
 
-  pub twin-same : (v n : ℕ) → ok v n ≡ field 2 s at → v ≡ fieldOf c f → done (twin i c f s at) ≡ ok tt n
-  twin-same v n e h = rw (← e) (simp (eq-eqb _ _ h))
+  pub repeat-same : (v n : ℕ) → ok v n ≡ field 2 s at → v ≡ fieldOf c f → done (repeatedField i c f s at) ≡ ok tt n
+  repeat-same v n e h = rw (← e) (simp (eq-eqb _ _ h))
 
 -- the five fields where all are the same
 module _ (s : List ℕ) (c : Colour) (i at : ℕ) (all : Res Unit) (k : ℕ → Res Unit) (h : at + 10 ≤ length s) (same : (f : ℕ) → f < 5 → num 2 s (at + 2 * f) ≡ fieldOf c f) where
-  twins-turn : (f : ℕ) → f < 5 → all ≡ then (done (each (5 - f) f (twin i c) s (at + 2 * f))) (λ u q. k q)
-      → all ≡ then (done (each (5 - (f + 1)) (f + 1) (twin i c) s (at + 2 * (f + 1)))) (λ u q. k q)
-  twins-turn f l inv =
+  repeats-turn : (f : ℕ) → f < 5 → all ≡ then (done (each (5 - f) f (repeatedField i c) s (at + 2 * f))) (λ u q. k q)
+      → all ≡ then (done (each (5 - (f + 1)) (f + 1) (repeatedField i c) s (at + 2 * (f + 1)))) (λ u q. k q)
+  repeats-turn f l inv =
       let p : at + 2 * f + 2 ≡ at + 2 * (f + 1) = omega arith in
-      inner-ok (twin i c) s all k 5 f (at + 2 * f) inv l _ (twin-same s c i f (at + 2 * f) _ _ (sym (field-in 2 s (at + 2 * f) (omega arith))) (same f l) ∙ ap (λ (n : ℕ). ok tt n) p)
+      inner-ok (repeatedField i c) s all k 5 f (at + 2 * f) inv l _ (repeat-same s c i f (at + 2 * f) _ _ (sym (field-in 2 s (at + 2 * f) (omega arith))) (same f l) ∙ ap (λ (n : ℕ). ok tt n) p)
 
-  pub twins-same : all ≡ then (done (each (5 - 0) 0 (twin i c) s at)) (λ u q. k q) → all ≡ then (done (each (5 - 5) 5 (twin i c) s (at + 10))) (λ u q. k q)
-  twins-same inv =
-      let start = inv ∙ ap (λ (p : ℕ). then (done (each 5 0 (twin i c) s p)) (λ u q. k q)) (sym (add-zero at)) in
-      twins-turn 4 (omega arith) (twins-turn 3 (omega arith) (twins-turn 2 (omega arith) (twins-turn 1 (omega arith) (twins-turn 0 (omega arith) start))))
+  pub repeats-same : all ≡ then (done (each (5 - 0) 0 (repeatedField i c) s at)) (λ u q. k q) → all ≡ then (done (each (5 - 5) 5 (repeatedField i c) s (at + 10))) (λ u q. k q)
+  repeats-same inv =
+      let start = inv ∙ ap (λ (p : ℕ). then (done (each 5 0 (repeatedField i c) s p)) (λ u q. k q)) (sym (add-zero at)) in
+      repeats-turn 4 (omega arith) (repeats-turn 3 (omega arith) (repeats-turn 2 (omega arith) (repeats-turn 1 (omega arith) (repeats-turn 0 (omega arith) start))))
 
 -- field f of colour i of list 1, as it is loaded
-pub raw-field : (n : ℕ) (s : List ℕ) (i f v : ℕ) → 4 + 10 * n ≤ length s → i < n → f < 5 → v ≡ orZero (field 2 s (4 + 10 * i + 2 * f)) → v ≡ fieldOf (getD (rawColours n s 4) i black) f
+pub raw-field : (n : ℕ) (s : List ℕ) (i f v : ℕ) → 4 + 10 * n ≤ length s → i < n → f < 5 → v ≡ orZero (field 2 s (4 + 10 * i + 2 * f)) → v ≡ fieldOf (getD (rawColours n s 4) i zeroColour) f
 raw-field n s i f v h g k e = e ∙ ap orZero (field-in 2 s (4 + 10 * i + 2 * f) (omega arith)) ∙ sym (fields-raw n s 4 i f g k)
 
 -- ---- a heading

@@ -5,14 +5,15 @@ ghost use Prim.Native.Nat.{_+_, _*_, _≤_};
 ghost use lib.ListN.{length, getD};
 ghost use Rattle.algebra.specs.Reader.{done, each};
 ghost use Rattle.fields.specs.Answer.{toldStep};
-ghost use Rattle.aco.specs.Reading.{samples, colour, entry, black, second, aco};
-ghost use Rattle.aco.specs.Raw.{rawColours, headed, afterHeading, SoundAt, SameAt};
+ghost use Rattle.aco.specs.Reading.{samples, colour, entry, zeroColour, second, aco};
+ghost use Rattle.aco.specs.scaffold.Raw.{rawColours, headed, afterHeading, SoundAt, SameAt};
 ghost use Rattle.algebra.specs.Table.{verdict};
-ghost use Rattle.aco_judge.specs.Answer.{told, toldHeading, toldWalk, report};
+ghost use Rattle.aco_judge.specs.Answer.{told, report};
+ghost use Rattle.aco_judge.specs.scaffold.Answer.{toldHeading, toldWalk};
 use aco::LIMIT;
 use aco::MOST;
+use fields::FieldEnd;
 use fields::Number16;
-use fields::Step;
 use names::NameAt;
 
 // What a file is found to be. Differ is refusal 7, with the first differing record and in it the
@@ -40,40 +41,40 @@ pub enum Heading {
 }
 
 // How far list 2 goes: the next place, a refusal, or where it differs from list 1.
-enum Walk {
+enum ListTwoEnd {
     Next(usize),
     Refused(u32, usize),
     Differ(usize, usize, usize),
 }
 
 // The four samples from `at` of a colour of a space.
-fn samples_at(file: &[u8], at: usize, space: u16) -> Step
+fn samples_at(file: &[u8], at: usize, space: u16) -> FieldEnd
     ensures { λ r. ⌜ toldStep r ≡ done (samples space (now (file .entry)) at) ⌝ }
 {
     let mut k: u16 = 0;
     let mut p = at;
     while k < 4 {
         let Number16::Is(v, next) = fields::u16_at(file, p) else {
-            return Step::Refused(2, p);
+            return FieldEnd::Refused(2, p);
         };
         if !colour::is_allowed(space, k, v) {
-            return Step::Refused(5, p);
+            return FieldEnd::Refused(5, p);
         }
         p = next;
         k += 1;
     }
-    Step::Next(p)
+    FieldEnd::Next(p)
 }
 
 // The colour at `at`, field by field up to its first fault.
-fn fields_at(file: &[u8], at: usize) -> Step
+fn fields_at(file: &[u8], at: usize) -> FieldEnd
     ensures { λ r. ⌜ toldStep r ≡ done (colour (now (file .entry)) at) ⌝ }
 {
     let Number16::Is(space, next) = fields::u16_at(file, at) else {
-        return Step::Refused(2, at);
+        return FieldEnd::Refused(2, at);
     };
     if !colour::is_known(space) {
-        return Step::Refused(4, at);
+        return FieldEnd::Refused(4, at);
     }
     samples_at(file, next, space)
 }
@@ -101,17 +102,17 @@ fn is_sound(file: &[u8], at: usize) -> bool
 }
 
 // The colour at `at`. Nearly all are sound, and only another is looked into.
-pub fn colour_at(file: &[u8], at: usize) -> Step
+pub fn colour_at(file: &[u8], at: usize) -> FieldEnd
     ensures { λ r. ⌜ toldStep r ≡ done (colour (now (file .entry)) at) ⌝ }
 {
     if is_sound(file, at) {
-        return Step::Next(at + 10);
+        return FieldEnd::Next(at + 10);
     }
     fields_at(file, at)
 }
 
 // The n colours of list 1 from `at`.
-fn colours_at(file: &[u8], at: usize, n: u16) -> Step
+fn colours_at(file: &[u8], at: usize, n: u16) -> FieldEnd
     requires { ⌜ at ≤ length (now file) ⌝ }
     ensures { λ r. ⌜ toldStep r ≡ done (each n 0 (λ i. colour) (now (file .entry)) at) ⌝ }
 {
@@ -119,16 +120,16 @@ fn colours_at(file: &[u8], at: usize, n: u16) -> Step
     let mut p = at;
     while i < n {
         match colour_at(file, p) {
-            Step::Next(next) => {
+            FieldEnd::Next(next) => {
                 p = next;
             }
-            Step::Refused(x, q) => {
-                return Step::Refused(x, q);
+            FieldEnd::Refused(x, q) => {
+                return FieldEnd::Refused(x, q);
             }
         }
         i += 1;
     }
-    Step::Next(p)
+    FieldEnd::Next(p)
 }
 
 // Whether ten bytes stand at `at`, the same as the ten at `first`.
@@ -152,9 +153,9 @@ fn is_same(file: &[u8], at: usize, first: usize) -> bool
 
 // The n records of list 2 from `at`, compared with list 1, which stands at 4. Nearly all are the
 // same, and only in another is a field looked for that differs.
-fn entries_at(file: &[u8], at: usize, n: u16) -> Walk
+fn entries_at(file: &[u8], at: usize, n: u16) -> ListTwoEnd
     requires { ⌜ 4 + 10 * n ≤ length (now file) ⌝ }
-    ensures { λ r. ⌜ toldWalk r ≡ done (each n 0 (λ i. entry i (getD (rawColours n (now (file .entry)) 4) i black)) (now (file .entry)) at) ⌝ }
+    ensures { λ r. ⌜ toldWalk r ≡ done (each n 0 (λ i. entry i (getD (rawColours n (now (file .entry)) 4) i zeroColour)) (now (file .entry)) at) ⌝ }
 {
     let count = n as usize;
     let mut i: usize = 0;
@@ -168,7 +169,7 @@ fn entries_at(file: &[u8], at: usize, n: u16) -> Walk
         }
         while f < 5 {
             let Number16::Is(v, next) = fields::u16_at(file, p) else {
-                return Walk::Refused(2, p);
+                return ListTwoEnd::Refused(2, p);
             };
             if v != fields::u16_or_zero(file, 4 + 10 * i + 2 * f) {
                 break 'records;
@@ -181,15 +182,15 @@ fn entries_at(file: &[u8], at: usize, n: u16) -> Walk
                 p = next;
             }
             NameAt::Refused(x, q) => {
-                return Walk::Refused(x, q);
+                return ListTwoEnd::Refused(x, q);
             }
         }
         i += 1;
     }
     if i < count {
-        return Walk::Differ(p, i, f);
+        return ListTwoEnd::Differ(p, i, f);
     }
-    Walk::Next(p)
+    ListTwoEnd::Next(p)
 }
 
 // A list's version, which must be this one, and its count, which is not judged here.
@@ -197,8 +198,8 @@ pub fn heading_at(file: &[u8], at: usize, version: u16) -> Heading
     ensures { λ r. ⌜ toldHeading r ≡ headed version (now (file .entry)) at ⌝ }
 {
     match fields::u16_is(file, at, version, 3) {
-        Step::Refused(x, q) => Heading::Refused(x, q),
-        Step::Next(b) => match fields::u16_at(file, b) {
+        FieldEnd::Refused(x, q) => Heading::Refused(x, q),
+        FieldEnd::Next(b) => match fields::u16_at(file, b) {
             Number16::Is(n, next) => Heading::Is(n, next),
             Number16::Short => Heading::Refused(2, b),
         },
@@ -206,25 +207,25 @@ pub fn heading_at(file: &[u8], at: usize, version: u16) -> Heading
 }
 
 // List 2 from `at`, where list 1 has n colours, and the file's end.
-fn second_at(file: &[u8], at: usize, n: u16) -> Walk
+fn second_at(file: &[u8], at: usize, n: u16) -> ListTwoEnd
     requires { ⌜ (4 + 10 * n ≤ at) × (at ≤ length (now file)) ⌝ }
     ensures { λ r. ⌜ toldWalk r ≡ done (second (rawColours n (now (file .entry)) 4) (now (file .entry)) at) ⌝ }
 {
     match heading_at(file, at, 2) {
-        Heading::Refused(x, q) => Walk::Refused(x, q),
+        Heading::Refused(x, q) => ListTwoEnd::Refused(x, q),
         Heading::Is(m, next) => {
             if m != n {
-                return Walk::Differ(at + 2, 0, 5);
+                return ListTwoEnd::Differ(at + 2, 0, 5);
             }
             match entries_at(file, next, n) {
-                Walk::Next(end) => {
+                ListTwoEnd::Next(end) => {
                     if end == file.len() {
-                        return Walk::Next(end);
+                        return ListTwoEnd::Next(end);
                     }
-                    Walk::Refused(6, end)
+                    ListTwoEnd::Refused(6, end)
                 }
-                Walk::Refused(x, q) => Walk::Refused(x, q),
-                Walk::Differ(q, i, f) => Walk::Differ(q, i, f),
+                ListTwoEnd::Refused(x, q) => ListTwoEnd::Refused(x, q),
+                ListTwoEnd::Differ(q, i, f) => ListTwoEnd::Differ(q, i, f),
             }
         }
     }
@@ -236,11 +237,11 @@ fn lists_at(file: &[u8], n: u16) -> Answer
     ensures { λ r. ⌜ told r ≡ verdict report (afterHeading n (now (file .entry)) 4) ⌝ }
 {
     match colours_at(file, 4, n) {
-        Step::Refused(x, q) => Answer::Refused {
+        FieldEnd::Refused(x, q) => Answer::Refused {
             number: x,
             place: q,
         },
-        Step::Next(end) => {
+        FieldEnd::Next(end) => {
             if end == file.len() {
                 return Answer::Accepted {
                     colours: n as usize,
@@ -248,15 +249,15 @@ fn lists_at(file: &[u8], n: u16) -> Answer
                 };
             }
             match second_at(file, end, n) {
-                Walk::Next(_) => Answer::Accepted {
+                ListTwoEnd::Next(_) => Answer::Accepted {
                     colours: n as usize,
                     lists: 2,
                 },
-                Walk::Refused(x, q) => Answer::Refused {
+                ListTwoEnd::Refused(x, q) => Answer::Refused {
                     number: x,
                     place: q,
                 },
-                Walk::Differ(q, i, f) => Answer::Differ {
+                ListTwoEnd::Differ(q, i, f) => Answer::Differ {
                     place: q,
                     record: i,
                     field: f,

@@ -16,15 +16,16 @@ use Rattle.aco.specs.Reading.{colour, Entry, Contents, unnamed, aco}
 use Rattle.algebra.specs.Table.{accepted, refused as refusedFile, verdict}
 use Rattle.algebra.proofs.Table.{accepted-of, refused-of}
 use Rattle.aco_judge.specs.Answer.{report}
-use Rattle.walk.specs.Walk.{Call, gives, over, refused, Step, given}
+use Rattle.walk.specs.Walk.{Call, gives, over, refused, Step}
+use Rattle.walk.specs.scaffold.Walk.{given}
 use Rattle.walk.specs.Names.{namePart}
 use Rattle.walk.proofs.Calls.{step-read}
 use Rattle.walk.proofs.Turns.{given-all, given-start, given-none, given-next, given-over, given-refused}
-use Rattle.aco_walk.specs.Walking.{isPlain, firstPlace, titled, labelled, swatchFrom, walk}
-use Rattle.aco_walk.specs.Answer.{toldGiven, toldStep, handed}
-use Rattle.aco_walk.specs.declared.Given.{Given}
-use Rattle.aco_walk.specs.declared.Given.the-variants as vg
-use Rattle.aco_walk.specs.declared.Step.{Step as Answered}
+use Rattle.aco_walk.specs.Walking.{isPlain, firstPlace, namedEntry, labelled, swatchFrom, walk}
+use Rattle.aco_walk.specs.Answer.{toldGiven, toldStep, callAndPlace}
+use Rattle.aco_walk.specs.declared.NextColour.{NextColour}
+use Rattle.aco_walk.specs.declared.NextColour.the-variants as vg
+use Rattle.aco_walk.specs.declared.ColourStep.{ColourStep as Answered}
 use Rattle.aco_walk.proofs.Walked.{colours-in-turn, given-name}
 use Rattle.listing.specs.Buffer.{Buffer, putAll}
 use Rattle.listing.specs.Text.{ascii, lines, refusal}
@@ -42,8 +43,8 @@ abbrev Handed : Type 0
 Handed = Colour × Call (ℕ × ℕ) × ℕ
 
 -- by the variant that the code found
-pub told-is : (r : Answered) (w : Call Entry × ℕ) {g : Given} → toldStep r ≡ handed w → r .given ≡ g → handed w ≡ (r .colour, toldGiven g, r .next)
-told-is r w e f = sym e ∙ ap (λ (g : Given). (r .colour, toldGiven g, r .next)) f
+pub told-is : (r : Answered) (w : Call Entry × ℕ) {g : NextColour} → toldStep r ≡ callAndPlace w → r .given ≡ g → callAndPlace w ≡ (r .colour, toldGiven g, r .next)
+told-is r w e f = sym e ∙ ap (λ (g : NextColour). (r .colour, toldGiven g, r .next)) f
 
 answer-is : {x y : Handed} → x ≡ y → x .1 ≡ y .1
 answer-is e = ap (λ (h : Handed). h .1) e
@@ -51,28 +52,28 @@ answer-is e = ap (λ (h : Handed). h .1) e
 gives-value : {A : Type 0} {a b : A} → gives a ≡ gives b → a ≡ b
 gives-value e = cc
 
-told-gives : (w : Call Entry × ℕ) {c : Colour} {p u q : ℕ} → handed w ≡ (c, gives (p, u), q) → (e : Entry) × (w ≡ (gives e, q)) × (c ≡ e .colour) × (p ≡ e .name .first) × (u ≡ length (e .name .units))
+told-gives : (w : Call Entry × ℕ) {c : Colour} {p u q : ℕ} → callAndPlace w ≡ (c, gives (p, u), q) → (e : Entry) × (w ≡ (gives e, q)) × (c ≡ e .colour) × (p ≡ e .name .first) × (u ≡ length (e .name .units))
 told-gives w {c} {p} {u} {q} h = go (w .0) (w .1) h
   where
-    go : (a : Call Entry) (r : ℕ) → handed (a, r) ≡ (c, gives (p, u), q) → (e : Entry) × (_≡_ {A = Call Entry × ℕ} (a, r) (gives e, q)) × (c ≡ e .colour) × (p ≡ e .name .first) × (u ≡ length (e .name .units))
+    go : (a : Call Entry) (r : ℕ) → callAndPlace (a, r) ≡ (c, gives (p, u), q) → (e : Entry) × (_≡_ {A = Call Entry × ℕ} (a, r) (gives e, q)) × (c ≡ e .colour) × (p ≡ e .name .first) × (u ≡ length (e .name .units))
     go (gives e) r x =
         let y = gives-value (answer-is x) in
         (e, ap (λ (h : Handed). (gives e, h .2)) x, ap (λ (h : Handed). h .0) (sym x), ap (λ (l : ℕ × ℕ). l .0) (sym y), ap (λ (l : ℕ × ℕ). l .1) (sym y))
     go over r x = let y = answer-is x in let z : _≡_ {A = ℕ} 0 1 = cc in absurd (omega arith)
     go (refused k n) r x = let y = answer-is x in let z : _≡_ {A = ℕ} 0 1 = cc in absurd (omega arith)
 
-told-over : (w : Call Entry × ℕ) {c : Colour} {q : ℕ} → handed w ≡ (c, over, q) → w .0 ≡ over
+told-over : (w : Call Entry × ℕ) {c : Colour} {q : ℕ} → callAndPlace w ≡ (c, over, q) → w .0 ≡ over
 told-over w {c} {q} h = go (w .0) (w .1) h
   where
-    go : (a : Call Entry) (r : ℕ) → handed (a, r) ≡ (c, over, q) → a ≡ over
+    go : (a : Call Entry) (r : ℕ) → callAndPlace (a, r) ≡ (c, over, q) → a ≡ over
     go (gives e) r x = let y = answer-is x in let z : _≡_ {A = ℕ} 0 1 = cc in absurd (omega arith)
     go over r x = refl
     go (refused k n) r x = let y = answer-is x in let z : _≡_ {A = ℕ} 0 1 = cc in absurd (omega arith)
 
-told-refused : (w : Call Entry × ℕ) {c : Colour} {y n q : ℕ} → handed w ≡ (c, refused y n, q) → w .0 ≡ refused y n
+told-refused : (w : Call Entry × ℕ) {c : Colour} {y n q : ℕ} → callAndPlace w ≡ (c, refused y n, q) → w .0 ≡ refused y n
 told-refused w {c} {y} {n} {q} h = go (w .0) (w .1) h
   where
-    go : (a : Call Entry) (r : ℕ) → handed (a, r) ≡ (c, refused y n, q) → a ≡ refused y n
+    go : (a : Call Entry) (r : ℕ) → callAndPlace (a, r) ≡ (c, refused y n, q) → a ≡ refused y n
     go (gives e) r x = let y = answer-is x in let z : _≡_ {A = ℕ} 0 1 = cc in absurd (omega arith)
     go over r x = let y = answer-is x in let z : _≡_ {A = ℕ} 0 1 = cc in absurd (omega arith)
     go (refused a b) r x = let y = answer-is x in cc
@@ -93,10 +94,10 @@ module _ (f : Step Entry) (all o : Buffer) (n i at : ℕ) (all-is : all ≡ putA
     pub line-turn : {p : Buffer} {e : Entry} {q : ℕ} → f at ≡ (gives e, q) → p ≡ putAll o (line i e) → all ≡ putAll p (lines line (i + 1) (given f (n - (i + 1)) q))
     line-turn {e = e} {q = q} g x = lines-turn line all o i e (given f (n - (i + 1)) q) (by (given-next f n i at h g)) x
 
-    pub line-over : {c : Colour} {q : ℕ} → handed (f at) ≡ (c, over, q) → all ≡ o
+    pub line-over : {c : Colour} {q : ℕ} → callAndPlace (f at) ≡ (c, over, q) → all ≡ o
     line-over e = lines-none line all o i (by (given-over f n i at h (told-over (f at) e)))
 
-    pub line-refused : {c : Colour} {x y q : ℕ} → handed (f at) ≡ (c, refused x y, q) → all ≡ o
+    pub line-refused : {c : Colour} {x y q : ℕ} → callAndPlace (f at) ≡ (c, refused x y, q) → all ≡ o
     line-refused e = lines-none line all o i (by (given-refused f n i at h (told-refused (f at) e)))
 
 -- ---- a name's bytes are those of its units
@@ -121,7 +122,7 @@ module _ (s : List ℕ) (bytes : Bytes s) where
       read (suc n) r some h =
           subst (λ (us : List ℕ). part s r (2 * length us) ≡ joined (be 2) us) (sym (front-nums 2 n s r)) (ap (λ (k : ℕ). part s r (2 * k)) (length-nums 2 n s r) ∙ units-part n r (omega arith))
 
-      go : (c : Colour) (n : ℕ) (b : Bool) → pick b (ok (unnamed c) n) (then (name 4 s n) (λ nm z. ok (titled c nm) z)) ≡ ok e q → Spelt (e .name)
+      go : (c : Colour) (n : ℕ) (b : Bool) → pick b (ok (unnamed c) n) (then (name 4 s n) (λ nm z. ok (namedEntry c nm) z)) ≡ ok e q → Spelt (e .name)
       go c n true x = subst (λ (y : Entry). Spelt (y .name)) (ok-value x) refl
       go c n false x =
           let t = then-inv (name 4 s n) _ x in
@@ -129,7 +130,7 @@ module _ (s : List ℕ) (bytes : Bytes s) where
           subst (λ (y : Entry). Spelt (y .name)) (ok-value (t .3)) (subst Spelt (i .1 .is) (read (i .0) (n + 4) (i .1 .some) (omega (arith, i .1 .inside, i .1 .room, i .1 .some))))
 
   -- the line of the record that a call gave
-  pub line-put : (o : Buffer) (i at : ℕ) (r : Answered) {place units : ℕ} {b : List ℕ} {p : Buffer} → toldStep r ≡ handed (walk s at) → r .given ≡ vg.Colour place units → b ≡ namePart s place units → p ≡ putAll o (colourLine i (r .colour) b)
+  pub line-put : (o : Buffer) (i at : ℕ) (r : Answered) {place units : ℕ} {b : List ℕ} {p : Buffer} → toldStep r ≡ callAndPlace (walk s at) → r .given ≡ vg.Colour place units → b ≡ namePart s place units → p ≡ putAll o (colourLine i (r .colour) b)
       → (e : Entry) × (walk s at ≡ (gives e, r .next)) × (p ≡ putAll o (line i e))
   line-put o i at r e f g h =
       let t = told-gives (walk s at) (told-is r (walk s at) e f) in

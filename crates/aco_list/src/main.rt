@@ -8,9 +8,9 @@ ghost use Rattle.aco_walk.specs.Walking.{firstPlace, walk};
 ghost use Rattle.listing.specs.Buffer.{putAll};
 ghost use Rattle.listing.specs.Text.{word, lines, taken};
 ghost use Rattle.aco_list.specs.Listing.{colourLine, line, heading, listing};
-ghost use Rattle.walk.specs.Walk.{given};
+ghost use Rattle.walk.specs.scaffold.Walk.{given};
 use aco_judge::Answer;
-use aco_walk::Given;
+use aco_walk::NextColour;
 use colour::Colour;
 use listing::finish;
 use listing::put;
@@ -67,16 +67,16 @@ fn put_colours(out: &mut [u8], n: usize, file: &[u8], colours: usize) -> usize
         let step = aco_walk::step_at(file, p);
         let given = step.given;
         match given {
-            Given::Done => {
+            NextColour::Done => {
                 return at;
             }
-            Given::Refused {
+            NextColour::Refused {
                 number: _,
                 place: _,
             } => {
                 return at;
             }
-            Given::Colour { place, units } => {
+            NextColour::Colour { place, units } => {
                 let name = name_part(file, place, units);
                 at = put_colour(out, at, i, step.colour, name);
             }

@@ -15,13 +15,13 @@ use Rattle.algebra.specs.Table as table
 use Rattle.algebra.specs.Filling.{Accepted}
 use Rattle.algebra.proofs.Places.{length-nums}
 use Rattle.algebra.proofs.Table.{record-found}
-use Rattle.aco.specs.Reading.{Entry, Contents, black, unnamed, aco}
-use Rattle.aco.specs.Row.{Given, width, numbers, withName, givenOf, row}
-use Rattle.aco.specs.Raw.{rawColour}
+use Rattle.aco.specs.Reading.{Entry, Contents, zeroColour, unnamed, aco}
+use Rattle.aco.specs.Row.{RecordRow, width, numbers, withName, givenOf, row}
+use Rattle.aco.specs.scaffold.Raw.{rawColour}
 use Rattle.aco.proofs.Row.{length-numbers}
 use Rattle.aco.proofs.RoundTrip.{lists-are}
 use Rattle.aco_judge.specs.Answer.{report}
-use Rattle.aco_read.specs.Table.{records, recordAt, handed, nameBytesIn, recordsOf}
+use Rattle.aco_read.specs.Table.{records, recordAt, byValue, nameBytesIn, recordsOf}
 use Rattle.aco_read.proofs.Filling.{listed, length-records, nth, plain-in, plain-is, named-in, named-colour, named-is}
 
 -- the number of colours is that of the records
@@ -59,17 +59,17 @@ joined-wide d [] h = refl
 joined-wide d (e ∷ rs) h = omega (arith, length-append (row e) (joined row rs), h 0 (omega arith), joined-wide d rs (λ i k. h (suc i) (omega arith)))
 
 pub rows-wide : (s : List ℕ) (n l : ℕ) → Accepted report (aco s) (n, l) → length (joined row (recordsOf (aco s))) ≡ width * length (recordsOf (aco s))
-rows-wide s n l a = joined-wide (unnamed black) (recordsOf (aco s)) (λ i h. go i (omega (arith, length-records s n l a)) (ℕ-discrete l 1))
+rows-wide s n l a = joined-wide (unnamed zeroColour) (recordsOf (aco s)) (λ i h. go i (omega (arith, length-records s n l a)) (ℕ-discrete l 1))
   where
     go : (i : ℕ) → i < n → Dec (l ≡ 1) → length (row (nth s i)) ≡ width
-    go i h (yes e) = ap (λ (g : Given). length (numbers g)) (plain-is s n l a e i h) ∙ row-wide s (4 + 10 * i) _ _
-    go i h (no k) = ap (λ (g : Given). length (numbers g)) (named-is s n l a (not-one s n l a k) i h) ∙ row-wide s (4 + 10 * i) _ _
+    go i h (yes e) = ap (λ (g : RecordRow). length (numbers g)) (plain-is s n l a e i h) ∙ row-wide s (4 + 10 * i) _ _
+    go i h (no k) = ap (λ (g : RecordRow). length (numbers g)) (named-is s n l a (not-one s n l a k) i h) ∙ row-wide s (4 + 10 * i) _ _
 
 -- ---- a record by its number
 
-pub found-is : (s : List ℕ) (n l : ℕ) → Accepted report (aco s) (n, l) → (i : ℕ) → i < n → (g : Given) → givenOf (nth s i) ≡ g → handed (accepted g) ≡ handed (recordAt i (aco s))
+pub found-is : (s : List ℕ) (n l : ℕ) → Accepted report (aco s) (n, l) → (i : ℕ) → i < n → (g : RecordRow) → givenOf (nth s i) ≡ g → byValue (accepted g) ≡ byValue (recordAt i (aco s))
 found-is s n l a i h g e =
-    ap (λ (x : Given). handed (accepted x)) (sym e) ∙ ap (λ (v : Verdict Entry). handed (seen givenOf v)) (record-found records report count counts (aco s) (unnamed black) i a h)
+    ap (λ (x : RecordRow). byValue (accepted x)) (sym e) ∙ ap (λ (v : Verdict Entry). byValue (seen givenOf v)) (record-found records report count counts (aco s) (unnamed zeroColour) i a h)
 
 -- where two accounts of a name agree
 reported : Verdict (ℕ × ℕ) → ℕ × ℕ
@@ -81,35 +81,35 @@ unfolding reported
 same-name e = (ap (λ (v : Verdict (ℕ × ℕ)). reported v .0) e, ap (λ (v : Verdict (ℕ × ℕ)). reported v .1) e)
 
 -- a name that a record gives lies inside the file
-pub name-in : (s : List ℕ) (i p u : ℕ) → handed (recordAt i (aco s)) .1 ≡ accepted (p, u) → p + 2 * u ≤ length s
+pub name-in : (s : List ℕ) (i p u : ℕ) → byValue (recordAt i (aco s)) .1 ≡ accepted (p, u) → p + 2 * u ≤ length s
 name-in s i p u e = go (aco s) refl e
   where
-    found : (n l : ℕ) → Accepted report (aco s) (n, l) → i < n → handed (accepted (givenOf (nth s i))) .1 ≡ accepted (p, u) → Dec (l ≡ 1) → p + 2 * u ≤ length s
-    found n l a h z (yes one) = let k = same-name (sym (ap (λ (g : Given). handed (accepted g) .1) (plain-is s n l a one i h)) ∙ z) in omega arith
+    found : (n l : ℕ) → Accepted report (aco s) (n, l) → i < n → byValue (accepted (givenOf (nth s i))) .1 ≡ accepted (p, u) → Dec (l ≡ 1) → p + 2 * u ≤ length s
+    found n l a h z (yes one) = let k = same-name (sym (ap (λ (g : RecordRow). byValue (accepted g) .1) (plain-is s n l a one i h)) ∙ z) in omega arith
     found n l a h z (no k) =
         let two = not-one s n l a k in
-        let j = same-name (sym (ap (λ (g : Given). handed (accepted g) .1) (named-is s n l a two i h)) ∙ z) in
+        let j = same-name (sym (ap (λ (g : RecordRow). byValue (accepted g) .1) (named-is s n l a two i h)) ∙ z) in
         omega (arith, named-in s n l a two i h)
 
     test : (c : Contents) (q : ℕ) → aco s ≡ ok c q → (b : Bool) → ltb i (length (c .records)) ≡ b
-        → handed (seen givenOf (pick b (accepted (getD (c .records) i (unnamed black))) (refused 12 0 0 0))) .1 ≡ accepted (p, u) → p + 2 * u ≤ length s
+        → byValue (seen givenOf (pick b (accepted (getD (c .records) i (unnamed zeroColour))) (refused 12 0 0 0))) .1 ≡ accepted (p, u) → p + 2 * u ≤ length s
     test c q x true h z =
         found (length (c .records)) (c .lists) (c, q, x, refl) (ltb-true _ _ h)
-        (ap (λ (m : Res Contents). handed (accepted (givenOf (getD (recordsOf m) i (unnamed black)))) .1) x ∙ z) (ℕ-discrete (c .lists) 1)
+        (ap (λ (m : Res Contents). byValue (accepted (givenOf (getD (recordsOf m) i (unnamed zeroColour)))) .1) x ∙ z) (ℕ-discrete (c .lists) 1)
     test c q x false h z = let w : _≡_ {A = ℕ} 0 1 = cc in absurd (omega arith)
 
-    go : (m : Res Contents) → aco s ≡ m → handed (recordAt i m) .1 ≡ accepted (p, u) → p + 2 * u ≤ length s
+    go : (m : Res Contents) → aco s ≡ m → byValue (recordAt i m) .1 ≡ accepted (p, u) → p + 2 * u ≤ length s
     go (ok c q) x z = test c q x (ltb i (length (c .records))) refl z
     go (refuse y r f g) x z = let w : _≡_ {A = ℕ} 0 1 = cc in absurd (omega arith)
 
 -- the part of the file that a name is
-pub name-part : (s : List ℕ) (v : Verdict Given) (p u : ℕ) → handed v .1 ≡ accepted (p, u) → take (p + 2 * u - p) (drop p s) ≡ nameBytesIn s v
+pub name-part : (s : List ℕ) (v : Verdict RecordRow) (p u : ℕ) → byValue v .1 ≡ accepted (p, u) → take (p + 2 * u - p) (drop p s) ≡ nameBytesIn s v
 name-part s (accepted g) p u e =
     let j = same-name e in
     let k : p + 2 * u - p ≡ 2 * g .units = omega arith in
     ap₂ (λ (m n : ℕ). take m (drop n s)) k (sym (j .0))
 name-part s (refused x q r f) p u e = let w : _≡_ {A = ℕ} 0 1 = cc in absurd (omega arith)
 
-pub name-none : (s : List ℕ) (v : Verdict Given) {x p r f : ℕ} → handed v .1 ≡ refused x p r f → [] ≡ nameBytesIn s v
+pub name-none : (s : List ℕ) (v : Verdict RecordRow) {x p r f : ℕ} → byValue v .1 ≡ refused x p r f → [] ≡ nameBytesIn s v
 name-none s (accepted g) e = let w : _≡_ {A = ℕ} 0 1 = cc in absurd (omega arith)
 name-none s (refused x p r f) e = refl

@@ -11,8 +11,8 @@ use Rattle.algebra.specs.Filling.{Accepted}
 use Rattle.algebra.proofs.Laws.{field-in}
 use Rattle.algebra.proofs.Table.{records-are}
 use Rattle.colour.specs.declared.space.Colour.{Colour}
-use Rattle.aco.specs.Reading.{Entry, black, unnamed, aco}
-use Rattle.aco.specs.Raw.{rawColour}
+use Rattle.aco.specs.Reading.{Entry, zeroColour, unnamed, aco}
+use Rattle.aco.specs.scaffold.Raw.{rawColour}
 use Rattle.aco.specs.Places.{entryPlace}
 use Rattle.aco.specs.Row.{withName, givenOf}
 use Rattle.aco.proofs.Inverse.{aco-inv}
@@ -51,7 +51,7 @@ unfolding entryPlace
 entry-first s n = refl
 
 abbrev pub nth : List ℕ → ℕ → Entry
-nth s i = getD (recordsOf (aco s)) i (unnamed black)
+nth s i = getD (recordsOf (aco s)) i (unnamed zeroColour)
 
 module _ (s : List ℕ) (n l : ℕ) (a : Accepted report (aco s) (n, l)) where
   pub many : length (a .0 .records) ≡ n
@@ -72,8 +72,8 @@ module _ (s : List ℕ) (n l : ℕ) (a : Accepted report (aco s) (n, l)) where
   pub length-records : length (recordsOf (aco s)) ≡ n
   length-records = ap length (records-are records report (aco s) a) ∙ many
 
-  nth-is : (i : ℕ) → nth s i ≡ getD (a .0 .records) i (unnamed black)
-  nth-is i = ap (λ (rs : List Entry). getD rs i (unnamed black)) (records-are records report (aco s) a)
+  nth-is : (i : ℕ) → nth s i ≡ getD (a .0 .records) i (unnamed zeroColour)
+  nth-is i = ap (λ (rs : List Entry). getD rs i (unnamed zeroColour)) (records-are records report (aco s) a)
 
   -- a file of one list
   module _ (one : l ≡ 1) (i : ℕ) (h : i < n) where
@@ -85,7 +85,7 @@ module _ (s : List ℕ) (n l : ℕ) (a : Accepted report (aco s) (n, l)) where
 
   -- a file of two lists
   module _ (two : l ≡ 2) (i : ℕ) (h : i < n) where
-    placed : Placed s i (getD (a .0 .records) i (unnamed black))
+    placed : Placed s i (getD (a .0 .records) i (unnamed zeroColour))
     placed = records-place s (a .2) (listed ∙ two) i (omega (arith, count-is))
 
     at-place : entryPlace s (num 2 s 2) i ≡ entryPlace s n i
@@ -102,7 +102,7 @@ module _ (s : List ℕ) (n l : ℕ) (a : Accepted report (aco s) (n, l)) where
 
     pub named-is : givenOf (nth s i) ≡ withName (rawColour s (4 + 10 * i)) (entryPlace s n i + 14) (num 4 s (entryPlace s n i + 10) - 1)
     named-is =
-        let e : Entry = getD (a .0 .records) i (unnamed black) in
+        let e : Entry = getD (a .0 .records) i (unnamed zeroColour) in
         ap givenOf (nth-is i) ∙ ap (λ (c : Colour). withName c (e .name .first) (length (e .name .units))) (placed .is)
         ∙ ap₂ (withName (rawColour s (4 + 10 * i))) (placed .first ∙ ap (λ (p : ℕ). p + 14) at-place) (placed .count ∙ ap (λ (p : ℕ). num 4 s (p + 10) - 1) at-place)
 

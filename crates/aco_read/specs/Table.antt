@@ -7,8 +7,8 @@ use Rattle.algebra.specs.Table.{Verdict, accepted, refused, seen}
 use Rattle.algebra.specs.Table as table
 use Rattle.algebra.specs.Filling.{recordsIn}
 use Rattle.colour.specs.declared.space.Colour.{Colour}
-use Rattle.aco.specs.Reading.{Entry, Contents, black, unnamed}
-use Rattle.aco.specs.Row.{Given, width, givenOf, row}
+use Rattle.aco.specs.Reading.{Entry, Contents, zeroColour, unnamed}
+use Rattle.aco.specs.Row.{RecordRow, width, givenOf, row}
 use Rattle.aco_judge.specs.Answer.{report}
 
 abbrev pub records : Contents → List Entry
@@ -19,16 +19,16 @@ abbrev pub filled : Res Contents → List ℕ → Verdict (ℕ × ℕ) × List �
 filled m t = table.filled width row records report m t
 
 -- record i, as its row gives it
-abbrev pub recordAt : ℕ → Res Contents → Verdict Given
-recordAt i m = seen givenOf (table.recordAt records (unnamed black) i m)
+abbrev pub recordAt : ℕ → Res Contents → Verdict RecordRow
+recordAt i m = seen givenOf (table.recordAt records (unnamed zeroColour) i m)
 
 -- the same by value: its colour, all zeros on a refusal, and where its name lies
-abbrev pub handed : Verdict Given → Colour × Verdict (ℕ × ℕ)
-handed (accepted g) = (record { space = g .space; samples = g .samples }, accepted (g .first, g .units))
-handed (refused x p r f) = (black, refused x p r f)
+abbrev pub byValue : Verdict RecordRow → Colour × Verdict (ℕ × ℕ)
+byValue (accepted g) = (record { space = g .space; samples = g .samples }, accepted (g .first, g .units))
+byValue (refused x p r f) = (zeroColour, refused x p r f)
 
 -- the bytes of a name's units in the file; none on a refusal
-abbrev pub nameBytesIn : List ℕ → Verdict Given → List ℕ
+abbrev pub nameBytesIn : List ℕ → Verdict RecordRow → List ℕ
 nameBytesIn s (accepted g) = part s (g .first) (2 * g .units)
 nameBytesIn s (refused x p r f) = []
 

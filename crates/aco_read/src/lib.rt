@@ -5,12 +5,12 @@ ghost use lib.ListN.{length};
 ghost use lib.Seq.{sets};
 ghost use Rattle.algebra.specs.Numbers.{joined};
 ghost use Rattle.algebra.specs.Filling.{Accepted};
-ghost use Rattle.aco.specs.Reading.{aco, black};
-ghost use Rattle.aco.specs.Raw.{rawColour};
+ghost use Rattle.aco.specs.Reading.{aco, zeroColour};
+ghost use Rattle.aco.specs.scaffold.Raw.{rawColour};
 ghost use Rattle.aco.specs.Places.{entryPlace};
 ghost use Rattle.aco.specs.Row.{width, numbers, withName, row};
 ghost use Rattle.aco_judge.specs.Answer.{told, report};
-ghost use Rattle.aco_read.specs.Table.{filled, recordAt, handed, nameBytesIn, recordsOf};
+ghost use Rattle.aco_read.specs.Table.{filled, recordAt, byValue, nameBytesIn, recordsOf};
 ghost use Rattle.aco_read.specs.Answer.{toldPlace, toldSwatch};
 use aco::WIDTH;
 use aco_judge::Answer;
@@ -34,7 +34,7 @@ pub enum NamePlace {
 }
 
 // A record: its colour, all zeros on a refusal, and its name.
-pub struct Swatch {
+pub struct SwatchRecord {
     pub colour: Colour,
     pub name: NamePlace,
 }
@@ -148,25 +148,25 @@ fn entry_place(file: &[u8], n: usize, i: usize) -> usize
 }
 
 // No record: a colour of zeros beside the refusal.
-fn none(name: NamePlace) -> Swatch
-    ensures { λ r. ⌜ toldSwatch r ≡ (black, toldPlace name) ⌝ }
+fn none(name: NamePlace) -> SwatchRecord
+    ensures { λ r. ⌜ toldSwatch r ≡ (zeroColour, toldPlace name) ⌝ }
 {
     let colour = Colour {
         space: 0,
         samples: [0; 4],
     };
-    Swatch { colour, name }
+    SwatchRecord { colour, name }
 }
 
 // Record i of an accepted file, which has it.
-fn found(file: &[u8], colours: usize, lists: usize, i: usize) -> Swatch
+fn found(file: &[u8], colours: usize, lists: usize, i: usize) -> SwatchRecord
     requires { ⌜ Accepted report (aco (now file)) (colours, lists) × (i < colours) ⌝ }
-    ensures { λ r. ⌜ toldSwatch r ≡ handed (recordAt i (aco (now (file .entry)))) ⌝ }
+    ensures { λ r. ⌜ toldSwatch r ≡ byValue (recordAt i (aco (now (file .entry)))) ⌝ }
 {
     let colour = colour_at(file, 4 + 10 * i);
     if lists == 1 {
         let name = NamePlace::At { place: 0, units: 0 };
-        return Swatch { colour, name };
+        return SwatchRecord { colour, name };
     }
     let p = entry_place(file, colours, i);
     let count = fields::u32_or_zero(file, p + 10);
@@ -174,12 +174,12 @@ fn found(file: &[u8], colours: usize, lists: usize, i: usize) -> Swatch
         place: p + 14,
         units: count - 1,
     };
-    Swatch { colour, name }
+    SwatchRecord { colour, name }
 }
 
 // Record i of a file.
-pub fn record_at(file: &[u8], i: usize) -> Swatch
-    ensures { λ r. ⌜ toldSwatch r ≡ handed (recordAt i (aco (now (file .entry)))) ⌝ }
+pub fn record_at(file: &[u8], i: usize) -> SwatchRecord
+    ensures { λ r. ⌜ toldSwatch r ≡ byValue (recordAt i (aco (now (file .entry)))) ⌝ }
 {
     match aco_judge::judge(file) {
         Answer::Refused { number, place } => none(NamePlace::Refused { number, place }),

@@ -16,8 +16,8 @@ use Rattle.aco.specs.Faults.{paletteFault}
 use Rattle.aco.proofs.Inverse.{aco-inv}
 use Rattle.aco.proofs.Faultless.{allowed-faultless}
 use Rattle.aco.proofs.RoundTrip.{accepted-allowed, allowed-written}
-use Rattle.aco.specs.Row.{Given}
-use Rattle.aco_records.specs.Writing.{size, fault, needed, written}
+use Rattle.aco.specs.Row.{RecordRow}
+use Rattle.aco_write_judge.specs.Writing.{size, fault, needed, written}
 use Rattle.algebra.specs.Writing.{bytes, refused}
 use Rattle.algebra.proofs.Writing.{Wrote, writes-inv, writes-all}
 use Rattle.aco_roundtrip.specs.Tie.{made, tabled}
@@ -25,10 +25,10 @@ use Rattle.aco_roundtrip.proofs.Fitting.{length-made, all-four, fault-s
 use Rattle.aco_roundtrip.proofs.Records.{palette-of, bare-of, length-bare, given-swatches, given-fit}
 
 -- what is known where a writer wrote n bytes
-abbrev pub Written : (text : List ℕ) (gs : List Given) (out : List ℕ) (n : ℕ) (out′ : List ℕ) → Type 0
+abbrev pub Written : (text : List ℕ) (gs : List RecordRow) (out : List ℕ) (n : ℕ) (out′ : List ℕ) → Type 0
 Written text gs out n out′ = Wrote (fault text gs) (size gs) (made text gs) out n out′
 
-pub written-inv : (text : List ℕ) (gs : List Given) (out : List ℕ) {n : ℕ} {out′ : List ℕ} → written text gs out ≡ (bytes n, out′) → Written text gs out n out′
+pub written-inv : (text : List ℕ) (gs : List RecordRow) (out : List ℕ) {n : ℕ} {out′ : List ℕ} → written text gs out ≡ (bytes n, out′) → Written text gs out n out′
 written-inv text gs out e = writes-inv (fault text gs) (size gs) (made text gs) out e
 
 module _ (s : List ℕ) (b : Bytes s) {c : Contents} {q : ℕ} (e : aco s ≡ ok c q) where

@@ -22,10 +22,10 @@ use Rattle.aco.specs.Faults as a
 use Rattle.aco.proofs.Written.{ownName}
 use Rattle.aco.proofs.Whole.{length-one, length-two}
 use Rattle.algebra.specs.Table.{rows}
-use Rattle.aco.specs.Row.{Given, width, taken}
-use Rattle.aco_records.specs.Writing.{swatchIn, sizes, size, foundIn, fault}
-use Rattle.aco_records.specs.Parts.{colourFault, nameFault}
-use Rattle.aco_records.proofs.Judging.{space-small, sample-large, name-inside}
+use Rattle.aco.specs.Row.{RecordRow, width, taken}
+use Rattle.aco_write_judge.specs.Writing.{swatchIn, sizes, size, foundIn, fault}
+use Rattle.aco_write_judge.specs.scaffold.Parts.{colourFault, nameFault}
+use Rattle.aco_write_judge.proofs.Judging.{space-small, sample-large, name-inside}
 use Rattle.aco_write.proofs.Puts.{length-entry}
 use Rattle.aco_roundtrip.specs.Tie.{made, Fitting}
 use Rattle.algebra.proofs.Firsts.{all-image, faults-same, test-holds}
@@ -33,14 +33,14 @@ use Rattle.algebra.proofs.Firsts.{all-image, faults-same, test-holds}
 -- ---- how long the file is
 
 module _ (names : List ℕ) where
-  length-entries : (i : ℕ) (gs : List Given) → All (λ k g. length (g .samples) ≡ 4) i gs → length (joined entryBytes (map (swatchIn names) gs)) + 10 * length gs ≡ sizes gs
+  length-entries : (i : ℕ) (gs : List RecordRow) → All (λ k g. length (g .samples) ≡ 4) i gs → length (joined entryBytes (map (swatchIn names) gs)) + 10 * length gs ≡ sizes gs
   unfolding joined sizes
   length-entries i [] h = refl
   length-entries i (g ∷ gs) h =
       omega (arith, length-append (entryBytes (swatchIn names g)) (joined entryBytes (map (swatchIn names) gs)), length-entry names g (h .0), length-entries (i + 1) gs (h .1))
 
   -- what is made is as long as the writer says
-  pub length-made : (gs : List Given) → All (λ k g. length (g .samples) ≡ 4) 0 gs → length (made names gs) ≡ size gs
+  pub length-made : (gs : List RecordRow) → All (λ k g. length (g .samples) ≡ 4) 0 gs → length (made names gs) ≡ size gs
   unfolding twoLists
   length-made gs h =
       let ws : List Swatch = map (swatchIn names) gs in
@@ -48,7 +48,7 @@ module _ (names : List ℕ) where
 
   -- ---- a record that fits has the faults of its swatch
 
-  module _ (g : Given) (f : Fitting names g) where
+  module _ (g : RecordRow) (f : Fitting names g) where
     found-none : foundIn names g ≡ 0
     found-none = ap numberOf (body-in 2 names (g .first) (g .units) (elim (ℕ-discrete (g .units) 0) [
       | yes z ↦ omega arith
@@ -65,7 +65,7 @@ module _ (names : List ℕ) where
       units = nums-lt 2 names bytes (g .units) (g .first) 0;
     }
 
-  module _ (gs : List Given) (fit : All (λ k g. Fitting names g) 0 gs) where
+  module _ (gs : List RecordRow) (fit : All (λ k g. Fitting names g) 0 gs) where
     pub all-four : All (λ k g. length (g .samples) ≡ 4) 0 gs
     all-four = all-map (λ k g. Fitting names g) (λ k g. length (g .samples) ≡ 4) (λ k g f. f .four) 0 gs fit
 
@@ -93,7 +93,7 @@ module _ (names : List ℕ) where
     | no h ↦ absurd (omega (arith, sample-large x k v (lt-of-not-le h)))
   ]
 
-  faultless-fits : (g : Given) → length (g .samples) ≡ 4 → 2 * g .units ≤ limit → colourFault g ≡ 0 → nameFault names g ≡ 0 → Fitting names g
+  faultless-fits : (g : RecordRow) → length (g .samples) ≡ 4 → 2 * g .units ≤ limit → colourFault g ≡ 0 → nameFault names g ≡ 0 → Fitting names g
   unfolding fieldsFault
   faultless-fits g four short cf nf =
       let x : ℕ = g .space in
@@ -105,12 +105,12 @@ module _ (names : List ℕ) where
         inside = λ h. omega (arith, rw (ne-eqb (g .units) 0 (λ z. omega arith)) at (name-inside names g nf));
       }
 
-  units-short : (i : ℕ) (gs : List Given) → sizes gs ≤ limit → All (λ k g. 2 * g .units ≤ limit) i gs
+  units-short : (i : ℕ) (gs : List RecordRow) → sizes gs ≤ limit → All (λ k g. 2 * g .units ≤ limit) i gs
   unfolding sizes
   units-short i [] h = tt
   units-short i (g ∷ gs) h = (omega arith, units-short (i + 1) gs (omega arith))
 
-  pub faultless-fit : (gs : List Given) → All (λ k g. length (g .samples) ≡ 4) 0 gs → fault names gs ≡ 0 → All (λ k g. Fitting names g) 0 gs
+  pub faultless-fit : (gs : List RecordRow) → All (λ k g. length (g .samples) ≡ 4) 0 gs → fault names gs ≡ 0 → All (λ k g. Fitting names g) 0 gs
   unfolding fault a.swatchesFault
   faultless-fit gs four e =
       let x = test-holds (leb (size gs) limit) _ 1 (omega arith) e in
@@ -119,8 +119,8 @@ module _ (names : List ℕ) where
       let cs = faults-inv (λ k. colourFault) 0 gs (faults-from colourFault 0 gs ∙ z .0) in
       let ns = faults-inv (λ k. nameFault names) 0 gs (faults-from (nameFault names) 0 gs ∙ z .1) in
       let us = units-short 0 gs (omega (arith, leb-true (size gs) limit (x .0))) in
-      let A : ℕ → Given → Type 0 = λ k g. (length (g .samples) ≡ 4) × (2 * g .units ≤ limit) in
-      let B : ℕ → Given → Type 0 = λ k g. (colourFault g ≡ 0) × (nameFault names g ≡ 0) in
+      let A : ℕ → RecordRow → Type 0 = λ k g. (length (g .samples) ≡ 4) × (2 * g .units ≤ limit) in
+      let B : ℕ → RecordRow → Type 0 = λ k g. (colourFault g ≡ 0) × (nameFault names g ≡ 0) in
       all-map (λ k g. A k g × B k g) (λ k g. Fitting names g) (λ k g h. faultless-fits g (h .0 .0) (h .0 .1) (h .1 .0) (h .1 .1)) 0 gs
       (all-both A B 0 gs (all-both (λ k g. length (g .samples) ≡ 4) (λ k g. 2 * g .units ≤ limit) 0 gs four us) (all-both (λ k g. colourFault g ≡ 0) (λ k g. nameFault names g ≡ 0) 0 gs cs ns))
 

@@ -9,16 +9,16 @@ use Rattle.algebra.specs.Numbers.{counted, num, nums, joined, Bytes, All}
 use Rattle.algebra.specs.Reader.{ok}
 use Rattle.algebra.proofs.Exact.{all-map, all-both, all-by}
 use Rattle.aco.specs.Grammar.{Swatch, Allowed, Palette, File, plain, named, entryBytes, listOne, listTwo, twoLists}
-use Rattle.aco.specs.Reading.{Entry, Contents, black, unnamed, aco, swatch}
+use Rattle.aco.specs.Reading.{Entry, Contents, zeroColour, unnamed, aco, swatch}
 use Rattle.aco.specs.Faults.{Fits}
 use Rattle.aco.proofs.Faultless.{allowed-fits}
 use Rattle.aco.proofs.Whole.{length-entry, length-one, length-two}
 use Rattle.aco.proofs.RoundTrip.{accepted-allowed, records-count, one-record, lists-are, Placed, records-place}
 use Rattle.algebra.specs.Table.{whole}
 use Rattle.algebra.proofs.Table.{whole-back}
-use Rattle.aco.specs.Row.{Given, width, taken, givenOf, row}
+use Rattle.aco.specs.Row.{RecordRow, width, taken, givenOf, row}
 use Rattle.aco.proofs.Row.{length-numbers, taken-numbers}
-use Rattle.aco_records.specs.Writing.{swatchIn}
+use Rattle.aco_write_judge.specs.Writing.{swatchIn}
 use Rattle.aco_roundtrip.specs.Tie.{tabled, Fitting}
 use Rattle.algebra.proofs.Firsts.{all-image, all-source}
 
@@ -49,9 +49,9 @@ lies-placed s i e p = record {
 }
 
 all-lie : (s : List ℕ) {c : Contents} {q : ℕ} → aco s ≡ ok c q → All (λ k e. Lies s e) 0 (c .records)
-all-lie s {c} e = all-by (λ k e. Lies s e) (unnamed black) 0 (c .records) (λ k h. go k (omega (arith, records-count s e)) (ℕ-discrete (c .lists) 1))
+all-lie s {c} e = all-by (λ k e. Lies s e) (unnamed zeroColour) 0 (c .records) (λ k h. go k (omega (arith, records-count s e)) (ℕ-discrete (c .lists) 1))
   where
-    go : (k : ℕ) → k < num 2 s 2 → Dec (c .lists ≡ 1) → Lies s (getD (c .records) k (unnamed black))
+    go : (k : ℕ) → k < num 2 s 2 → Dec (c .lists ≡ 1) → Lies s (getD (c .records) k (unnamed zeroColour))
     go k h (yes one) = lies-unnamed s _ (ap (λ (r : Entry). r .name .units) (one-record s e one k h))
     go k h (no z) = let l = lists-are s e in let two : c .lists ≡ 2 = omega arith in lies-placed s k _ (records-place s e two k h)
 
@@ -106,6 +106,6 @@ module _ (s : List ℕ) (bytes : Bytes s) {c : Contents} {q : ℕ} (e : aco s �
   -- they fit
   pub given-fit : All (λ k g. Fitting s g) 0 (tabled c)
   given-fit =
-      subst (λ (gs : List Given). All (λ k g. Fitting s g) 0 gs) (sym given-are)
+      subst (λ (gs : List RecordRow). All (λ k g. Fitting s g) 0 gs) (sym given-are)
       (all-image givenOf (λ k g. Fitting s g) 0 (c .records)
       (all-map (λ k e. Lies s e × Fits (swatch e)) (λ k e. Fitting s (givenOf e)) (λ k e h. taken-fits s e (h .0) (h .1)) 0 (c .records) (all-both (λ k e. Lies s e) (λ k e. Fits (swatch e)) 0 (c .records) (all-lie s e) all-fit)))

@@ -18,8 +18,8 @@ use Rattle.aco.specs.Faults.{paletteFault}
 use Rattle.aco.specs.Places.{entryPlace}
 use Rattle.aco.proofs.RoundTrip.{allowed-reads, written-number, written-allowed, two-lists, lists-agree, records-place}
 use Rattle.algebra.specs.Table.{whole}
-use Rattle.aco.specs.Row.{Given, width, taken}
-use Rattle.aco_records.specs.Writing.{swatchIn, size, fault, needed, written}
+use Rattle.aco.specs.Row.{RecordRow, width, taken}
+use Rattle.aco_write_judge.specs.Writing.{swatchIn, size, fault, needed, written}
 use Rattle.algebra.specs.Writing.{bytes}
 use Rattle.aco_roundtrip.specs.Tie.{Holds, made, tabled, Fitting}
 use Rattle.aco_roundtrip.proofs.Fitting.{length-made, all-four, all-fit, fault-same, faultless-fit, givens-four}
@@ -32,7 +32,7 @@ use Rattle.algebra.proofs.Firsts.{test-holds}
 pub written-reads : (text run : List ℕ) → Bytes text → fault text (whole width taken run) ≡ 0
     → Holds (made text (whole width taken run)) 2 (map (swatchIn text) (whole width taken run)) × (length (made text (whole width taken run)) ≡ size (whole width taken run))
 written-reads text run b e =
-    let gs : List Given = whole width taken run in
+    let gs : List RecordRow = whole width taken run in
     let ws : List Swatch = map (swatchIn text) gs in
     let fit = faultless-fit text gs (givens-four run _ 0 0) e in
     let x = test-holds (leb (length (twoLists ws)) limit) (paletteFault ws) 1 (omega arith) (sym (fault-same text gs fit) ∙ e) in
@@ -95,6 +95,6 @@ lists-agree-bytes s b e two i h =
 -- ---- refusals
 
 -- of records that fit their fields the writer's refusal, 11 aside, has the number that the reader gives for the bytes made of them; 0 is none
-pub refusals-agree : (text : List ℕ) → Bytes text → (gs : List Given) → length gs < 65536 → All (λ k g. Fitting text g) 0 gs → fault text gs ≡ numberOf (aco (made text gs))
+pub refusals-agree : (text : List ℕ) → Bytes text → (gs : List RecordRow) → length gs < 65536 → All (λ k g. Fitting text g) 0 gs → fault text gs ≡ numberOf (aco (made text gs))
 refusals-agree text b gs few fit =
     fault-same text gs fit ∙ sym (written-number (map (swatchIn text) gs) (omega (arith, length-map (swatchIn text) gs)) (all-fit text gs fit b))

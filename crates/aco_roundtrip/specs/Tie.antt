@@ -8,23 +8,23 @@ use Rattle.algebra.specs.Reader.{ok}
 use Rattle.aco.specs.Grammar.{Swatch, twoLists}
 use Rattle.aco.specs.Reading.{Contents, aco, swatch}
 use Rattle.algebra.specs.Table.{whole}
-use Rattle.aco.specs.Row.{Given, width, taken, row}
-use Rattle.aco_records.specs.Writing.{swatchIn}
+use Rattle.aco.specs.Row.{RecordRow, width, taken, row}
+use Rattle.aco_write_judge.specs.Writing.{swatchIn}
 
 -- the file b is accepted to its end, with l lists, and holds the swatches ws
 abbrev pub Holds : List ℕ → ℕ → List Swatch → Type 0
 Holds b l ws = (c : Contents) × (aco b ≡ ok c (length b)) × (c .lists ≡ l) × (map swatch (c .records) ≡ ws)
 
 -- the bytes that are made of given records, whose names lie in `text`
-abbrev pub made : List ℕ → List Given → List ℕ
+abbrev pub made : List ℕ → List RecordRow → List ℕ
 made text gs = twoLists (map (swatchIn text) gs)
 
 -- the records of a file that was read, given to a writer by the table that `read` fills
-abbrev pub tabled : Contents → List Given
+abbrev pub tabled : Contents → List RecordRow
 tabled c = whole width taken (joined row (c .records))
 
 -- a given record's numbers fit their fields, and its name, unless it is empty, lies in `text`; it may be refused all the same
-pub record Fitting (text : List ℕ) (g : Given) : Type 0 where
+pub record Fitting (text : List ℕ) (g : RecordRow) : Type 0 where
   pub small : g .space < 65536
   pub four : length (g .samples) ≡ 4
   pub each-small : All (λ k v. v < 65536) 0 (g .samples)

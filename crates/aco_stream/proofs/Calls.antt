@@ -13,7 +13,7 @@ use Rattle.algebra.specs.Table.{refused}
 use Rattle.aco_stream.specs.declared.Stream.{Stream}
 use Rattle.aco_chunks.specs.Chunks.{FileVerdict, size, begin, chunk, answer}
 use Rattle.aco_stream.specs.Answer.{progress, usable, roomy, room, ended, known, Starts, StartsBy, Feeds, FeedsBy, Finishes, FinishesBy}
-use Rattle.aco_stream.specs.Parts.{FeedsIn, FeedsInBy, FinishesIn, FinishesInBy}
+use Rattle.aco_stream.specs.scaffold.Parts.{FeedsIn, FeedsInBy, FinishesIn, FinishesInBy}
 
 module _ (s : Stream) where
   pub not-ended : s .ended ≡ true → usable s ≡ false

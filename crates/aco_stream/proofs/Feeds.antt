@@ -20,7 +20,7 @@ use Rattle.algebra.proofs.Places.{length-part, num-part}
 use Rattle.aco_chunks.specs.declared.Stage.{Stage}
 use Rattle.aco_chunks.specs.declared.Stage.the-variants as v
 use Rattle.aco_chunks.specs.Chunks.{size, item, after, kept, Progress, isFault, whole, carriedOn, unlessFault, limited, byte, chunk, unitDone, ending, answer}
-use Rattle.aco_stream.specs.Parts.{unitsPassed, Sparing}
+use Rattle.aco_stream.specs.scaffold.Parts.{unitsPassed, Sparing}
 use Rattle.algebra.specs.Table.{refused}
 use Rattle.aco_chunks.proofs.Cutting.{chunk-append}
 

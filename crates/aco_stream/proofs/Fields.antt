@@ -12,8 +12,8 @@ use Rattle.algebra.specs.Reader.{Res, ok, refuse, Reader, then, pick, rule, fie
 use Rattle.algebra.proofs.Inverse.{done-inv}
 use Rattle.algebra.proofs.Laws.{done-refuse, judged-short, judged-bad, judged-ok}
 use Rattle.colour.specs.declared.space.Colour.{Colour}
-use Rattle.aco.specs.Reading.{most, colour, heading, fieldOf, twin}
-use Rattle.aco.specs.Raw.{headed}
+use Rattle.aco.specs.Reading.{most, colour, heading, fieldOf, repeatedField}
+use Rattle.aco.specs.scaffold.Raw.{headed}
 use Rattle.aco_judge.proofs.Judging.{heading-refused, heading-is}
 use Rattle.aco_chunks.specs.Chunks.{loaded, entryHead, colourItem}
 use Rattle.aco.specs.Reading.{firstCount, secondCount}
@@ -47,7 +47,7 @@ countAt s a = judged 4 (λ n. unless (ltb 0 n) 8) s a
 
 -- from its field f, which stands at `at`
 abbrev pub titleLeft : ℕ → Colour → ℕ → List ℕ → ℕ → Res ℕ
-titleLeft i c f s at = then (each (5 - f) f (twin i c) s at) (λ vs a. countAt s a)
+titleLeft i c f s at = then (each (5 - f) f (repeatedField i c) s at) (λ vs a. countAt s a)
 
 pub loaded-field : (store : List ℕ) (at f : ℕ) → f < 5 → fieldOf (loaded store at) f ≡ orZero (field 2 store (at + 2 * f))
 loaded-field store at zero l = ap (λ (k : ℕ). orZero (field 2 store k)) (omega arith)
@@ -66,22 +66,22 @@ module _ (all : Res ℕ) (i : ℕ) (c : Colour) (f : ℕ) (s : List ℕ) (at : �
   here a = countAt s a
 
   pub field-cut : f < 5 → refuse 2 at 0 0 ≡ field 2 s at → all ≡ refuse 2 at 0 0
-  field-cut l e = inv ∙ row-off (twin i c) s here 5 f at l (judged-short 2 s at (λ v. pick (eqb v (fieldOf c f)) fine (fault 7 i f)) e)
+  field-cut l e = inv ∙ row-off (repeatedField i c) s here 5 f at l (judged-short 2 s at (λ v. pick (eqb v (fieldOf c f)) fine (fault 7 i f)) e)
 
   pub field-differs : f < 5 → {v n : ℕ} → ok v n ≡ field 2 s at → (v ≡ fieldOf c f → ⊥) → all ≡ refuse 7 at i f
-  field-differs l {v} e d = inv ∙ row-off (twin i c) s here 5 f at l (judged-bad 2 s at (λ v. pick (eqb v (fieldOf c f)) fine (fault 7 i f)) 7 i f e (ap (λ (b : Bool). pick b fine (fault 7 i f)) (ne-eqb v (fieldOf c f) d)))
+  field-differs l {v} e d = inv ∙ row-off (repeatedField i c) s here 5 f at l (judged-bad 2 s at (λ v. pick (eqb v (fieldOf c f)) fine (fault 7 i f)) 7 i f e (ap (λ (b : Bool). pick b fine (fault 7 i f)) (ne-eqb v (fieldOf c f) d)))
 
   pub field-same : f < 5 → {v n : ℕ} → ok v n ≡ field 2 s at → v ≡ fieldOf c f → all ≡ titleLeft i c (f + 1) s n
-  field-same l {v} e d = inv ∙ row-on (twin i c) s here 5 f at l (judged-ok 2 s at (λ v. pick (eqb v (fieldOf c f)) fine (fault 7 i f)) e (ap (λ (b : Bool). pick b fine (fault 7 i f)) (eq-eqb v (fieldOf c f) d)))
+  field-same l {v} e d = inv ∙ row-on (repeatedField i c) s here 5 f at l (judged-ok 2 s at (λ v. pick (eqb v (fieldOf c f)) fine (fault 7 i f)) e (ap (λ (b : Bool). pick b fine (fault 7 i f)) (eq-eqb v (fieldOf c f) d)))
 
   pub count-cut : 5 ≤ f → refuse 2 at 0 0 ≡ field 4 s at → all ≡ refuse 2 at 0 0
-  count-cut l e = inv ∙ row-end (twin i c) s here 5 f at l ∙ judged-short 4 s at (λ n. unless (ltb 0 n) 8) e
+  count-cut l e = inv ∙ row-end (repeatedField i c) s here 5 f at l ∙ judged-short 4 s at (λ n. unless (ltb 0 n) 8) e
 
   pub count-none : 5 ≤ f → {v n : ℕ} → ok v n ≡ field 4 s at → v ≡ 0 → all ≡ refuse 8 at 0 0
-  count-none l {v} e z = inv ∙ row-end (twin i c) s here 5 f at l ∙ judged-bad 4 s at (λ n. unless (ltb 0 n) 8) 8 0 0 e (ap (λ (b : Bool). unless b 8) (le-ltb 0 v (omega arith)))
+  count-none l {v} e z = inv ∙ row-end (repeatedField i c) s here 5 f at l ∙ judged-bad 4 s at (λ n. unless (ltb 0 n) 8) 8 0 0 e (ap (λ (b : Bool). unless b 8) (le-ltb 0 v (omega arith)))
 
   pub count-some : 5 ≤ f → {v n : ℕ} → ok v n ≡ field 4 s at → (v ≡ 0 → ⊥) → all ≡ ok v n
-  count-some l {v} e z = inv ∙ row-end (twin i c) s here 5 f at l ∙ judged-ok 4 s at (λ n. unless (ltb 0 n) 8) e (ap (λ (b : Bool). unless b 8) (lt-ltb 0 v (omega arith)))
+  count-some l {v} e z = inv ∙ row-end (repeatedField i c) s here 5 f at l ∙ judged-ok 4 s at (λ n. unless (ltb 0 n) 8) e (ap (λ (b : Bool). unless b 8) (lt-ltb 0 v (omega arith)))
 
 -- ---- a heading, a colour
 

@@ -20,7 +20,7 @@ use Rattle.algebra.proofs.Places.{length-part, num-part}
 use Rattle.aco_chunks.specs.declared.Stage.{Stage}
 use Rattle.aco_chunks.specs.declared.Stage.the-variants as v
 use Rattle.aco_chunks.specs.Chunks.{Progress, colourItem, colours, entries, entryHead, loaded, after, kept}
-use Rattle.aco_stream.specs.Parts.{Due, Sounds, isOk, coloursPassed, Closed, NamedAt, Recorded, recordPassed}
+use Rattle.aco_stream.specs.scaffold.Parts.{Due, Sounds, isOk, coloursPassed, Closed, NamedAt, Recorded, recordPassed}
 use Rattle.aco_stream.proofs.Feeds.{Rest, turn-item, units-turn}
 use Rattle.aco_stream.proofs.Steps.{last-closes}
 

@@ -1,5 +1,5 @@
 -- What each answer of the code says.
-use Prim.Native.Nat.{ℕ, _<_}
+use Prim.Native.Nat.{ℕ}
 use mathlib.Core.Path.{_≡_}
 use mathlib.Core.Bool.{Bool, true, false}
 use lib.Dec.{leb, ltb, eqb}
@@ -7,16 +7,10 @@ use mathlib.Core.List.{List}
 use lib.ListN.{take, drop, length}
 use Rattle.aco_stream.specs.declared.Stream.{Stream}
 use Rattle.aco_chunks.specs.Chunks.{FileVerdict, Progress, size, chunk, begin, answer}
-use Rattle.algebra.specs.Reader.{Res, ok, refuse, pick}
+use Rattle.algebra.specs.Reader.{pick}
 use Rattle.algebra.specs.Table.{accepted, refused}
 use Rattle.aco_stream.specs.declared.Answer.{Answer}
 use Rattle.aco_stream.specs.declared.Answer.the-variants as va
-use Rattle.aco_stream.specs.declared.Item.{Item}
-use Rattle.aco_stream.specs.declared.Item.the-variants as vi
-
-abbrev pub toldItem : Item → Res ℕ
-toldItem (vi.Is u q) = ok u q
-toldItem (vi.Refused x p r f) = refuse x p r f
 
 -- what a state and a store keep; places of the carried bytes past those that came count for nothing
 abbrev pub progress : Stream → List ℕ → Progress

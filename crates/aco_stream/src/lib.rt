@@ -10,19 +10,19 @@ ghost use lib.ListN.{length};
 ghost use Rattle.algebra.specs.Reader.{limit, ok};
 ghost use Rattle.aco_chunks.specs.Chunks.{size, item, next, after, kept, entryHead, loaded, colours, entries, unitDone, isFault, chunk, cut, ending};
 ghost use Rattle.aco_stream.specs.Answer.{progress, told, known, Starts, Feeds, Finishes};
-ghost use Rattle.aco_stream.specs.Parts.{Sparing, unitsPassed, Due, Sounds, coloursPassed, Closed, Recorded, recordPassed, openStream, FeedsIn, FinishesIn};
+ghost use Rattle.aco_stream.specs.scaffold.Parts.{Sparing, unitsPassed, Due, Sounds, coloursPassed, Closed, Recorded, recordPassed, openStream, FeedsIn, FinishesIn};
 ghost use Rattle.algebra.specs.Numbers.{nums};
 ghost use Rattle.algebra.specs.Text.{anyZero};
 ghost use mathlib.Core.Bool.{false};
 ghost use lib.Dec.{eqb};
-ghost use Rattle.aco_stream.specs.Answer.{toldItem};
+ghost use Rattle.aco_stream.specs.scaffold.Answer.{toldItem};
 use aco::LIMIT;
 use aco::MOST;
 use aco_chunks::Stage;
 use aco_judge::Heading;
+use fields::FieldEnd;
 use fields::Number16;
 use fields::Number32;
-use fields::Step;
 
 // The bytes of a store.
 pub const STORE: usize = 40960;
@@ -98,8 +98,8 @@ fn item_of(stage: Stage, store: &[u8], bytes: &[u8]) -> Item
             }
         },
         Stage::Colour(_, _) => match aco_judge::colour_at(bytes, 0) {
-            Step::Next(next) => Item::Is(0, next),
-            Step::Refused(x, q) => Item::Refused(x, q, 0, 0),
+            FieldEnd::Next(next) => Item::Is(0, next),
+            FieldEnd::Refused(x, q) => Item::Refused(x, q, 0, 0),
         },
         Stage::Second(count) => match aco_judge::heading_at(bytes, 0, 2) {
             Heading::Refused(x, q) => Item::Refused(x, q, 0, 0),
@@ -287,8 +287,8 @@ fn units_of(stage: Stage, bytes: &[u8], at: usize, k: u32) -> Stage
     ensures { λ r. ⌜ r ≡ unitsPassed stage k (anyZero (nums 2 k (now (bytes .entry)) at)) ⌝ }
 {
     match names::text_at(bytes, at, k) {
-        Step::Next(_) => passed(stage, k, false),
-        Step::Refused(_, _) => passed(stage, k, true),
+        FieldEnd::Next(_) => passed(stage, k, false),
+        FieldEnd::Refused(_, _) => passed(stage, k, true),
     }
 }
 
@@ -329,11 +329,11 @@ fn sound_in(bytes: &[u8], at: usize, n: usize) -> usize
     while k < n {
         let e = p + 10;
         match aco_judge::colour_at(&bytes[p..e], 0) {
-            Step::Next(_) => {
+            FieldEnd::Next(_) => {
                 p = e;
                 k += 1;
             }
-            Step::Refused(_, _) => {
+            FieldEnd::Refused(_, _) => {
                 return k;
             }
         }
@@ -387,8 +387,8 @@ fn name_end(bytes: &[u8], at: usize, m: u32) -> usize
         return 0;
     }
     match names::text_at(bytes, at, k) {
-        Step::Next(_) => last + 2,
-        Step::Refused(_, _) => 0,
+        FieldEnd::Next(_) => last + 2,
+        FieldEnd::Refused(_, _) => 0,
     }
 }
 
@@ -477,7 +477,7 @@ fn opened(stage: Stage, total: usize, got: usize, carry: [u8; 14]) -> Stream
 }
 
 // Bytes that stay within the limit.
-fn run(state: Stream, store: &mut [u8], bytes: &[u8]) -> Stream
+fn feed_within(state: Stream, store: &mut [u8], bytes: &[u8]) -> Stream
     requires { ⌜ (state .got < size (state .stage)) × (state .total + length (now bytes) ≤ limit) ⌝ }
     ensures { λ r. ⌜ (progress r (now (store .exit)) ≡ chunk (progress state (now (store .entry))) (now (bytes .entry))) × (r .got < size (r .stage)) × (r .ended ≡ false) × (length (now (store .exit)) ≡ length (now (store .entry))) ⌝ }
 {
@@ -587,7 +587,7 @@ fn feed_in(state: Stream, store: &mut [u8], bytes: &[u8]) -> Fed
     }
     let room = LIMIT - total;
     let n = least(room, bytes.len());
-    let mut next = run(state, store, &bytes[..n]);
+    let mut next = feed_within(state, store, &bytes[..n]);
     if room < bytes.len() {
         next.total = LIMIT + 1;
         return Fed {

@@ -13,7 +13,7 @@ use Rattle.algebra.specs.Text.{Name, name, place}
 use Rattle.algebra.proofs.Inverse.{clash, ok-value, ok-place, done-inv}
 use Rattle.colour.specs.declared.space.Colour.{Colour}
 use Rattle.colour.specs.Spaces.{known, allowed, sound}
-use Rattle.aco.specs.Reading.{colour, Entry, Contents, black, unnamed, aco}
+use Rattle.aco.specs.Reading.{colour, Entry, Contents, zeroColour, unnamed, aco}
 use Rattle.algebra.specs.Table.{accepted, refused, verdict}
 use Rattle.aco_judge.specs.Answer.{report}
 use Rattle.aco.proofs.Raw.{Good, colour-inv}
@@ -22,16 +22,17 @@ use Rattle.aco_read.proofs.Filling.{five}
 use Rattle.algebra.proofs.Table.{accepted-of, refused-of}
 use Rattle.walk.specs.Walk as w
 use Rattle.walk.proofs.Calls.{step-over, step-elsewhere}
-use Rattle.aco_walk.specs.Walking.{countOf, isPlain, firstPlace, titled, labelled, swatchFrom, walk, lentOf, starts, refusal, startOf}
-use Rattle.aco_walk.specs.Answer.{handed, tested}
+use Rattle.aco_walk.specs.Walking.{countOf, isPlain, firstPlace, namedEntry, labelled, swatchFrom, walk, lentOf, starts, refusal, startOf}
+use Rattle.aco_walk.specs.Answer.{callAndPlace}
+use Rattle.aco_walk.specs.scaffold.Answer.{tested}
 use Rattle.aco_walk.proofs.Swatches.{fine-sound}
 
 -- ---- a colour
 
-pub tested-short : (s : List ℕ) (at : ℕ) → (at + 10 ≤ length s → ⊥) → (black, false) ≡ tested (colour s at)
+pub tested-short : (s : List ℕ) (at : ℕ) → (at + 10 ≤ length s → ⊥) → (zeroColour, false) ≡ tested (colour s at)
 tested-short s at h = go (colour s at) refl
   where
-    go : (m : Res Colour) → colour s at ≡ m → (black, false) ≡ tested m
+    go : (m : Res Colour) → colour s at ≡ m → (zeroColour, false) ≡ tested m
     go (ok c q) e = absurd (h (colour-inv s at e .2 .inside))
     go (refuse x p r f) e = refl
 
@@ -44,10 +45,10 @@ module _ (s : List ℕ) (at x a b c d : ℕ) (h : at + 10 ≤ length s) (ex : x 
       allow : (k v n : ℕ) → k < 4 → v ≡ num 2 s n → n ≡ at + 2 + 2 * k → allowed x k v ≡ true
       allow k v n l e p = ap₂ (λ (y z : ℕ). allowed y k z) ex (e ∙ ap (num 2 s) p) ∙ g .are-allowed k l
 
-  pub tested-unsound : sound x (a ∷ b ∷ c ∷ d ∷ []) ≡ false → (black, false) ≡ tested (colour s at)
+  pub tested-unsound : sound x (a ∷ b ∷ c ∷ d ∷ []) ≡ false → (zeroColour, false) ≡ tested (colour s at)
   tested-unsound u = go (colour s at) refl
     where
-      go : (m : Res Colour) → colour s at ≡ m → (black, false) ≡ tested m
+      go : (m : Res Colour) → colour s at ≡ m → (zeroColour, false) ≡ tested m
       go (ok y q) e = absurd (true≢false (sym (good-sound (colour-inv s at e .2)) ∙ u))
       go (refuse y p r f) e = refl
 
@@ -59,42 +60,42 @@ module _ (s : List ℕ) (at x a b c d : ℕ) (h : at + 10 ≤ length s) (ex : x 
 -- ---- what follows it
 
 module _ (s : List ℕ) (at : ℕ) (c : Colour) where
-  pub labelled-plain : isPlain s ≡ true → (c, w.gives (0, 0), at) ≡ handed (w.answered (length s) (labelled c s at))
+  pub labelled-plain : isPlain s ≡ true → (c, w.gives (0, 0), at) ≡ callAndPlace (w.answered (length s) (labelled c s at))
   unfolding labelled
-  labelled-plain p = sym (ap (λ (b : Bool). handed (w.answered (length s) (pick b (ok (unnamed c) at) (then (name 4 s at) (λ nm q. ok (titled c nm) q))))) p)
+  labelled-plain p = sym (ap (λ (b : Bool). callAndPlace (w.answered (length s) (pick b (ok (unnamed c) at) (then (name 4 s at) (λ nm q. ok (namedEntry c nm) q))))) p)
 
-  labelled-by : isPlain s ≡ false → labelled c s at ≡ then (name 4 s at) (λ nm q. ok (titled c nm) q)
+  labelled-by : isPlain s ≡ false → labelled c s at ≡ then (name 4 s at) (λ nm q. ok (namedEntry c nm) q)
   unfolding labelled
-  labelled-by p = ap (λ (b : Bool). pick b (ok (unnamed c) at) (then (name 4 s at) (λ nm q. ok (titled c nm) q))) p
+  labelled-by p = ap (λ (b : Bool). pick b (ok (unnamed c) at) (then (name 4 s at) (λ nm q. ok (namedEntry c nm) q))) p
 
-  pub labelled-named : isPlain s ≡ false → {f u q : ℕ} → ok (f, u) q ≡ place (name 4 s at) → (c, w.gives (f, u), q) ≡ handed (w.answered (length s) (labelled c s at))
-  labelled-named p {f} {u} {q} e = go (name 4 s at) e ∙ sym (ap (λ (m : Res Entry). handed (w.answered (length s) m)) (labelled-by p))
+  pub labelled-named : isPlain s ≡ false → {f u q : ℕ} → ok (f, u) q ≡ place (name 4 s at) → (c, w.gives (f, u), q) ≡ callAndPlace (w.answered (length s) (labelled c s at))
+  labelled-named p {f} {u} {q} e = go (name 4 s at) e ∙ sym (ap (λ (m : Res Entry). callAndPlace (w.answered (length s) m)) (labelled-by p))
     where
-      go : (m : Res Name) → ok (f, u) q ≡ place m → (c, w.gives (f, u), q) ≡ handed (w.answered (length s) (then m (λ nm q. ok (titled c nm) q)))
+      go : (m : Res Name) → ok (f, u) q ≡ place m → (c, w.gives (f, u), q) ≡ callAndPlace (w.answered (length s) (then m (λ nm q. ok (namedEntry c nm) q)))
       go (ok nm r) z =
           let v : _≡_ {A = ℕ × ℕ} (f, u) (nm .first, length (nm .units)) = ok-value z in
           ap₂ (λ (g : ℕ × ℕ) (n : ℕ). (c, w.gives g, n)) v (ok-place z)
       go (refuse x y r g) z = clash (sym z)
 
-  pub labelled-lost : isPlain s ≡ false → {x y : ℕ} → refuse x y 0 0 ≡ place (name 4 s at) → handed (w.lost (length s)) ≡ handed (w.answered (length s) (labelled c s at))
-  labelled-lost p {x} {y} e = go (name 4 s at) e ∙ sym (ap (λ (m : Res Entry). handed (w.answered (length s) m)) (labelled-by p))
+  pub labelled-lost : isPlain s ≡ false → {x y : ℕ} → refuse x y 0 0 ≡ place (name 4 s at) → callAndPlace (w.lost (length s)) ≡ callAndPlace (w.answered (length s) (labelled c s at))
+  labelled-lost p {x} {y} e = go (name 4 s at) e ∙ sym (ap (λ (m : Res Entry). callAndPlace (w.answered (length s) m)) (labelled-by p))
     where
-      go : (m : Res Name) → refuse x y 0 0 ≡ place m → handed (w.lost (length s)) ≡ handed (w.answered (length s) (then m (λ nm q. ok (titled c nm) q)))
+      go : (m : Res Name) → refuse x y 0 0 ≡ place m → callAndPlace (w.lost (length s)) ≡ callAndPlace (w.answered (length s) (then m (λ nm q. ok (namedEntry c nm) q)))
       go (ok nm r) z = clash z
       go (refuse z p r g) k = refl
 
 -- ---- the step
 
 module _ (s : List ℕ) (at : ℕ) where
-  pub walk-over : at ≡ length s → (black, w.over, at) ≡ handed (walk s at)
-  walk-over e = sym (ap handed (step-over swatchFrom s at e))
+  pub walk-over : at ≡ length s → (zeroColour, w.over, at) ≡ callAndPlace (walk s at)
+  walk-over e = sym (ap callAndPlace (step-over swatchFrom s at e))
 
   module _ (apart : at ≡ length s → ⊥) where
-    pub walk-lost : {c : Colour} → (c, false) ≡ tested (colour s at) → handed (w.lost (length s)) ≡ handed (walk s at)
+    pub walk-lost : {c : Colour} → (c, false) ≡ tested (colour s at) → callAndPlace (w.lost (length s)) ≡ callAndPlace (walk s at)
     unfolding swatchFrom
-    walk-lost {c} t = go (colour s at) t ∙ sym (ap handed (step-elsewhere swatchFrom s at apart))
+    walk-lost {c} t = go (colour s at) t ∙ sym (ap callAndPlace (step-elsewhere swatchFrom s at apart))
       where
-        go : (m : Res Colour) → (c, false) ≡ tested m → handed (w.lost (length s)) ≡ handed (w.answered (length s) (then m (λ c q. labelled c s q)))
+        go : (m : Res Colour) → (c, false) ≡ tested m → callAndPlace (w.lost (length s)) ≡ callAndPlace (w.answered (length s) (then m (λ c q. labelled c s q)))
         go (ok x q) z = absurd (true≢false (sym (ap (λ (y : Colour × Bool). y .1) z)))
         go (refuse x p r f) z = refl
 
@@ -106,9 +107,9 @@ module _ (s : List ℕ) (at : ℕ) where
         go (ok x q) e z = ap₂ (λ (y : Colour) (n : ℕ). ok y n) (sym (ap (λ (y : Colour × Bool). y .0) z)) (sym (colour-inv s at e .1))
         go (refuse x p r f) e z = absurd (true≢false (ap (λ (y : Colour × Bool). y .1) z))
 
-    pub walk-labelled : {c : Colour} → (c, true) ≡ tested (colour s at) → handed (w.answered (length s) (labelled c s (at + 10))) ≡ handed (walk s at)
+    pub walk-labelled : {c : Colour} → (c, true) ≡ tested (colour s at) → callAndPlace (w.answered (length s) (labelled c s (at + 10))) ≡ callAndPlace (walk s at)
     unfolding swatchFrom
-    walk-labelled {c} t = sym (ap handed (step-elsewhere swatchFrom s at apart ∙ ap (λ (m : Res Colour). w.answered (length s) (then m (λ c q. labelled c s q))) (tested-reads t)))
+    walk-labelled {c} t = sym (ap callAndPlace (step-elsewhere swatchFrom s at apart ∙ ap (λ (m : Res Colour). w.answered (length s) (then m (λ c q. labelled c s q))) (tested-reads t)))
 
 -- ---- the start
 

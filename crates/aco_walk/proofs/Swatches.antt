@@ -17,12 +17,12 @@ use Rattle.algebra.proofs.Places.{length-nums, getD-nums}
 use Rattle.algebra.proofs.Inverse.{then-inv, done-inv, fields-inv}
 use Rattle.colour.specs.declared.space.Colour.{Colour}
 use Rattle.colour.specs.Spaces.{uses, full, known, chrominance, ranged, allowed, allAllowed, sound}
-use Rattle.aco.specs.Reading.{colour, fieldOf, twin, Entry, entry, black, unnamed, compared}
-use Rattle.aco.specs.Raw.{rawColour}
+use Rattle.aco.specs.Reading.{colour, fieldOf, repeatedField, Entry, entry, zeroColour, unnamed, compared}
+use Rattle.aco.specs.scaffold.Raw.{rawColour}
 use Rattle.aco.proofs.Raw.{Good, colour-inv, colours-good, getD-raw, field-raw}
 use Rattle.aco_judge.proofs.Judging.{colour-sound}
 use Rattle.aco.proofs.Inverse.{First, entry-inv}
-use Rattle.aco_walk.specs.Walking.{countOf, isPlain, firstPlace, titled, labelled, swatchFrom}
+use Rattle.aco_walk.specs.Walking.{countOf, isPlain, firstPlace, namedEntry, labelled, swatchFrom}
 
 -- ---- colours that the layout allows
 
@@ -54,11 +54,11 @@ zero-allowed x k = go (ltb k (uses x)) (eqb x 7 && ltb 0 k)
     go true false = le-leb 0 (full x) (omega arith)
     go false p = refl
 
-fine-black : Fine black
+fine-zero-colour : Fine zeroColour
 unfolding known uses
-fine-black = record { four = refl; is-known = refl; are-allowed = λ k h. ap (allowed 0 k) (zeros k) ∙ zero-allowed 0 k }
+fine-zero-colour = record { four = refl; is-known = refl; are-allowed = λ k h. ap (allowed 0 k) (zeros k) ∙ zero-allowed 0 k }
   where
-    zeros : (k : ℕ) → getD (black .samples) k 0 ≡ 0
+    zeros : (k : ℕ) → getD (zeroColour .samples) k 0 ≡ 0
     zeros zero = refl
     zeros (suc zero) = refl
     zeros (suc (suc zero)) = refl
@@ -66,15 +66,15 @@ fine-black = record { four = refl; is-known = refl; are-allowed = λ k h. ap (al
     zeros (suc (suc (suc (suc k)))) = refl
 
 -- every colour of list 1, and what stands for one that it does not have
-pub first-fine : (s : List ℕ) (cs : List Colour) (r : ℕ) → First s cs r → (k : ℕ) → Fine (getD cs k black)
+pub first-fine : (s : List ℕ) (cs : List Colour) (r : ℕ) → First s cs r → (k : ℕ) → Fine (getD cs k zeroColour)
 first-fine s cs r f k = go (ltb k (length cs)) refl
   where
-    go : (b : Bool) → ltb k (length cs) ≡ b → Fine (getD cs k black)
+    go : (b : Bool) → ltb k (length cs) ≡ b → Fine (getD cs k zeroColour)
     go true h =
         let l : k < length cs = ltb-true k (length cs) h in
-        let e : getD cs k black ≡ rawColour s (4 + 10 * k) = ap (λ (l : List Colour). getD l k black) (f .are) ∙ getD-raw (length cs) s 4 k l in
+        let e : getD cs k zeroColour ≡ rawColour s (4 + 10 * k) = ap (λ (l : List Colour). getD l k zeroColour) (f .are) ∙ getD-raw (length cs) s 4 k l in
         subst Fine (sym e) (good-fine s (4 + 10 * k) (colours-good s (length cs) 0 4 (f .list) k l))
-    go false h = subst Fine (sym (List·getD-eq-default cs black (ltb-false k (length cs) h))) fine-black
+    go false h = subst Fine (sym (List·getD-eq-default cs zeroColour (ltb-false k (length cs) h))) fine-zero-colour
 
 -- such a colour is read where its fields stand
 pub fine-reads : (s : List ℕ) (at : ℕ) (c : Colour) → Fine c → at + 10 ≤ length s → ((f : ℕ) → f < 5 → num 2 s (at + 2 * f) ≡ fieldOf c f) → colour s at ≡ ok c (at + 10)
@@ -97,18 +97,18 @@ fine-reads s at c g h same =
 
 pub plain-item : (s : List ℕ) → isPlain s ≡ true → (at : ℕ) (c : Colour) (q : ℕ) → colour s at ≡ ok c q → (swatchFrom s at ≡ ok (unnamed c) q) × (at < length s)
 unfolding swatchFrom labelled
-plain-item s p at c q e = (rw e (ap (λ (b : Bool). pick b (ok (unnamed c) q) (then (name 4 s q) (λ nm z. ok (titled c nm) z))) p), omega (arith, colour-inv s at e .2 .inside))
+plain-item s p at c q e = (rw e (ap (λ (b : Bool). pick b (ok (unnamed c) q) (then (name 4 s q) (λ nm z. ok (namedEntry c nm) z))) p), omega (arith, colour-inv s at e .2 .inside))
 
 pub named-item : (s : List ℕ) → isPlain s ≡ false → (k : ℕ) (c : Colour) → Fine c → (at : ℕ) (e : Entry) (q : ℕ) → entry k c s at ≡ ok e q → (swatchFrom s at ≡ ok e q) × (at < length s)
 unfolding swatchFrom labelled entry
 named-item s p k c g at e q x =
     let j : ℕ → ℕ → Judged = compared k c in
-    let t = then-inv (each 5 0 (twin k c) s at) _ x in
+    let t = then-inv (each 5 0 (repeatedField k c) s at) _ x in
     let ten : at + 10 ≡ t .1 = omega (arith, fields-inv 2 j s 5 0 at (t .2) .1) in
     let i = entry-inv k c s at x in
     let le : at + 10 ≤ length s = omega (arith, i .next, i .inside) in
     let r : colour s at ≡ ok c (t .1) = fine-reads s at c g le (i .same) ∙ ap (λ (n : ℕ). ok c n) ten in
-    (rw r (ap (λ (b : Bool). pick b (ok (unnamed c) (t .1)) (then (name 4 s (t .1)) (λ nm z. ok (titled c nm) z))) p ∙ t .3), omega arith)
+    (rw r (ap (λ (b : Bool). pick b (ok (unnamed c) (t .1)) (then (name 4 s (t .1)) (λ nm z. ok (namedEntry c nm) z))) p ∙ t .3), omega arith)
 
 -- ---- which list it is
 

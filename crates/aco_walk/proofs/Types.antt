@@ -3,11 +3,11 @@ use mathlib.Core.Path.{refl}
 use denote.Struct.Laws as LL
 use Rattle.walk.proofs.Kind.{any, Kind, Answer, Both}
 use Rattle.aco_walk.specs.declared.Walker.{Walker}
-use Rattle.aco_walk.specs.declared.Turn.{Turn}
+use Rattle.aco_walk.specs.declared.WalkerStep.{WalkerStep}
 use Rattle.aco_walk.proofs.Walker as T
-use Rattle.aco_walk.proofs.Step as S
-use Rattle.aco_walk.proofs.Step.Laws as S′
-use Rattle.aco_walk.proofs.Turn as R
+use Rattle.aco_walk.proofs.ColourStep as S
+use Rattle.aco_walk.proofs.ColourStep.Laws as S′
+use Rattle.aco_walk.proofs.WalkerStep as R
 
 abbrev pub walker : Kind
 walker = record {
@@ -33,7 +33,7 @@ answer = record {
 abbrev pub turn : Both answer walker
 turn = record {
   name = R.the-type any .name;
-  D = Turn;
+  D = WalkerStep;
   to = λ t. (S.the-type .to (t .step), (walker .to (t .walker), tt));
   one = λ a. R.the-type a .to-one;
   made = λ r w. record { step = r; walker = w };

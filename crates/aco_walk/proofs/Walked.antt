@@ -15,7 +15,7 @@ use Rattle.algebra.proofs.Exact.{map-id}
 use Rattle.algebra.proofs.Places.{length-nums}
 use Rattle.algebra.proofs.Texts.{length-front}
 use Rattle.colour.specs.declared.space.Colour.{Colour}
-use Rattle.aco.specs.Reading.{colour, Entry, entry, Contents, black, unnamed, aco, secondCount}
+use Rattle.aco.specs.Reading.{colour, Entry, entry, Contents, zeroColour, unnamed, aco, secondCount}
 use Rattle.aco.proofs.Raw.{colour-inv}
 use Rattle.aco.proofs.Inverse.{First, Then, one, two, heading-inv, aco-inv}
 use Rattle.aco_read.specs.Table.{recordsOf}
@@ -23,7 +23,7 @@ use Rattle.walk.specs.Walk.{gives, refused, after, call, inTurn}
 use Rattle.walk.proofs.Calls.{Walks, calls-are, after-calls, each-walks, step-over, step-read, step-five, step-past, lost-stays}
 use Rattle.walk.specs.Names.{namePart}
 use Rattle.walk.proofs.Names.{part-is}
-use Rattle.aco_walk.specs.Walking.{isPlain, firstPlace, titled, labelled, swatchFrom, walk, lentOf, called, following}
+use Rattle.aco_walk.specs.Walking.{isPlain, firstPlace, namedEntry, labelled, swatchFrom, walk, lentOf, called, following}
 use Rattle.aco_walk.specs.declared.Walker.{Walker}
 use Rattle.aco_walk.proofs.Swatches.{first-fine, plain-item, named-item, one-plain, two-named}
 
@@ -41,7 +41,7 @@ accepted-walks s {c} {q} e = let i = aco-inv s e in go (i .0) (i .1) (i .2) (i .
     go cs r f (two es y hd list end x z) =
         let h = heading-inv 2 (secondCount (length cs)) s r hd in
         let p = two-named s (length cs) (f .count) (omega (arith, f .end, h .3)) in
-        let w = each-walks swatchFrom (λ (e : Entry). e) s (λ k. entry k (getD cs k black)) (λ k at a b h. named-item s (p .0) k (getD cs k black) (first-fine s cs r f k) at a b h) (length cs) 0 (r + 4) list end in
+        let w = each-walks swatchFrom (λ (e : Entry). e) s (λ k. entry k (getD cs k zeroColour)) (λ k at a b h. named-item s (p .0) k (getD cs k zeroColour) (first-fine s cs r f k) at a b h) (length cs) 0 (r + 4) list end in
         let at : r + 4 ≡ firstPlace s = omega (arith, f .end, p .1) in
         subst (λ (v : Contents). Walks (walk s) (firstPlace s) (v .records)) x
         (subst (λ (n : ℕ). Walks (walk s) n es) at (subst (λ (l : List Entry). Walks (walk s) (r + 4) l) (map-id es) w))
@@ -81,7 +81,7 @@ given-allowed s at {e} {q} w =
     let r = go (t .0) (t .1) (isPlain s) (omega (arith, i .1, i .2 .inside)) (t .3) in
     (t .2 ∙ ap (λ (c : Colour). ok c (t .1)) (r .0) ∙ ap (λ (n : ℕ). ok (e .colour) n) (sym (i .1)), omega (arith, i .1, r .1), r .2)
   where
-    go : (c : Colour) (n : ℕ) (b : Bool) → n ≤ length s → pick b (ok (unnamed c) n) (then (name 4 s n) (λ nm z. ok (titled c nm) z)) ≡ ok e q → (c ≡ e .colour) × (n ≤ q) × (q ≤ length s)
+    go : (c : Colour) (n : ℕ) (b : Bool) → n ≤ length s → pick b (ok (unnamed c) n) (then (name 4 s n) (λ nm z. ok (namedEntry c nm) z)) ≡ ok e q → (c ≡ e .colour) × (n ≤ q) × (q ≤ length s)
     go c n true h x = (ap (λ (y : Entry). y .colour) (ok-value x), omega (arith, ok-place x), omega (arith, ok-place x))
     go c n false h x =
         let t = then-inv (name 4 s n) _ x in
@@ -98,7 +98,7 @@ given-name s at {e} {q} w =
     Lies : Entry → Type 0
     Lies x = x .name .first + 2 * length (x .name .units) ≤ length s
 
-    go : (c : Colour) (n : ℕ) (b : Bool) → pick b (ok (unnamed c) n) (then (name 4 s n) (λ nm z. ok (titled c nm) z)) ≡ ok e q → Lies e
+    go : (c : Colour) (n : ℕ) (b : Bool) → pick b (ok (unnamed c) n) (then (name 4 s n) (λ nm z. ok (namedEntry c nm) z)) ≡ ok e q → Lies e
     go c n true x = subst Lies (ok-value x) (omega arith)
     go c n false x =
         let t = then-inv (name 4 s n) _ x in

@@ -28,12 +28,12 @@ firstPlace s = pick (isPlain s) 4 (pick (leb (8 + 10 * countOf s) (length s)) (8
 
 -- ---- a colour at a place
 
-abbrev pub titled : Colour → Name → Entry
-titled c nm = record { colour = c; name = nm }
+abbrev pub namedEntry : Colour → Name → Entry
+namedEntry c nm = record { colour = c; name = nm }
 
 -- what follows the ten bytes of a colour: nothing in list 1, its name in list 2
 unfoldable pub labelled : Colour → Reader Entry
-labelled c s at = pick (isPlain s) (ok (unnamed c) at) (then (name 4 s at) (λ nm q. ok (titled c nm) q))
+labelled c s at = pick (isPlain s) (ok (unnamed c) at) (then (name 4 s at) (λ nm q. ok (namedEntry c nm) q))
 
 -- a record as the layout allows it
 unfoldable pub swatchFrom : Reader Entry

@@ -3,31 +3,32 @@ ghost use mathlib.Core.Path.{_≡_};
 ghost use lib.ListN.{length};
 ghost use Rattle.colour.specs.declared.space.Colour.{Colour};
 ghost use Rattle.algebra.specs.Reader.{refuse};
-ghost use Rattle.aco.specs.Reading.{colour, black, aco};
+ghost use Rattle.aco.specs.Reading.{colour, zeroColour, aco};
 ghost use Rattle.walk.specs.Walk.{answered, over, refused};
 ghost use Rattle.aco_walk.specs.Walking.{isPlain, firstPlace, labelled, walk, lentOf, startOf};
-ghost use Rattle.aco_walk.specs.Answer.{toldGiven, toldStep, handed, toldTurn, handedOn, toldStart, toldTested, tested};
+ghost use Rattle.aco_walk.specs.Answer.{toldGiven, toldStep, callAndPlace, toldTurn, walkerCall, toldStart};
+ghost use Rattle.aco_walk.specs.scaffold.Answer.{toldTested, tested};
 use aco_judge::Answer;
 use colour::Colour;
 use names::NameAt;
 
 // What a call gives: a colour, whose name lies at a place and has a number of units; done; or a
 // refusal.
-pub enum Given {
+pub enum NextColour {
     Colour { place: usize, units: u32 },
     Done,
     Refused { number: u32, place: usize },
 }
 
 // A call's answer, its colour by value, all zeros where it gives none, and the place of the next call.
-pub struct Step {
+pub struct ColourStep {
     pub colour: Colour,
-    pub given: Given,
+    pub given: NextColour,
     pub next: usize,
 }
 
 // Where a walk of a file starts, or the file's refusal.
-pub enum Opening {
+pub enum WalkStart {
     At(usize),
     Refused {
         number: u32,
@@ -47,7 +48,7 @@ struct Tested {
 }
 
 fn zeros() -> Colour
-    ensures { λ r. ⌜ r ≡ black ⌝ }
+    ensures { λ r. ⌜ r ≡ zeroColour ⌝ }
 {
     Colour {
         space: 0,
@@ -104,11 +105,11 @@ fn is_plain(file: &[u8]) -> bool
 }
 
 // No colour, and the place that the walk is left at.
-fn none(given: Given, next: usize) -> Step
-    ensures { λ r. ⌜ toldStep r ≡ (black, toldGiven given, next) ⌝ }
+fn none(given: NextColour, next: usize) -> ColourStep
+    ensures { λ r. ⌜ toldStep r ≡ (zeroColour, toldGiven given, next) ⌝ }
 {
     let colour = zeros();
-    Step {
+    ColourStep {
         colour,
         given,
         next,
@@ -116,10 +117,10 @@ fn none(given: Given, next: usize) -> Step
 }
 
 // Nothing that the layout allows: the walk is left past the end, so that it is refused ever after.
-fn lost(file: &[u8]) -> Step
-    ensures { λ r. ⌜ toldStep r ≡ handed (answered (length (now (file .entry))) (refuse 5 0 0 0)) ⌝ }
+fn lost(file: &[u8]) -> ColourStep
+    ensures { λ r. ⌜ toldStep r ≡ callAndPlace (answered (length (now (file .entry))) (refuse 5 0 0 0)) ⌝ }
 {
-    let given = Given::Refused {
+    let given = NextColour::Refused {
         number: 5,
         place: 0,
     };
@@ -127,12 +128,12 @@ fn lost(file: &[u8]) -> Step
 }
 
 // A colour and its name, which stands at `at` where the file has names.
-fn labelled_at(file: &[u8], at: usize, colour: Colour) -> Step
-    ensures { λ r. ⌜ toldStep r ≡ handed (answered (length (now (file .entry))) (labelled colour (now (file .entry)) at)) ⌝ }
+fn labelled_at(file: &[u8], at: usize, colour: Colour) -> ColourStep
+    ensures { λ r. ⌜ toldStep r ≡ callAndPlace (answered (length (now (file .entry))) (labelled colour (now (file .entry)) at)) ⌝ }
 {
     if is_plain(file) {
-        let given = Given::Colour { place: 0, units: 0 };
-        return Step {
+        let given = NextColour::Colour { place: 0, units: 0 };
+        return ColourStep {
             colour,
             given,
             next: at,
@@ -141,8 +142,8 @@ fn labelled_at(file: &[u8], at: usize, colour: Colour) -> Step
     match names::name32_at(file, at) {
         NameAt::Refused(_, _) => lost(file),
         NameAt::Is(place, units, next) => {
-            let given = Given::Colour { place, units };
-            Step {
+            let given = NextColour::Colour { place, units };
+            ColourStep {
                 colour,
                 given,
                 next,
@@ -152,11 +153,11 @@ fn labelled_at(file: &[u8], at: usize, colour: Colour) -> Step
 }
 
 // One call from any place of any file. It costs no more than the bytes that it passes.
-pub fn step_at(file: &[u8], at: usize) -> Step
-    ensures { λ r. ⌜ toldStep r ≡ handed (walk (now (file .entry)) at) ⌝ }
+pub fn step_at(file: &[u8], at: usize) -> ColourStep
+    ensures { λ r. ⌜ toldStep r ≡ callAndPlace (walk (now (file .entry)) at) ⌝ }
 {
     if at == file.len() {
-        return none(Given::Done, at);
+        return none(NextColour::Done, at);
     }
     let found = colour_at(file, at);
     if !found.sound {
@@ -182,16 +183,16 @@ pub fn first_at(file: &[u8]) -> usize
 }
 
 // Where a walk starts, which it does only on an accepted file, or the file's refusal.
-pub fn start_at(file: &[u8]) -> Opening
+pub fn start_at(file: &[u8]) -> WalkStart
     ensures { λ r. ⌜ toldStart r ≡ startOf (aco (now (file .entry))) (now (file .entry)) ⌝ }
 {
     match aco_judge::judge(file) {
-        Answer::Refused { number, place } => Opening::Refused { number, place },
+        Answer::Refused { number, place } => WalkStart::Refused { number, place },
         Answer::Differ {
             place,
             record,
             field,
-        } => Opening::Differ {
+        } => WalkStart::Differ {
             place,
             record,
             field,
@@ -199,7 +200,7 @@ pub fn start_at(file: &[u8]) -> Opening
         Answer::Accepted {
             colours: _,
             lists: _,
-        } => Opening::At(first_at(file)),
+        } => WalkStart::At(first_at(file)),
     }
 }
 
@@ -243,17 +244,17 @@ pub fn start<'a>(file: &'a [u8]) -> Walker<'a>
 }
 
 // What a call of `next` hands back: what it gave, and the walker that follows.
-pub struct Turn<'a> {
-    pub step: Step,
+pub struct WalkerStep<'a> {
+    pub step: ColourStep,
     pub walker: Walker<'a>,
 }
 
 // One call: the colour, and the walker that follows.
-pub fn next<'a>(w: Walker<'a>) -> Turn<'a>
-    ensures { λ r. ⌜ toldTurn r ≡ handedOn (w .entry) ⌝ }
+pub fn next<'a>(w: Walker<'a>) -> WalkerStep<'a>
+    ensures { λ r. ⌜ toldTurn r ≡ walkerCall (w .entry) ⌝ }
 {
     let step = step_at(w.file, w.at);
-    Turn {
+    WalkerStep {
         step,
         walker: Walker {
             file: w.file,

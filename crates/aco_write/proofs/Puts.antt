@@ -20,11 +20,11 @@ use Rattle.colour.specs.declared.space.Colour.{Colour}
 use Rattle.aco.specs.Grammar.{Swatch, colourBytes, entryBytes, listOne, listTwo, twoLists}
 use Rattle.aco.proofs.Whole.{length-colour}
 use Rattle.algebra.specs.Table.{rows}
-use Rattle.aco.specs.Row.{Given, width, taken}
+use Rattle.aco.specs.Row.{RecordRow, width, taken}
 use Rattle.aco.proofs.Row.{four}
-use Rattle.aco_records.specs.Writing.{swatchIn, sizes, size}
-use Rattle.aco_records.specs.Parts.{nameFault, colourIn, plain, start}
-use Rattle.aco_records.proofs.Judging.{givenAt, name-inside}
+use Rattle.aco_write_judge.specs.Writing.{swatchIn, sizes, size}
+use Rattle.aco_write_judge.specs.scaffold.Parts.{nameFault, colourIn, plain, start}
+use Rattle.aco_write_judge.proofs.Judging.{givenAt, name-inside}
 use Rattle.algebra.proofs.Storing.{as-sets, peel}
 
 -- ---- one store
@@ -75,14 +75,14 @@ low-bes [] = refl
 low-bes (v ∷ l) = ap₂ _++_ (low-be v) (low-bes l)
 
 -- the bytes of a record's colour
-pub colour-bytes : (names : List ℕ) (g : Given) → colourBytes (plain (colourIn g)) ≡ colourBytes (swatchIn names g)
+pub colour-bytes : (names : List ℕ) (g : RecordRow) → colourBytes (plain (colourIn g)) ≡ colourBytes (swatchIn names g)
 unfolding colourBytes
 colour-bytes names g = ap₂ _++_ (low-be (g .space)) (low-bes (g .samples))
 
 -- ---- a record of list 2
 
 -- the bytes of its name, from where its copy starts
-name-part : (names : List ℕ) → Bytes names → (g : Given) (k : ℕ) → k ≡ 2 * g .units → nameFault names g ≡ 0 → part names (start g) k ≡ joined (be 2) (nums 2 (g .units) names (g .first))
+name-part : (names : List ℕ) → Bytes names → (g : RecordRow) (k : ℕ) → k ≡ 2 * g .units → nameFault names g ≡ 0 → part names (start g) k ≡ joined (be 2) (nums 2 (g .units) names (g .first))
 unfolding nums joined
 name-part names b g k e f = elim (ℕ-discrete (g .units) 0) [
   | yes z ↦ let k0 : k ≡ 0 = omega arith in rw (k0, z)
@@ -92,20 +92,20 @@ name-part names b g k e f = elim (ℕ-discrete (g .units) 0) [
     inside : (g .units ≡ 0 → ⊥) → g .first + 2 * g .units ≤ length names
     inside z = rw (ne-eqb (g .units) 0 z) at (name-inside names g f)
 
-pub name-bytes : (names : List ℕ) → Bytes names → (g : Given) (k : ℕ) → k ≡ 2 * g .units → nameFault names g ≡ 0
+pub name-bytes : (names : List ℕ) → Bytes names → (g : RecordRow) (k : ℕ) → k ≡ 2 * g .units → nameFault names g ≡ 0
     → countedUnits 4 (g .units + 1) (part names (start g) k) ≡ nameBytes 4 (nums 2 (g .units) names (g .first))
 unfolding countedUnits nameBytes
 name-bytes names b g k e f =
     ap₂ (λ (x : ℕ) (l : List ℕ). be 4 (x + 1) ++ (l ++ be 2 0)) (sym (length-nums 2 (g .units) names (g .first))) (name-part names b g k e f)
 
-pub length-entry : (names : List ℕ) (g : Given) → length (g .samples) ≡ 4 → length (entryBytes (swatchIn names g)) ≡ 16 + 2 * g .units
+pub length-entry : (names : List ℕ) (g : RecordRow) → length (g .samples) ≡ 4 → length (entryBytes (swatchIn names g)) ≡ 16 + 2 * g .units
 unfolding entryBytes
 length-entry names g l =
     let w : Swatch = swatchIn names g in
     let a = length-append (colourBytes w) (nameBytes 4 (w .name)) in
     omega (arith, a, length-colour w l, length-nameBytes 4 (w .name), length-nums 2 (g .units) names (g .first))
 
-pub put-record : (names : List ℕ) → Bytes names → (g : Given) (o₀ o₁ o₂ : List ℕ) (at k : ℕ) → length (g .samples) ≡ 4 → k ≡ 2 * g .units → nameFault names g ≡ 0 → at + (16 + 2 * g .units) ≤ length o₀
+pub put-record : (names : List ℕ) → Bytes names → (g : RecordRow) (o₀ o₁ o₂ : List ℕ) (at k : ℕ) → length (g .samples) ≡ 4 → k ≡ 2 * g .units → nameFault names g ≡ 0 → at + (16 + 2 * g .units) ≤ length o₀
     → length o₁ ≡ length o₀ → o₁ ≡ sets o₀ at (colourBytes (plain (colourIn g))) → o₂ ≡ stored o₁ (at + 10) (countedUnits 4 (g .units + 1) (part names (start g) k))
     → o₂ ≡ sets o₀ at (entryBytes (swatchIn names g))
 unfolding entryBytes
@@ -118,25 +118,25 @@ put-record names b g o₀ o₁ o₂ at k l e f h m e₁ e₂ =
 
 -- ---- a loop that stores the bytes of the records of a run
 
-module _ (run : List ℕ) (f : Given → Swatch) (ser : Swatch → List ℕ) (all out : List ℕ) (n i at : ℕ) where
+module _ (run : List ℕ) (f : RecordRow → Swatch) (ser : Swatch → List ℕ) (all out : List ℕ) (n i at : ℕ) where
   pub puts-start : all ≡ sets out at (joined ser (map f (rows width taken run n 0))) → all ≡ sets out at (joined ser (map f (rows width taken run (n - 0) 0)))
-  puts-start e = e ∙ ap (λ (gs : List Given). sets out at (joined ser (map f gs))) (counted-start (givenAt run) n)
+  puts-start e = e ∙ ap (λ (gs : List RecordRow). sets out at (joined ser (map f gs))) (counted-start (givenAt run) n)
 
   pub puts-turn : all ≡ sets out at (joined ser (map f (rows width taken run (n - i) i))) → i < n → (o : List ℕ) (k : ℕ) → length (ser (f (givenAt run i))) ≡ k → o ≡ sets out at (ser (f (givenAt run i)))
       → all ≡ sets o (at + k) (joined ser (map f (rows width taken run (n - (i + 1)) (i + 1))))
   unfolding joined
   puts-turn e h o k l s =
-      e ∙ ap (λ (gs : List Given). sets out at (joined ser (map f gs))) (counted-turn (givenAt run) n i h)
+      e ∙ ap (λ (gs : List RecordRow). sets out at (joined ser (map f gs))) (counted-turn (givenAt run) n i h)
       ∙ peel out o (ser (f (givenAt run i))) (joined ser (map f (rows width taken run (n - (i + 1)) (i + 1)))) at k (at + k) l refl s
 
   pub puts-end : all ≡ sets out at (joined ser (map f (rows width taken run (n - i) i))) → n ≤ i → out ≡ all
   unfolding joined
-  puts-end e h = sym (e ∙ ap (λ (gs : List Given). sets out at (joined ser (map f gs))) (counted-end (givenAt run) n i h))
+  puts-end e h = sym (e ∙ ap (λ (gs : List RecordRow). sets out at (joined ser (map f gs))) (counted-end (givenAt run) n i h))
 
 -- ---- the whole file
 
 -- list 1 has no names
-same-colours : (names : List ℕ) (gs : List Given) → joined colourBytes (map (swatchIn []) gs) ≡ joined colourBytes (map (swatchIn names) gs)
+same-colours : (names : List ℕ) (gs : List RecordRow) → joined colourBytes (map (swatchIn []) gs) ≡ joined colourBytes (map (swatchIn names) gs)
 unfolding joined colourBytes
 same-colours names [] = refl
 same-colours names (g ∷ gs) = ap (λ (l : List ℕ). (be 2 (g .space) ++ joined (be 2) (g .samples)) ++ l) (same-colours names gs)
@@ -153,7 +153,7 @@ module _ (run names : List ℕ) where
   unfolding joined counted sizes
   length-entries zero k = refl
   length-entries (suc n) k =
-      let g : Given = givenAt run k in
+      let g : RecordRow = givenAt run k in
       let a = length-append (entryBytes (swatchIn names g)) (joined entryBytes (map (swatchIn names) (rows width taken run n (k + 1)))) in
       omega (arith, a, length-entry names g refl, length-entries n (k + 1))
 

@@ -9,12 +9,12 @@ ghost use Rattle.aco.specs.Grammar.{colourBytes, entryBytes, twoLists};
 ghost use Rattle.aco.specs.Reading.{most};
 ghost use Rattle.algebra.specs.Table.{rowAt, rows, whole};
 ghost use Rattle.aco.specs.Row.{width, taken};
-ghost use Rattle.aco_records.specs.Writing.{swatchIn, size, written};
+ghost use Rattle.aco_write_judge.specs.Writing.{swatchIn, size, written};
 ghost use Rattle.algebra.specs.Writing.{bytes};
 ghost use Rattle.fields.specs.Answer.{toldWritten};
-ghost use Rattle.aco_records.specs.Parts.{toldRecord, colourIn, plain, start, EntryFits, EntriesFit};
+ghost use Rattle.aco_write_judge.specs.scaffold.Parts.{toldRecord, colourIn, plain, start, EntryFits, EntriesFit};
 use aco::WIDTH;
-use aco_records::Record;
+use aco_write_judge::Record;
 use colour::Colour;
 use fields::Written;
 
@@ -34,7 +34,7 @@ fn record_at(run: &[u32], k: usize) -> Record
 {
     let start = WIDTH * k;
     let end = start + WIDTH;
-    aco_records::record_of(&run[start..end])
+    aco_write_judge::record_of(&run[start..end])
 }
 
 // The colour of a record.
@@ -139,7 +139,7 @@ fn put_lists(out: &mut [u8], run: &[u32], text: &[u8], n: usize)
 pub fn write(records: &[u32], text: &[u8], out: &mut [u8]) -> Written
     ensures { λ r. ⌜ (toldWritten r, now (out .exit)) ≡ written (now (text .entry)) (whole width taken (now (records .entry))) (now (out .entry)) ⌝ }
 {
-    match aco_records::write_length(records, text) {
+    match aco_write_judge::write_length(records, text) {
         Written::Refused(x) => Written::Refused(x),
         Written::Bytes(size) => {
             if out.len() < size {

@@ -4,6 +4,7 @@ use mathlib.Core.Path.{_≡_, refl}
 use mathlib.Core.List.{List, [], _∷_, map}
 use mathlib.Core.Bool.{Bool, false}
 use lib.IntN.{ℤ, pos, negsuc}
+use Rattle.algebra.specs.Chars.{chars}
 use Rattle.algebra.specs.Numbers.{num, nums, be}
 use Rattle.algebra.specs.Reader.{Res, ok, refuse, field, body, each, stateAfter, chain, ended}
 use Rattle.algebra.specs.Text.{anyZero, closed, front, name}
@@ -13,9 +14,9 @@ use Rattle.colour.specs.Channels.{inUnit, allowsBits}
 use lib.Ieee.{ofBits, le, lt, eq}
 use Rattle.ase.specs.Reading as ase
 use Rattle.acb.specs.Reading as acb
-use Rattle.acb_show.specs.Components.{percent, shownComponent}
-use Rattle.acb_show.specs.Pages.{shown, numbered, sampleOf}
-use Rattle.acb_show.specs.Answer.{Told, record-is, refused, pageOf}
+use Rattle.acb_shown_values.specs.Components.{percent, shownComponent}
+use Rattle.acb_shown_values.specs.Pages.{nonDummies, numbered, sampleOf}
+use Rattle.acb_shown_values.specs.Answer.{Told, record-is, refused, pageOf}
 use Rattle.descriptor.specs.Reading as descriptor
 use Rattle.descriptor_tree.specs.Tree.{Descriptor, bytes, rootHead, fileBytes, memberHeads, fileHeads}
 use Rattle.descriptor_tree.proofs.Examples as tree
@@ -105,18 +106,18 @@ pub agreed : map reading (
     ∷ asAco (refuse 7 24 0 3)
     ∷ asAco (ok (record { lists = 2; records = [] }) 8)
     ∷ asAse (ok [] 12)
-    ∷ asAse (ok (ase.coloured (record { first = 20; units = [] }) 0x4772_6179 (0x3F80_0000 ∷ []) 2 ∷ []) 32)
+    ∷ asAse (ok (ase.colourRead (record { first = 20; units = [] }) (chars "Gray") (0x3F80_0000 ∷ []) 2 ∷ []) 32)
     ∷ asAse (refuse 13 14 0 0)
     ∷ shows (pos 97 ∷ negsuc 4 ∷ negsuc 4 ∷ [])
     ∷ shows (pos 100 ∷ pos 50 ∷ pos 0 ∷ [])
     ∷ onPage (record-is 2)
     ∷ onPage (record-is 6)
     ∷ onPage (refused 12 0)
-    ∷ asDescriptor (ok (row 0x4F62_6A63 0 0 17 0 4 ∷ []) 17)
-    ∷ asDescriptor (ok (row 0x4F62_6A63 0 0 40 0 4 ∷ row 0x566C_4C73 0 17 23 1 26 ∷ row 0x626F_6F6C 1 30 5 2 34 ∷ row 0x626F_6F6C 1 35 5 2 39 ∷ []) 40)
+    ∷ asDescriptor (ok (row (chars "Objc") 0 0 17 0 4 ∷ []) 17)
+    ∷ asDescriptor (ok (row (chars "Objc") 0 0 40 0 4 ∷ row (chars "VlLs") 0 17 23 1 26 ∷ row (chars "bool") 1 30 5 2 34 ∷ row (chars "bool") 1 35 5 2 39 ∷ []) 40)
     ∷ lengths (17 ∷ 13 ∷ 5 ∷ 5 ∷ [])
     ∷ []
-unfolding p2 p3 a23 p5 p6 p11 p12 num nums field body be each chain stateAfter ended anyZero closed front name uses full known ranged allowed samples colour heading entry second after lists aco modelOf isModel channelsOf inUnit allowsBits ofBits le lt eq ase.group ase.shade ase.content ase.block ase.heading ase.blocks ase.palette ase.ase acb.opening acb.header acb.book acb.acb percent shownComponent shown numbered sampleOf descriptor.descriptor descriptor.whole descriptor.root descriptor.objectOf descriptor.children descriptor.siblings descriptor.class descriptor.unicode descriptor.shut descriptor.id descriptor.keyed descriptor.item descriptor.sortOf descriptor.flag fileHeads memberHeads rootHead
+unfolding p2 p3 a23 p5 p6 p11 p12 num nums field body be each chain stateAfter ended anyZero closed front name uses full known ranged allowed samples colour heading entry second after lists aco modelOf isModel channelsOf inUnit allowsBits ofBits le lt eq ase.groupContent ase.colourContent ase.content ase.block ase.heading ase.blocks ase.palette ase.ase acb.opening acb.header acb.book acb.acb percent shownComponent nonDummies numbered sampleOf descriptor.descriptor descriptor.whole descriptor.root descriptor.objectOf descriptor.children descriptor.siblings descriptor.class descriptor.unicode descriptor.shut descriptor.id descriptor.keyed descriptor.item descriptor.sortOf descriptor.flag fileHeads memberHeads rootHead
 agreed = refl
 
 -- the tree whose heads these are has the bytes of P12

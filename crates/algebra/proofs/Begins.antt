@@ -10,7 +10,7 @@ use native.Mathlib.Nat.{lt-of-not-le}
 use native.Mathlib.Decide.{ℕ-discrete, decLe}
 use Rattle.algebra.specs.Numbers.{num, nums, be, joined, At, Bytes, All}
 use Rattle.algebra.specs.Store.{part}
-use Rattle.algebra.specs.Closing.{Open, last, early}
+use Rattle.algebra.specs.Closing.{BadlyClosed, last, early}
 use Rattle.algebra.proofs.Places.{length-nums, at-drop, at-part, length-part, num-lt, be-num, nums-lt, bes-nums}
 use Rattle.algebra.proofs.Exact.{all-from}
 use Rattle.algebra.proofs.Cuts.{bytes-take}
@@ -64,7 +64,7 @@ part-first m l b = elim (decLe m (length l)) [
 pub data Closed : List ℕ → Type 0 where
   closes : (us : List ℕ) → All (λ k u. 0 < u) 0 us → Closed (us ++ (0 ∷ []))
 
-open-more : (u : ℕ) {us : List ℕ} → Open us → Open (u ∷ us)
+open-more : (u : ℕ) {us : List ℕ} → BadlyClosed us → BadlyClosed (u ∷ us)
 open-more u (last us v h) = last (u ∷ us) v h
 open-more u (early us vs v) = early (u ∷ us) vs v
 
@@ -72,13 +72,13 @@ closed-more : (u : ℕ) {us : List ℕ} → 0 < u → Closed us → Closed (u �
 closed-more u h (closes us a) = closes (u ∷ us) (h, all-from (λ u. 0 < u) 0 1 us a)
 
 -- units, at least one, are closed or not
-pub closed-or-open : (u : ℕ) (us : List ℕ) → Closed (u ∷ us) ⊎ Open (u ∷ us)
+pub closed-or-open : (u : ℕ) (us : List ℕ) → Closed (u ∷ us) ⊎ BadlyClosed (u ∷ us)
 closed-or-open u [] = elim (ℕ-discrete u 0) [
   | yes e ↦ inl (subst (λ (x : ℕ). Closed (x ∷ [])) (sym e) (closes [] tt))
   | no e ↦ inr (last [] u (omega arith))
 ]
 closed-or-open u (v ∷ us) = elim (ℕ-discrete u 0) [
-  | yes e ↦ inr (subst (λ (x : ℕ). Open (x ∷ v ∷ us)) (sym e) (early [] us v))
+  | yes e ↦ inr (subst (λ (x : ℕ). BadlyClosed (x ∷ v ∷ us)) (sym e) (early [] us v))
   | no e ↦ elim (closed-or-open v us) [
     | inl c ↦ inl (closed-more u (omega arith) c)
     | inr o ↦ inr (open-more u o)

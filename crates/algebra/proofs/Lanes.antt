@@ -14,7 +14,7 @@ use lib.ListN.{getD}
 use Rattle.algebra.specs.Numbers.{num, nums}
 use Rattle.algebra.specs.Reader.{pick}
 use Rattle.algebra.specs.Text.{anyZero}
-use Rattle.algebra.specs.Lanes.{lanes, every, marked}
+use Rattle.algebra.specs.Lanes.{lanes, every, anyHighBit}
 use Rattle.algebra.proofs.Texts.{swapped-zero}
 
 -- ---- one lane
@@ -53,8 +53,8 @@ not-false false e = absurd (true≢false e)
 -- ---- the marks of a word, lane by lane from the lowest
 
 -- the word is marked in its lowest lane or in the others
-marked-low : (k m : ℕ) → marked (suc k) m ≡ pick (not (eqb (bitAnd (m % 65536) 32768) 0)) true (marked k (m / 65536))
-unfolding marked every
+marked-low : (k m : ℕ) → anyHighBit (suc k) m ≡ pick (not (eqb (bitAnd (m % 65536) 32768) 0)) true (anyHighBit k (m / 65536))
+unfolding anyHighBit every
 marked-low k m =
     ap (λ (z : ℕ). not (eqb (bitAnd z (every k 32768 * 65536 + 32768)) 0)) (sym (div-add-mod' m 65536))
     ∙ ap (λ (z : ℕ). not (eqb z 0)) (and-block 16 (m / 65536) (every k 32768) (m % 65536) 32768 (omega arith) (omega arith))
@@ -83,31 +83,31 @@ unfolding every
 lane-less k x y b less = less ∙ ap (λ (z : ℕ). x + z) (ap (λ (z : ℕ). b * z) (pow-suc 65536 k) ∙ sym (mul-assoc b (65536 ^ k) 65536))
 
 -- a word less one in each lane (with what it borrows), and its complement: both have some lane's highest bit exactly where a lane is zero
-pub zero-marked : (k x y n b : ℕ) → y + every k 1 ≡ x + b * 65536 ^ k → n + x + 1 ≡ 65536 ^ k → marked k (bitAnd y n) ≡ anyZero (lanes k x)
-unfolding marked every lanes anyZero
+pub zero-marked : (k x y n b : ℕ) → y + every k 1 ≡ x + b * 65536 ^ k → n + x + 1 ≡ 65536 ^ k → anyHighBit k (bitAnd y n) ≡ anyZero (lanes k x)
+unfolding anyHighBit every lanes anyZero
 zero-marked zero x y n b less rest = ap (λ (z : ℕ). not (eqb z 0)) (and-zero-r (bitAnd y n))
 zero-marked (suc k) x y n b less rest =
     let l = lane-less k x y b less in
     let r : n + x + 1 ≡ 65536 ^ k * 65536 = rest ∙ pow-suc 65536 k in
     marked-low k (bitAnd y n)
-    ∙ ap₂ (λ (u v : ℕ). pick (not (eqb (bitAnd u 32768) 0)) true (marked k v)) (and-mod y n 16) (and-shr y n 16)
+    ∙ ap₂ (λ (u v : ℕ). pick (not (eqb (bitAnd u 32768) 0)) true (anyHighBit k v)) (and-mod y n 16) (and-shr y n 16)
     ∙ elim (ℕ-discrete (x % 65536) 0) [
       | yes h ↦ rw (low-zero x y n _ _ _ l r h, eq-eqb _ _ h)
       | no h ↦ rw (low-else x y n _ _ _ l r h, ne-eqb _ _ h) (zero-marked k (x / 65536) (y / 65536) (n / 65536) b (high-less x y n _ _ _ l r h) (high-rest x y n _ _ _ l r))
     ]
 
 -- where a word less one in each lane is not marked, no lane is zero
-pub none-marked : (k x y b : ℕ) → y + every k 1 ≡ x + b * 65536 ^ k → marked k y ≡ false → anyZero (lanes k x) ≡ false
+pub none-marked : (k x y b : ℕ) → y + every k 1 ≡ x + b * 65536 ^ k → anyHighBit k y ≡ false → anyZero (lanes k x) ≡ false
 unfolding every lanes anyZero
 none-marked zero x y b less clear = refl
 none-marked (suc k) x y b less clear =
     let l = lane-less k x y b less in
-    let c : pick (not (eqb (bitAnd (y % 65536) 32768) 0)) true (marked k (y / 65536)) ≡ false = sym (marked-low k y) ∙ clear in
+    let c : pick (not (eqb (bitAnd (y % 65536) 32768) 0)) true (anyHighBit k (y / 65536)) ≡ false = sym (marked-low k y) ∙ clear in
     elim (ℕ-discrete (x % 65536) 0) [
-      | yes h ↦ let v : y % 65536 ≡ 65535 = omega arith in absurd (true≢false (sym (ap (λ (z : ℕ). pick (not (eqb (bitAnd z 32768) 0)) true (marked k (y / 65536))) v) ∙ c))
+      | yes h ↦ let v : y % 65536 ≡ 65535 = omega arith in absurd (true≢false (sym (ap (λ (z : ℕ). pick (not (eqb (bitAnd z 32768) 0)) true (anyHighBit k (y / 65536))) v) ∙ c))
       | no h ↦
           let g : y / 65536 + every k 1 ≡ x / 65536 + b * 65536 ^ k = omega arith in
-          rw (ne-eqb _ _ h) (none-marked k (x / 65536) (y / 65536) b g (neither (not (eqb (bitAnd (y % 65536) 32768) 0)) (marked k (y / 65536)) c .1))
+          rw (ne-eqb _ _ h) (none-marked k (x / 65536) (y / 65536) b g (neither (not (eqb (bitAnd (y % 65536) 32768) 0)) (anyHighBit k (y / 65536)) c .1))
     ]
 
 -- ---- words kept by `or`
@@ -144,21 +144,21 @@ or-none p q =
     ]
 
 -- words kept by `or` are marked where one of them is
-pub marked-or : (k a b : ℕ) → marked k (bitOr a b) ≡ pick (marked k a) true (marked k b)
-unfolding marked
+pub marked-or : (k a b : ℕ) → anyHighBit k (bitOr a b) ≡ pick (anyHighBit k a) true (anyHighBit k b)
+unfolding anyHighBit
 marked-or k a b = ap (λ (z : ℕ). not (eqb z 0)) (and-or a b (every k 32768)) ∙ or-none (bitAnd a (every k 32768)) (bitAnd b (every k 32768))
 
 -- ---- four lanes
 
 -- x less one in each of four lanes, modulo 2^64, and the complement of x, are both marked exactly where one of the four is zero
-pub four-marked : (x y : ℕ) → x < 2 ^ 64 → (y + 0x0001_0001_0001_0001) % 2 ^ 64 ≡ x → marked 4 (bitAnd y (0xFFFF_FFFF_FFFF_FFFF - x)) ≡ anyZero (lanes 4 x)
+pub four-marked : (x y : ℕ) → x < 2 ^ 64 → (y + 0x0001_0001_0001_0001) % 2 ^ 64 ≡ x → anyHighBit 4 (bitAnd y (0xFFFF_FFFF_FFFF_FFFF - x)) ≡ anyZero (lanes 4 x)
 unfolding every
 four-marked x y h less =
     let l : y + 0x0001_0001_0001_0001 ≡ x + (y + 0x0001_0001_0001_0001) / 2 ^ 64 * 2 ^ 64 = omega arith in
     let r : 0xFFFF_FFFF_FFFF_FFFF - x + x + 1 ≡ 2 ^ 64 = omega arith in
     zero-marked 4 x y _ _ l r
 
-pub four-clear : (x y : ℕ) → (y + 0x0001_0001_0001_0001) % 2 ^ 64 ≡ x → marked 4 y ≡ false → anyZero (lanes 4 x) ≡ false
+pub four-clear : (x y : ℕ) → (y + 0x0001_0001_0001_0001) % 2 ^ 64 ≡ x → anyHighBit 4 y ≡ false → anyZero (lanes 4 x) ≡ false
 unfolding every
 four-clear x y less =
     let l : y + 0x0001_0001_0001_0001 ≡ x + (y + 0x0001_0001_0001_0001) / 2 ^ 64 * 2 ^ 64 = omega arith in
@@ -243,25 +243,25 @@ any-split (suc a) b s at =
     ∙ either (eqb (num 2 s at) 0) (anyZero (nums 2 a s (at + 2))) (anyZero (nums 2 b s (at + 2 * suc a)))
 
 module _ (s : List ℕ) (at k : ℕ) where
-  pub fours-start : anyZero (nums 2 (4 * k) s at) ≡ pick (marked 4 0) true (anyZero (nums 2 (4 * (k - 0)) s (at + 0)))
-  unfolding marked every
+  pub fours-start : anyZero (nums 2 (4 * k) s at) ≡ pick (anyHighBit 4 0) true (anyZero (nums 2 (4 * (k - 0)) s (at + 0)))
+  unfolding anyHighBit every
   fours-start = rw (sub-zero, add-zero)
 
-  module _ (all : Bool) (found i : ℕ) (inv : all ≡ pick (marked 4 found) true (anyZero (nums 2 (4 * (k - i)) s (at + 8 * i)))) where
-    pub fours-on : (m : ℕ) → i < k → marked 4 m ≡ anyZero (nums 2 4 s (at + 8 * i)) → all ≡ pick (marked 4 (bitOr found m)) true (anyZero (nums 2 (4 * (k - (i + 1))) s (at + 8 * (i + 1))))
+  module _ (all : Bool) (found i : ℕ) (inv : all ≡ pick (anyHighBit 4 found) true (anyZero (nums 2 (4 * (k - i)) s (at + 8 * i)))) where
+    pub fours-on : (m : ℕ) → i < k → anyHighBit 4 m ≡ anyZero (nums 2 4 s (at + 8 * i)) → all ≡ pick (anyHighBit 4 (bitOr found m)) true (anyZero (nums 2 (4 * (k - (i + 1))) s (at + 8 * (i + 1))))
     fours-on m h e =
         let n : 4 * (k - i) ≡ 4 + 4 * (k - (i + 1)) = omega arith in
         let p : at + 8 * i + 2 * 4 ≡ at + 8 * (i + 1) = omega arith in
         inv
-        ∙ ap (λ (x : Bool). pick (marked 4 found) true x)
+        ∙ ap (λ (x : Bool). pick (anyHighBit 4 found) true x)
         (ap (λ (j : ℕ). anyZero (nums 2 j s (at + 8 * i))) n ∙ any-split 4 (4 * (k - (i + 1))) s (at + 8 * i)
         ∙ ap₂ (λ (x : Bool) (q : ℕ). pick x true (anyZero (nums 2 (4 * (k - (i + 1))) s q))) (sym e) p)
-        ∙ either (marked 4 found) (marked 4 m) (anyZero (nums 2 (4 * (k - (i + 1))) s (at + 8 * (i + 1))))
+        ∙ either (anyHighBit 4 found) (anyHighBit 4 m) (anyZero (nums 2 (4 * (k - (i + 1))) s (at + 8 * (i + 1))))
         ∙ ap (λ (x : Bool). pick x true (anyZero (nums 2 (4 * (k - (i + 1))) s (at + 8 * (i + 1))))) (sym (marked-or 4 found m))
 
-    pub fours-end : k ≤ i → all ≡ marked 4 found
+    pub fours-end : k ≤ i → all ≡ anyHighBit 4 found
     unfolding nums anyZero
-    fours-end h = inv ∙ ap (λ (j : ℕ). pick (marked 4 found) true (anyZero (nums 2 j s (at + 8 * i)))) (let m : 4 * (k - i) ≡ 0 = omega arith in m) ∙ go (marked 4 found)
+    fours-end h = inv ∙ ap (λ (j : ℕ). pick (anyHighBit 4 found) true (anyZero (nums 2 j s (at + 8 * i)))) (let m : 4 * (k - i) ≡ 0 = omega arith in m) ∙ go (anyHighBit 4 found)
       where
         go : (x : Bool) → pick x true false ≡ x
         go true = refl
@@ -293,17 +293,17 @@ module _ (s : List ℕ) (at : ℕ) where
   pub clear-more : (a b : ℕ) → anyZero (nums 2 a s at) ≡ false → anyZero (nums 2 b s (at + 2 * a)) ≡ false → anyZero (nums 2 (a + b) s at) ≡ false
   clear-more a b e f = any-split a b s at ∙ rw (e, f)
 
-  pub glance-on : (found m i : ℕ) → (marked 4 found ≡ false → anyZero (nums 2 (4 * i) s at) ≡ false) → (marked 4 m ≡ false → anyZero (nums 2 4 s (at + 8 * i)) ≡ false)
-      → marked 4 (bitOr found m) ≡ false → anyZero (nums 2 (4 * (i + 1)) s at) ≡ false
+  pub glance-on : (found m i : ℕ) → (anyHighBit 4 found ≡ false → anyZero (nums 2 (4 * i) s at) ≡ false) → (anyHighBit 4 m ≡ false → anyZero (nums 2 4 s (at + 8 * i)) ≡ false)
+      → anyHighBit 4 (bitOr found m) ≡ false → anyZero (nums 2 (4 * (i + 1)) s at) ≡ false
   glance-on found m i inv one e =
-      let both = neither (marked 4 found) (marked 4 m) (sym (marked-or 4 found m) ∙ e) in
+      let both = neither (anyHighBit 4 found) (anyHighBit 4 m) (sym (marked-or 4 found m) ∙ e) in
       let n : 4 * (i + 1) ≡ 4 * i + 4 = omega arith in
       let p : at + 2 * (4 * i) ≡ at + 8 * i = omega arith in
       ap (λ (k : ℕ). anyZero (nums 2 k s at)) n
       ∙ clear-more (4 * i) 4 (inv (both .0)) (ap (λ (q : ℕ). anyZero (nums 2 4 s q)) p ∙ one (both .1))
 
-  pub glance-end : (found i : ℕ) → i ≤ 32 → 32 ≤ i → (marked 4 found ≡ false → anyZero (nums 2 (4 * i) s at) ≡ false) → eqb (bitAnd found 0x8000_8000_8000_8000) 0 ≡ true → anyZero (nums 2 128 s at) ≡ false
-  unfolding marked every
+  pub glance-end : (found i : ℕ) → i ≤ 32 → 32 ≤ i → (anyHighBit 4 found ≡ false → anyZero (nums 2 (4 * i) s at) ≡ false) → eqb (bitAnd found 0x8000_8000_8000_8000) 0 ≡ true → anyZero (nums 2 128 s at) ≡ false
+  unfolding anyHighBit every
   glance-end found i h g inv e = let n : 128 ≡ 4 * i = omega arith in ap (λ (k : ℕ). anyZero (nums 2 k s at)) n ∙ inv (ap not e)
 
   pub clear-join : (i j : ℕ) → anyZero (nums 2 (4 * i) s at) ≡ false → anyZero (nums 2 (4 * j) s (at + 8 * i)) ≡ false → anyZero (nums 2 (4 * (i + j)) s at) ≡ false

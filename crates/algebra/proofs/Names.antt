@@ -8,7 +8,7 @@ use native.Mathlib.Omega.{arith}
 use native.Mathlib.Decide.{ℕ-discrete}
 use Rattle.algebra.specs.Numbers.{be, joined, Bytes, All}
 use Rattle.algebra.specs.Text.{nameBytes, Named}
-use Rattle.algebra.specs.Closing.{Open}
+use Rattle.algebra.specs.Closing.{BadlyClosed}
 use Rattle.algebra.proofs.Exact.{all-both, all-left, joined-snoc}
 use Rattle.algebra.proofs.Begins.{First, fewer, number, first, Row, shorter, numbers, row, Closed, closes, closed-or-open}
 
@@ -17,7 +17,7 @@ pub data NameFirst (w : ℕ) : List ℕ → Type 0 where
   count-short : (l : List ℕ) → length l < w → NameFirst w l
   count-zero : (l : List ℕ) → NameFirst w (be w 0 ++ l)
   units-short : (n : ℕ) (l : List ℕ) → 0 < n → n < 256 ^ w → length l < n * 2 → NameFirst w (be w n ++ l)
-  units-open : (us l : List ℕ) → length us < 256 ^ w → All (λ k u. u < 256 ^ 2) 0 us → Open us → NameFirst w (be w (length us) ++ (joined (be 2) us ++ l))
+  units-open : (us l : List ℕ) → length us < 256 ^ w → All (λ k u. u < 256 ^ 2) 0 us → BadlyClosed us → NameFirst w (be w (length us) ++ (joined (be 2) us ++ l))
   name-whole : (us l : List ℕ) → Named w us → Bytes l → NameFirst w (nameBytes w us ++ l)
 
 module _ (w : ℕ) where

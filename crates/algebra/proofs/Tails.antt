@@ -11,7 +11,7 @@ use native.Mathlib.Nat.{zero-add}
 use Rattle.algebra.specs.Numbers.{be, joined, At, All}
 use Rattle.algebra.specs.Reader.{ok, refuse, pick, field, body, Judged, fine, fault, unless, judged}
 use Rattle.algebra.specs.Text.{isEmpty, closed, name}
-use Rattle.algebra.specs.Closing.{Open, last, early}
+use Rattle.algebra.specs.Closing.{BadlyClosed, last, early}
 use Rattle.algebra.proofs.Laws.{field-in, field-short, body-in, body-short, judged-short, judged-bad, judged-ok}
 use Rattle.algebra.proofs.Places.{length-be, length-bes, at-in, at-left, at-after, at-whole, num-be, nums-bes}
 
@@ -69,11 +69,11 @@ unfolding closed
 early-open [] v vs = refl
 early-open (a ∷ us) v vs = pick-false (eqb a 0) (empty-more us 0 (v ∷ vs)) (early-open us v vs)
 
-pub open-unclosed : {us : List ℕ} → Open us → closed us ≡ false
+pub open-unclosed : {us : List ℕ} → BadlyClosed us → closed us ≡ false
 open-unclosed (last us u h) = last-open us u h
 open-unclosed (early us vs v) = early-open us v vs
 
-open-some : {us : List ℕ} → Open us → 0 < length us
+open-some : {us : List ℕ} → BadlyClosed us → 0 < length us
 open-some (last us u h) = omega (arith, length-append us (u ∷ []))
 open-some (early us vs v) = omega (arith, length-append us (0 ∷ v ∷ vs))
 
@@ -99,7 +99,7 @@ module _ (s : List ℕ) (w at : ℕ) where
       rw (count-there n some small (tail-left s at (be w n) l t)) (rw (body-short 2 s (at + w) n (omega (arith, u .ends))))
 
   -- the units are badly closed: 8 at the count
-  pub name-open : (us : List ℕ) → length us < 256 ^ w → All (λ k u. u < 256 ^ 2) 0 us → Open us → At s at (be w (length us) ++ joined (be 2) us) → name w s at ≡ refuse 8 at 0 0
+  pub name-open : (us : List ℕ) → length us < 256 ^ w → All (λ k u. u < 256 ^ 2) 0 us → BadlyClosed us → At s at (be w (length us) ++ joined (be 2) us) → name w s at ≡ refuse 8 at 0 0
   unfolding name
   name-open us small fit o h =
       let n : ℕ = length us in

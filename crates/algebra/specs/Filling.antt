@@ -1,4 +1,4 @@
--- What a pass over an accepted file goes by, in private contracts: that the file is accepted, and the records that it then has.
+-- What a pass over an accepted file goes by: that the file is accepted, in private contracts, and the records that it then has.
 use Prim.Native.Nat.{ℕ}
 use mathlib.Core.Path.{_≡_}
 use mathlib.Core.List.{List, []}

@@ -16,5 +16,5 @@ every zero v = 0
 every (suc k) v = every k v * 65536 + v
 
 -- the highest bit of one of the k lanes is set
-unfoldable pub marked : ℕ → ℕ → Bool
-marked k m = not (eqb (bitAnd m (every k 0x8000)) 0)
+unfoldable pub anyHighBit : ℕ → ℕ → Bool
+anyHighBit k m = not (eqb (bitAnd m (every k 0x8000)) 0)

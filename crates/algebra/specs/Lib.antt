@@ -13,3 +13,4 @@ pub mod Sets
 pub mod Cut
 pub mod Wide
 pub mod Closing
+pub mod Chars

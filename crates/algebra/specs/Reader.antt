@@ -1,4 +1,6 @@
 -- Readers: what stands at a place of a file, with the next place, or a refusal.
+-- In all definitions: a difference stops at 0, so that `length s - at` is what remains, also past the end; `leb`, `ltb` and `eqb` are the tests of at
+-- most, less and equal; `getD s k 0` is number k of a list, counted from 0, and 0 past its end; `pick` is the first where the test holds, else the second.
 use Prim.Native.Nat.{ℕ, zero, suc, _+_, _-_, _*_}
 use mathlib.Core.List.{List, [], _∷_}
 use mathlib.Core.Bool.{Bool, true, false}
@@ -19,16 +21,19 @@ abbrev pub pick : {A : Type 0} → Bool → A → A → A
 pick true a b = a
 pick false a b = b
 
+-- what was read goes on into k, with the next place; a refusal stays
 abbrev pub then : {A B : Type 0} → Res A → (A → ℕ → Res B) → Res B
 then (ok a n) k = k a n
 then (refuse x p r f) k = refuse x p r f
 
 -- ---- sequence
 
+-- one reader, and behind it the one that it leads to: `do` writes it line by line
 infixl 10 _>>=_
 abbrev pub _>>=_ : {A B : Type 0} → Reader A → (A → Reader B) → Reader B
 _>>=_ m k s at = then (m s at) (λ a n. k a s n)
 
+-- a value, with nothing read
 abbrev pub give : {A : Type 0} → A → Reader A
 give a s at = ok a at
 

@@ -16,7 +16,7 @@ unfoldable pub anyZero : List ℕ → Bool
 anyZero [] = false
 anyZero (u ∷ us) = pick (eqb u 0) true (anyZero us)
 
--- the last unit is zero, and no other; no units are not closed
+-- the last unit is zero, and no other; an empty list is not closed
 unfoldable pub closed : List ℕ → Bool
 closed [] = false
 closed (u ∷ us) = pick (eqb u 0) (isEmpty us) (closed us)

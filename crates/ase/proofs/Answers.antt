@@ -13,7 +13,7 @@ use Rattle.algebra.specs.Cut.{notWhole, Stub}
 use Rattle.algebra.proofs.Places.{length-be}
 use Rattle.algebra.proofs.Cuts.{whole-here, field-then-cut}
 use Rattle.algebra.proofs.Tails.{Tail, tail-left, tail-after, field-there, field-cut}
-use Rattle.ase.specs.Reading.{isType, block}
+use Rattle.ase.specs.Reading.{isBlockType, block}
 
 module _ (s : List ℕ) (d at : ℕ) where
   -- a length that is cut: 2 there, whatever the type is
@@ -24,7 +24,7 @@ module _ (s : List ℕ) (d at : ℕ) where
       rw (field-there s 2 at t small (tail-left s at (be 2 t) l h)) (rw (field-cut s 4 (at + 2) few r))
 
   -- a block that is cut: 2 at its type, at its length, or at its payload l
-  pub block-cut : Bytes s → (t : ℕ) (l : List ℕ) → t < 256 ^ 2 → isType t ≡ true → length l < 256 ^ 4 → Stub s at (be 2 t ++ (be 4 (length l) ++ l)) → block d s at ≡ refuse 2 (notWhole (2 ∷ 4 ∷ length l ∷ []) at (length s)) 0 0
+  pub block-cut : Bytes s → (t : ℕ) (l : List ℕ) → t < 256 ^ 2 → isBlockType t ≡ true → length l < 256 ^ 4 → Stub s at (be 2 t ++ (be 4 (length l) ++ l)) → block d s at ≡ refuse 2 (notWhole (2 ∷ 4 ∷ length l ∷ []) at (length s)) 0 0
   unfolding block
   block-cut bytes t l known is small h =
       let n : ℕ = length l in

@@ -4,6 +4,7 @@ use mathlib.Core.Path.{_≡_, refl, sym, ap, _∙_}
 use mathlib.Core.List.{List, [], _∷_, _++_, map, append-assoc}
 use lib.ListN.{length, length-append}
 use native.Mathlib.Omega.{arith}
+use Rattle.algebra.specs.Chars.{chars}
 use Rattle.algebra.specs.Numbers.{be, joined, Bytes, All, AllIn}
 use Rattle.algebra.specs.Reader.{stateAfter, chain}
 use Rattle.algebra.specs.Text.{nameBytes}
@@ -12,19 +13,19 @@ use Rattle.algebra.proofs.Places.{length-be, bytes-nil, bytes-append, bytes-be,
 use Rattle.algebra.proofs.Exact.{all-map}
 use Rattle.algebra.proofs.Sequence.{field-exact, mark-exact}
 use Rattle.algebra.proofs.Chain.{in-both, all-in, chain-exact}
-use Rattle.ase.specs.Grammar.{Block, start, stop, colour, other, typeOf, payload, blockBytes, fileBytes, Allowed, Nested}
-use Rattle.ase.specs.Reading.{blockOf, block, standing, standingAfter, heading}
+use Rattle.ase.specs.Grammar.{Block, groupStart, groupEnd, colour, other, typeOf, payload, blockBytes, fileBytes, Allowed, Nested}
+use Rattle.ase.specs.Reading.{blockOf, block, openAfter, openAfterEntry, heading}
 use Rattle.ase.proofs.Laws.{Steps, Sound, length-block, block-exact}
 
 -- ---- the heading
 
 -- its bytes for a count
 abbrev pub headBytes : ℕ → List ℕ
-headBytes n = be 4 0x4153_4546 ++ (be 2 1 ++ (be 2 0 ++ be 4 n))
+headBytes n = be 4 (chars "ASEF") ++ (be 2 1 ++ (be 2 0 ++ be 4 n))
 
 pub length-head : (n : ℕ) → length (headBytes n) ≡ 12
 length-head n =
-    omega (arith, length-append (be 4 0x4153_4546) (be 2 1 ++ (be 2 0 ++ be 4 n)), length-append (be 2 1) (be 2 0 ++ be 4 n), length-append (be 2 0) (be 4 n), length-be 4 0x4153_4546, length-be 2 1, length-be 2 0, length-be 4 n)
+    omega (arith, length-append (be 4 (chars "ASEF")) (be 2 1 ++ (be 2 0 ++ be 4 n)), length-append (be 2 1) (be 2 0 ++ be 4 n), length-append (be 2 0) (be 4 n), length-be 4 (chars "ASEF"), length-be 2 1, length-be 2 0, length-be 4 n)
 
 -- a file is its heading and its blocks
 pub file-parts : (bs : List Block) → fileBytes bs ≡ headBytes (length bs) ++ joined blockBytes bs
@@ -32,33 +33,33 @@ unfolding fileBytes
 file-parts bs =
     let l : List ℕ = joined blockBytes bs in
     let n : List ℕ = be 4 (length bs) in
-    sym (append-assoc (be 4 0x4153_4546) (be 2 1 ++ (be 2 0 ++ n)) l
-    ∙ ap (λ (x : List ℕ). be 4 0x4153_4546 ++ x) (append-assoc (be 2 1) (be 2 0 ++ n) l ∙ ap (λ (x : List ℕ). be 2 1 ++ x) (append-assoc (be 2 0) n l)))
+    sym (append-assoc (be 4 (chars "ASEF")) (be 2 1 ++ (be 2 0 ++ n)) l
+    ∙ ap (λ (x : List ℕ). be 4 (chars "ASEF") ++ x) (append-assoc (be 2 1) (be 2 0 ++ n) l ∙ ap (λ (x : List ℕ). be 2 1 ++ x) (append-assoc (be 2 0) n l)))
 
 module _ (s : List ℕ) (bytes : Bytes s) where
   pub heading-exact : Exact s heading (λ n. n) (λ n. n < 256 ^ 4) headBytes
   unfolding heading
-  heading-exact = mark-exact s bytes 4 0x4153_4546 (omega arith) (mark-exact s bytes 2 1 (omega arith) (mark-exact s bytes 2 0 (omega arith) (field-exact s bytes 4)))
+  heading-exact = mark-exact s bytes 4 (chars "ASEF") (omega arith) (mark-exact s bytes 2 1 (omega arith) (mark-exact s bytes 2 0 (omega arith) (field-exact s bytes 4)))
 
   -- ---- the blocks
 
-  pub chain-blocks : (n : ℕ) → Exact s (chain standingAfter block n 0) (map blockOf) (λ bs. (length bs ≡ n) × AllIn standing Sound 0 bs) (joined blockBytes)
-  chain-blocks n = chain-exact standingAfter standing blockOf (λ d e. refl) {p = block} {Ok = Sound} (block-exact s bytes) n 0
+  pub chain-blocks : (n : ℕ) → Exact s (chain openAfterEntry block n 0) (map blockOf) (λ bs. (length bs ≡ n) × AllIn openAfter Sound 0 bs) (joined blockBytes)
+  chain-blocks n = chain-exact openAfterEntry openAfter blockOf (λ d e. refl) {p = block} {Ok = Sound} (block-exact s bytes) n 0
 
 -- groups by what each block finds open, and by what is left open
-pub nested-steps : (d : ℕ) (bs : List Block) {e : ℕ} → Nested d bs e → AllIn standing Steps d bs × (stateAfter standing d bs ≡ e)
+pub nested-steps : (d : ℕ) (bs : List Block) {e : ℕ} → Nested d bs e → AllIn openAfter Steps d bs × (stateAfter openAfter d bs ≡ e)
 unfolding stateAfter
 nested-steps d [] h = (tt, h)
-nested-steps d (start us ∷ bs) h = let r = nested-steps (d + 1) bs (h .1) in ((h .0, r .0), r .1)
-nested-steps d (stop ∷ bs) h = let r = nested-steps (d - 1) bs (h .1) in ((h .0, r .0), r .1)
+nested-steps d (groupStart us ∷ bs) h = let r = nested-steps (d + 1) bs (h .1) in ((h .0, r .0), r .1)
+nested-steps d (groupEnd ∷ bs) h = let r = nested-steps (d - 1) bs (h .1) in ((h .0, r .0), r .1)
 nested-steps d (colour us t cs k ∷ bs) h = let r = nested-steps d bs h in ((tt, r .0), r .1)
 nested-steps d (other t ∷ bs) h = let r = nested-steps d bs h in ((tt, r .0), r .1)
 
-pub steps-nested : (d : ℕ) (bs : List Block) {e : ℕ} → AllIn standing Steps d bs → stateAfter standing d bs ≡ e → Nested d bs e
+pub steps-nested : (d : ℕ) (bs : List Block) {e : ℕ} → AllIn openAfter Steps d bs → stateAfter openAfter d bs ≡ e → Nested d bs e
 unfolding stateAfter
 steps-nested d [] h e = e
-steps-nested d (start us ∷ bs) h e = (h .0, steps-nested (d + 1) bs (h .1) e)
-steps-nested d (stop ∷ bs) h e = (h .0, steps-nested (d - 1) bs (h .1) e)
+steps-nested d (groupStart us ∷ bs) h e = (h .0, steps-nested (d + 1) bs (h .1) e)
+steps-nested d (groupEnd ∷ bs) h e = (h .0, steps-nested (d - 1) bs (h .1) e)
 steps-nested d (colour us t cs k ∷ bs) h e = steps-nested d bs (h .1) e
 steps-nested d (other t ∷ bs) h e = steps-nested d bs (h .1) e
 
@@ -100,8 +101,8 @@ bytes-name us =
     bytes-append (be 2 (length us + 1)) (u ++ be 2 0) (bytes-be 2 (length us + 1)) (bytes-append u (be 2 0) (bytes-joined (be 2) (bytes-be 2) us) (bytes-be 2 0))
 
 bytes-payload : (b : Block) → Bytes (payload b)
-bytes-payload (start us) = bytes-name us
-bytes-payload stop = bytes-nil
+bytes-payload (groupStart us) = bytes-name us
+bytes-payload groupEnd = bytes-nil
 bytes-payload (other t) = bytes-nil
 bytes-payload (colour us t bs k) =
     let c : List ℕ = joined (be 4) bs in
@@ -118,14 +119,14 @@ unfolding fileBytes
 bytes-file bs =
     let l : List ℕ = joined blockBytes bs in
     let n : List ℕ = be 4 (length bs) in
-    bytes-append (be 4 0x4153_4546) (be 2 1 ++ (be 2 0 ++ (n ++ l))) (bytes-be 4 0x4153_4546)
+    bytes-append (be 4 (chars "ASEF")) (be 2 1 ++ (be 2 0 ++ (n ++ l))) (bytes-be 4 (chars "ASEF"))
     (bytes-append (be 2 1) (be 2 0 ++ (n ++ l)) (bytes-be 2 1) (bytes-append (be 2 0) (n ++ l) (bytes-be 2 0) (bytes-append n l (bytes-be 4 (length bs)) (bytes-joined blockBytes bytes-block bs))))
 
 -- ---- the states of a row of blocks
 
 -- allowed blocks, each in the state that those before it left
-pub sound : (bs : List Block) (e : ℕ) → All (λ i b. Allowed b) 0 bs → Nested 0 bs e → length (joined blockBytes bs) ≤ 16777216 → AllIn standing Sound 0 bs
+pub sound : (bs : List Block) (e : ℕ) → All (λ i b. Allowed b) 0 bs → Nested 0 bs e → length (joined blockBytes bs) ≤ 16777216 → AllIn openAfter Sound 0 bs
 sound bs e allowed nested short =
-    in-both standing (λ d b. Allowed b × Steps d b) (λ d b. length (payload b) < 256 ^ 4) 0 bs
-    (in-both standing (λ d b. Allowed b) Steps 0 bs (all-in standing Allowed 0 0 bs allowed) (nested-steps 0 bs nested .0))
-    (all-in standing (λ b. length (payload b) < 256 ^ 4) 0 0 bs (small-payloads bs short))
+    in-both openAfter (λ d b. Allowed b × Steps d b) (λ d b. length (payload b) < 256 ^ 4) 0 bs
+    (in-both openAfter (λ d b. Allowed b) Steps 0 bs (all-in openAfter Allowed 0 0 bs allowed) (nested-steps 0 bs nested .0))
+    (all-in openAfter (λ b. length (payload b) < 256 ^ 4) 0 0 bs (small-payloads bs short))

@@ -20,8 +20,8 @@ use Rattle.algebra.proofs.Lawful.{same-num, judged-lawful, name-lawful, give-la
 use Rattle.algebra.proofs.Exact.{all-map, map-id, judged-exact, name-exact}
 use Rattle.colour.specs.Models.{isModel, channelsOf}
 use Rattle.colour.specs.Channels.{allowsBits}
-use Rattle.ase.specs.Grammar.{Block, start, stop, colour, other, typeOf, payload, blockBytes, Channel, Colour, Allowed}
-use Rattle.ase.specs.Reading.{Entry, started, stopped, coloured, blockOf, group, model, channel, type, shade, within, deepest, isType, content, block}
+use Rattle.ase.specs.Grammar.{Block, groupStart, groupEnd, colour, other, typeOf, payload, blockBytes, Channel, Colour, Allowed}
+use Rattle.ase.specs.Reading.{Entry, groupStartRead, groupEndRead, colourRead, blockOf, groupContent, model, channel, type, colourContent, within, deepest, isBlockType, content, block}
 use Rattle.ase.proofs.Tables.{channels-fine, model-known, model-count, known-model, model-small, allowed-channel}
 use Rattle.ase.proofs.Turns.{channels-exact}
 use Rattle.ase.proofs.Payload.{within-reads, within-writes, within-ends}
@@ -30,14 +30,14 @@ use Rattle.ase.proofs.Payload.{within-reads, within-writes, within-ends
 
 -- which blocks have it
 abbrev pub Grouped : Block → Type 0
-Grouped (start us) = Named 2 us
-Grouped stop = ⊥
+Grouped (groupStart us) = Named 2 us
+Grouped groupEnd = ⊥
 Grouped (colour us t bs k) = ⊥
 Grouped (other t) = ⊥
 
 abbrev pub Shaded : Block → Type 0
-Shaded (start us) = ⊥
-Shaded stop = ⊥
+Shaded (groupStart us) = ⊥
+Shaded groupEnd = ⊥
 Shaded (colour us t bs k) = Colour us t bs k
 Shaded (other t) = ⊥
 
@@ -45,15 +45,15 @@ fine-channels : (t : ℕ) (bs : List ℕ) → All (λ i b. (b < 256 ^ 4) × (cha
 fine-channels t bs h = all-map (λ i b. (b < 256 ^ 4) × (channel t b ≡ fine)) (λ i b. Channel t b) (λ i b c. allowed-channel t b (c .0) (unless-fine (allowsBits t b) 5 (c .1))) 0 bs h
 
 module _ (s : List ℕ) (bytes : Bytes s) where
-  group-reads : (at : ℕ) (b : Block) → Grouped b → At s at (payload b) → (e : Entry) × (group s at ≡ ok e (at + length (payload b))) × (blockOf e ≡ b)
-  unfolding group
-  group-reads at (start us) fit h = let x = name-exact s 2 bytes .reads at us fit h in (started (x .0), rw (x .1), ap start (x .2))
-  group-reads at stop fit h = absurd fit
+  group-reads : (at : ℕ) (b : Block) → Grouped b → At s at (payload b) → (e : Entry) × (groupContent s at ≡ ok e (at + length (payload b))) × (blockOf e ≡ b)
+  unfolding groupContent
+  group-reads at (groupStart us) fit h = let x = name-exact s 2 bytes .reads at us fit h in (groupStartRead (x .0), rw (x .1), ap groupStart (x .2))
+  group-reads at groupEnd fit h = absurd fit
   group-reads at (colour us t bs k) fit h = absurd fit
   group-reads at (other t) fit h = absurd fit
 
-  group-writes : (at : ℕ) → at ≤ length s → (e : Entry) (q : ℕ) → group s at ≡ ok e q → Grouped (blockOf e) × At s at (payload (blockOf e)) × (at + length (payload (blockOf e)) ≡ q)
-  unfolding group
+  group-writes : (at : ℕ) → at ≤ length s → (e : Entry) (q : ℕ) → groupContent s at ≡ ok e q → Grouped (blockOf e) × At s at (payload (blockOf e)) × (at + length (payload (blockOf e)) ≡ q)
+  unfolding groupContent
   group-writes at le e q h =
       let t = then-inv (name 2 s at) _ h in
       let x = name-exact s 2 bytes .writes at le (t .0) (t .1) (t .2) in
@@ -61,15 +61,15 @@ module _ (s : List ℕ) (bytes : Bytes s) where
       (x .0, x .1, x .2 ∙ ok-place (t .3))
 
   -- a group's name
-  pub group-exact : Exact s group blockOf Grouped payload
+  pub group-exact : Exact s groupContent blockOf Grouped payload
   group-exact = record { reads = group-reads; writes = group-writes }
 
-  shade-reads : (at : ℕ) (b : Block) → Shaded b → At s at (payload b) → (e : Entry) × (shade s at ≡ ok e (at + length (payload b))) × (blockOf e ≡ b)
-  unfolding shade
-  shade-reads at (start us) fit h = absurd fit
-  shade-reads at stop fit h = absurd fit
-  shade-reads at (other t) fit h = absurd fit
-  shade-reads at (colour us t bs k) fit h =
+  colour-content-reads : (at : ℕ) (b : Block) → Shaded b → At s at (payload b) → (e : Entry) × (colourContent s at ≡ ok e (at + length (payload b))) × (blockOf e ≡ b)
+  unfolding colourContent
+  colour-content-reads at (groupStart us) fit h = absurd fit
+  colour-content-reads at groupEnd fit h = absurd fit
+  colour-content-reads at (other t) fit h = absurd fit
+  colour-content-reads at (colour us t bs k) fit h =
       let n : List ℕ = nameBytes 2 us in
       let c : List ℕ = joined (be 4) bs in
       let known : isModel t ≡ true = model-known (fit .model) in
@@ -87,11 +87,11 @@ module _ (s : List ℕ) (bytes : Bytes s) where
       let w = judged-exact s bytes 2 type .reads q3 k (omega (arith, fit .type), ap (λ (b : Bool). unless b 5) (le-leb k 2 (fit .type))) h3 in
       let w2 : judged 2 type s q3 ≡ ok k (q3 + length (be 2 k)) = w .1 ∙ ap (λ (v : ℕ). ok v (q3 + length (be 2 k))) (w .2) in
       let l : q3 + length (be 2 k) ≡ at + length (n ++ (be 4 t ++ (c ++ be 2 k))) = omega (arith, length-append n (be 4 t ++ (c ++ be 2 k)), length-append (be 4 t) (c ++ be 2 k), length-append c (be 2 k)) in
-      (coloured (x .0) t bs k, rw (x .1) (rw y2 (rw z2 (rw w2 (rw l)))), ap (λ (v : List ℕ). colour v t bs k) (x .2))
+      (colourRead (x .0) t bs k, rw (x .1) (rw y2 (rw z2 (rw w2 (rw l)))), ap (λ (v : List ℕ). colour v t bs k) (x .2))
 
-  shade-writes : (at : ℕ) → at ≤ length s → (e : Entry) (q : ℕ) → shade s at ≡ ok e q → Shaded (blockOf e) × At s at (payload (blockOf e)) × (at + length (payload (blockOf e)) ≡ q)
-  unfolding shade
-  shade-writes at le e q h =
+  colour-content-writes : (at : ℕ) → at ≤ length s → (e : Entry) (q : ℕ) → colourContent s at ≡ ok e q → Shaded (blockOf e) × At s at (payload (blockOf e)) × (at + length (payload (blockOf e)) ≡ q)
+  unfolding colourContent
+  colour-content-writes at le e q h =
       let a = then-inv (name 2 s at) _ h in
       let nm : Name = a .0 in
       let x = name-exact s 2 bytes .writes at le nm (a .1) (a .2) in
@@ -125,15 +125,15 @@ module _ (s : List ℕ) (bytes : Bytes s) where
       subst (λ (v : Entry). Shaded (blockOf v) × At s at (payload (blockOf v)) × (at + length (payload (blockOf v)) ≡ q)) (ok-value (d .3)) (made, stands, ends)
 
   -- a colour's name, model, channels and type
-  pub shade-exact : Exact s shade blockOf Shaded payload
-  shade-exact = record { reads = shade-reads; writes = shade-writes }
+  pub colour-content-exact : Exact s colourContent blockOf Shaded payload
+  colour-content-exact = record { reads = colour-content-reads; writes = colour-content-writes }
 
 -- ---- a block, where d groups stand open
 
 -- what its place among the groups asks of it
 abbrev pub Steps : ℕ → Block → Type 0
-Steps d (start us) = d < 16
-Steps d stop = 0 < d
+Steps d (groupStart us) = d < 16
+Steps d groupEnd = 0 < d
 Steps d (colour us t bs k) = Unit
 Steps d (other t) = Unit
 
@@ -142,26 +142,26 @@ Sound d b = (Allowed b × Steps d b) × (length (payload b) < 256 ^ 4)
 
 -- one of the three types
 abbrev pub Typed : Block → Type 0
-Typed (start us) = Unit
-Typed stop = Unit
+Typed (groupStart us) = Unit
+Typed groupEnd = Unit
 Typed (colour us t bs k) = Unit
 Typed (other t) = ⊥
 
 pub allowed-known : (b : Block) → Allowed b → Typed b
-allowed-known (start us) a = tt
-allowed-known stop a = tt
+allowed-known (groupStart us) a = tt
+allowed-known groupEnd a = tt
 allowed-known (colour us t bs k) a = tt
 allowed-known (other t) a = a
 
 pub type-small : (b : Block) → Typed b → typeOf b < 256 ^ 2
-type-small (start us) k = omega arith
-type-small stop k = omega arith
+type-small (groupStart us) k = omega arith
+type-small groupEnd k = omega arith
 type-small (colour us t bs j) k = omega arith
 type-small (other t) k = absurd k
 
-pub type-is : (b : Block) → Typed b → isType (typeOf b) ≡ true
-type-is (start us) k = refl
-type-is stop k = refl
+pub type-is : (b : Block) → Typed b → isBlockType (typeOf b) ≡ true
+type-is (groupStart us) k = refl
+type-is groupEnd k = refl
 type-is (colour us t bs j) k = refl
 type-is (other t) k = absurd k
 
@@ -172,7 +172,7 @@ length-block b =
     omega (arith, length-append (be 2 (typeOf b)) (n ++ payload b), length-append n (payload b), length-be 2 (typeOf b), length-be 4 (length (payload b)))
 
 -- a block's type and length are there, its type is known and its payload is inside: its content is read
-pub block-in : (s : List ℕ) (d at : ℕ) → at + 6 + num 4 s (at + 2) ≤ length s → isType (num 2 s at) ≡ true → block d s at ≡ content (num 2 s at) d (num 4 s (at + 2)) s at
+pub block-in : (s : List ℕ) (d at : ℕ) → at + 6 + num 4 s (at + 2) ≤ length s → isBlockType (num 2 s at) ≡ true → block d s at ≡ content (num 2 s at) d (num 4 s (at + 2)) s at
 unfolding block
 block-in s d at room known =
     let p : at + 2 + 4 ≡ at + 6 = omega arith in
@@ -180,21 +180,21 @@ block-in s d at room known =
     rw (field-in 2 s at (omega arith)) (rw y (rw known (rw (le-leb (num 4 s (at + 2)) (length s - (at + 6)) (omega arith)))))
 
 pub block-inv : (s : List ℕ) (d at : ℕ) {e : Entry} {q : ℕ} → block d s at ≡ ok e q
-    → (at + 6 + num 4 s (at + 2) ≤ length s) × (isType (num 2 s at) ≡ true) × (content (num 2 s at) d (num 4 s (at + 2)) s at ≡ ok e q)
+    → (at + 6 + num 4 s (at + 2) ≤ length s) × (isBlockType (num 2 s at) ≡ true) × (content (num 2 s at) d (num 4 s (at + 2)) s at ≡ ok e q)
 unfolding block
 block-inv s d at {e} {q} h =
     let t = then-inv (field 2 s at) _ h in
     let x = field-inv 2 s at (t .2) in
     let u = then-inv (field 4 s (t .1)) _ (t .3) in
     let y = field-inv 4 s (t .1) (u .2) in
-    let r = rule-inv (unless (isType (t .0)) 4) at _ (u .3) in
+    let r = rule-inv (unless (isBlockType (t .0)) 4) at _ (u .3) in
     let v = pick-inv (leb (u .0) (length s - u .1)) (content (t .0) d (u .0) s at) _ (u .1) 0 0 (r .1) in
     let n : u .0 ≡ num 4 s (at + 2) = sym (y .1) ∙ ap (λ (p : ℕ). num 4 s p) (sym (x .2)) in
-    go (t .0) (u .0) (x .1) (sym n) (omega (arith, leb-true (u .0) (length s - u .1) (v .0), x .0, y .0, x .2, y .2)) (unless-fine (isType (t .0)) 4 (r .0)) (v .1)
+    go (t .0) (u .0) (x .1) (sym n) (omega (arith, leb-true (u .0) (length s - u .1) (v .0), x .0, y .0, x .2, y .2)) (unless-fine (isBlockType (t .0)) 4 (r .0)) (v .1)
   where
-    go : (t n : ℕ) → num 2 s at ≡ t → num 4 s (at + 2) ≡ n → at + 6 + n ≤ length s → isType t ≡ true → content t d n s at ≡ ok e q
-        → (at + 6 + num 4 s (at + 2) ≤ length s) × (isType (num 2 s at) ≡ true) × (content (num 2 s at) d (num 4 s (at + 2)) s at ≡ ok e q)
-    go t n x y room known c = (omega arith, ap isType x ∙ known, ap₂ (λ (a b : ℕ). content a d b s at) x y ∙ c)
+    go : (t n : ℕ) → num 2 s at ≡ t → num 4 s (at + 2) ≡ n → at + 6 + n ≤ length s → isBlockType t ≡ true → content t d n s at ≡ ok e q
+        → (at + 6 + num 4 s (at + 2) ≤ length s) × (isBlockType (num 2 s at) ≡ true) × (content (num 2 s at) d (num 4 s (at + 2)) s at ≡ ok e q)
+    go t n x y room known c = (omega arith, ap isBlockType x ∙ known, ap₂ (λ (a b : ℕ). content a d b s at) x y ∙ c)
 
 -- where a block's bytes stand, its content is read
 pub block-passes : (s : List ℕ) (d at : ℕ) (b : Block) → Typed b → length (payload b) < 256 ^ 4 → At s at (blockBytes b)
@@ -209,22 +209,22 @@ block-passes s d at b known small h =
     let h6 : At s (at + 6) l = at-after s (at + 2) (be 4 n) l (at + 6) six h2 in
     let x : num 2 s at ≡ t = num-be s 2 at t (type-small b known) (at-left s at (be 2 t) (be 4 n ++ l) h) in
     let y : num 4 s (at + 2) ≡ n = num-be s 4 (at + 2) n small (at-left s (at + 2) (be 4 n) l h2) in
-    (block-in s d at (omega (arith, at-in s (at + 6) l h6)) (ap isType x ∙ type-is b known) ∙ ap₂ (λ (a b : ℕ). content a d b s at) x y, h6)
+    (block-in s d at (omega (arith, at-in s (at + 6) l h6)) (ap isBlockType x ∙ type-is b known) ∙ ap₂ (λ (a b : ℕ). content a d b s at) x y, h6)
 
 module _ (s : List ℕ) (bytes : Bytes s) where
   content-reads : (d at : ℕ) (b : Block) → Allowed b → Steps d b → At s (at + 6) (payload b) → (e : Entry) × (content (typeOf b) d (length (payload b)) s at ≡ ok e (at + 6 + length (payload b))) × (blockOf e ≡ b)
   unfolding content
-  content-reads d at (start us) fit st h =
+  content-reads d at (groupStart us) fit st h =
       let l : List ℕ = nameBytes 2 us in
       let n : ℕ = length l in
-      let x = within-reads s n at (at-in s (at + 6) l h) group (group-exact (take (at + 6 + n) s) (bytes-take (at + 6 + n) s bytes)) (start us) fit refl h in
+      let x = within-reads s n at (at-in s (at + 6) l h) groupContent (group-exact (take (at + 6 + n) s) (bytes-take (at + 6 + n) s bytes)) (groupStart us) fit refl h in
       (x .0, rw (lt-ltb d 16 st) (x .1), x .2)
   content-reads d at (other t) fit st h = absurd fit
-  content-reads d at stop fit st h = (stopped, rw (lt-ltb 0 d st) (ap (λ (k : ℕ). ok stopped k) (sym (add-zero (at + 6)))), refl)
+  content-reads d at groupEnd fit st h = (groupEndRead, rw (lt-ltb 0 d st) (ap (λ (k : ℕ). ok groupEndRead k) (sym (add-zero (at + 6)))), refl)
   content-reads d at (colour us t bs k) fit st h =
       let l : List ℕ = payload (colour us t bs k) in
       let n : ℕ = length l in
-      within-reads s n at (at-in s (at + 6) l h) shade (shade-exact (take (at + 6 + n) s) (bytes-take (at + 6 + n) s bytes)) (colour us t bs k) fit refl h
+      within-reads s n at (at-in s (at + 6) l h) colourContent (colour-content-exact (take (at + 6 + n) s) (bytes-take (at + 6 + n) s bytes)) (colour us t bs k) fit refl h
 
   pub block-reads : (d at : ℕ) (b : Block) → Sound d b → At s at (blockBytes b) → (e : Entry) × (block d s at ≡ ok e (at + length (blockBytes b))) × (blockOf e ≡ b)
   block-reads d at b fit h =
@@ -244,29 +244,29 @@ pub record Held (s : List ℕ) (at t d n : ℕ) (b : Block) (q : ℕ) : Type 0 w
 
 module _ (s : List ℕ) (at d n : ℕ) where
   grouped-held : (b : Block) (q : ℕ) → d < 16 → Grouped b × At s (at + 6) (payload b) × (length (payload b) ≡ n) × (q ≡ at + 6 + n) → Held s at 0xC001 d n b q
-  grouped-held (start us) q l h = record { is = refl; allowed = h .0; steps = l; stands = h .1; sized = h .2; end = h .3 }
-  grouped-held stop q l h = absurd (h .0)
+  grouped-held (groupStart us) q l h = record { is = refl; allowed = h .0; steps = l; stands = h .1; sized = h .2; end = h .3 }
+  grouped-held groupEnd q l h = absurd (h .0)
   grouped-held (colour us t bs k) q l h = absurd (h .0)
   grouped-held (other t) q l h = absurd (h .0)
 
   shaded-held : (b : Block) (q : ℕ) → Shaded b × At s (at + 6) (payload b) × (length (payload b) ≡ n) × (q ≡ at + 6 + n) → Held s at 0x0001 d n b q
-  shaded-held (start us) q h = absurd (h .0)
-  shaded-held stop q h = absurd (h .0)
+  shaded-held (groupStart us) q h = absurd (h .0)
+  shaded-held groupEnd q h = absurd (h .0)
   shaded-held (other t) q h = absurd (h .0)
   shaded-held (colour us t bs k) q h = record { is = refl; allowed = h .0; steps = tt; stands = h .1; sized = h .2; end = h .3 }
 
   module _ (bytes : Bytes s) (room : at + 6 + n ≤ length s) where
-    start-held : (e : Entry) (q : ℕ) → rule (unless (ltb d deepest) 10) at (within group n s at) ≡ ok e q → Held s at 0xC001 d n (blockOf e) q
+    start-held : (e : Entry) (q : ℕ) → rule (unless (ltb d deepest) 10) at (within groupContent n s at) ≡ ok e q → Held s at 0xC001 d n (blockOf e) q
     start-held e q h =
-        let i = rule-inv (unless (ltb d 16) 10) at (within group n s at) h in
+        let i = rule-inv (unless (ltb d 16) 10) at (within groupContent n s at) h in
         grouped-held (blockOf e) q (ltb-true d 16 (unless-fine (ltb d 16) 10 (i .0)))
-        (within-writes s n at room group (group-exact (take (at + 6 + n) s) (bytes-take (at + 6 + n) s bytes)) e q (i .1))
+        (within-writes s n at room groupContent (group-exact (take (at + 6 + n) s) (bytes-take (at + 6 + n) s bytes)) e q (i .1))
 
-    stop-held : (e : Entry) (q : ℕ) → rule (unless (eqb n 0) 13) (at + 2) (rule (unless (ltb 0 d) 9) at (ok stopped (at + 6))) ≡ ok e q → Held s at 0xC002 d n (blockOf e) q
+    stop-held : (e : Entry) (q : ℕ) → rule (unless (eqb n 0) 13) (at + 2) (rule (unless (ltb 0 d) 9) at (ok groupEndRead (at + 6))) ≡ ok e q → Held s at 0xC002 d n (blockOf e) q
     unfolding At
     stop-held e q h =
-        let i = rule-inv (unless (eqb n 0) 13) (at + 2) (rule (unless (ltb 0 d) 9) at (ok stopped (at + 6))) h in
-        let j = rule-inv (unless (ltb 0 d) 9) at (ok stopped (at + 6)) (i .1) in
+        let i = rule-inv (unless (eqb n 0) 13) (at + 2) (rule (unless (ltb 0 d) 9) at (ok groupEndRead (at + 6))) h in
+        let j = rule-inv (unless (ltb 0 d) 9) at (ok groupEndRead (at + 6)) (i .1) in
         let z : n ≡ 0 = eqb-true n 0 (unless-fine (eqb n 0) 13 (i .0)) in
         subst (λ (v : Entry). Held s at 0xC002 d n (blockOf v) q) (ok-value (j .1)) (record {
           is = refl;
@@ -277,11 +277,11 @@ module _ (s : List ℕ) (at d n : ℕ) where
           end = omega (arith, ok-place (j .1));
         })
 
-    shade-held : (e : Entry) (q : ℕ) → within shade n s at ≡ ok e q → Held s at 0x0001 d n (blockOf e) q
-    shade-held e q h = shaded-held (blockOf e) q (within-writes s n at room shade (shade-exact (take (at + 6 + n) s) (bytes-take (at + 6 + n) s bytes)) e q h)
+    colour-content-held : (e : Entry) (q : ℕ) → within colourContent n s at ≡ ok e q → Held s at 0x0001 d n (blockOf e) q
+    colour-content-held e q h = shaded-held (blockOf e) q (within-writes s n at room colourContent (colour-content-exact (take (at + 6 + n) s) (bytes-take (at + 6 + n) s bytes)) e q h)
 
     -- a type by the reader's tests
-    pub content-held : (t : ℕ) (e : Entry) (q : ℕ) → isType t ≡ true → content t d n s at ≡ ok e q → Held s at t d n (blockOf e) q
+    pub content-held : (t : ℕ) (e : Entry) (q : ℕ) → isBlockType t ≡ true → content t d n s at ≡ ok e q → Held s at t d n (blockOf e) q
     unfolding content
     content-held t e q k h = go (eqb t 0xC001) (eqb t 0xC002) refl refl k h
       where
@@ -289,11 +289,11 @@ module _ (s : List ℕ) (at d n : ℕ) where
         known v z x = subst (λ (y : ℕ). Held s at y d n (blockOf e) q) (sym z) x
 
         go : (a b : Bool) → eqb t 0xC001 ≡ a → eqb t 0xC002 ≡ b → pick a true (pick b true (eqb t 0x0001)) ≡ true
-            → pick a (rule (unless (ltb d deepest) 10) at (within group n s at)) (pick b (rule (unless (eqb n 0) 13) (at + 2) (rule (unless (ltb 0 d) 9) at (ok stopped (at + 6)))) (within shade n s at)) ≡ ok e q
+            → pick a (rule (unless (ltb d deepest) 10) at (within groupContent n s at)) (pick b (rule (unless (eqb n 0) 13) (at + 2) (rule (unless (ltb 0 d) 9) at (ok groupEndRead (at + 6)))) (within colourContent n s at)) ≡ ok e q
             → Held s at t d n (blockOf e) q
         go true b x y z w = known 0xC001 (eqb-true t 0xC001 x) (start-held e q w)
         go false true x y z w = known 0xC002 (eqb-true t 0xC002 y) (stop-held e q w)
-        go false false x y z w = known 0x0001 (eqb-true t 0x0001 z) (shade-held e q w)
+        go false false x y z w = known 0x0001 (eqb-true t 0x0001 z) (colour-content-held e q w)
 
 module _ (s : List ℕ) (bytes : Bytes s) (d at : ℕ) where
   pub block-writes : at ≤ length s → (e : Entry) (q : ℕ) → block d s at ≡ ok e q → Sound d (blockOf e) × At s at (blockBytes (blockOf e)) × (at + length (blockBytes (blockOf e)) ≡ q)
@@ -319,16 +319,16 @@ block-exact s bytes d = record { reads = block-reads s bytes d; writes = block-w
 
 -- ---- each moves forward, stays inside and depends only on the bytes that it passed
 
-pub group-lawful : Lawful group
-unfolding group
-group-lawful = bind-lawful (name 2) _ (name-lawful 2) (λ nm. give-lawful (started nm))
+pub group-lawful : Lawful groupContent
+unfolding groupContent
+group-lawful = bind-lawful (name 2) _ (name-lawful 2) (λ nm. give-lawful (groupStartRead nm))
 
-pub shade-lawful : Lawful shade
-unfolding shade
-shade-lawful =
+pub colour-content-lawful : Lawful colourContent
+unfolding colourContent
+colour-content-lawful =
     bind-lawful (name 2) _ (name-lawful 2) (λ nm. bind-lawful (judged 4 model) _ (judged-lawful 4 model) (λ t.
     bind-lawful (each (channelsOf t) 0 (λ i. judged 4 (channel t))) _ (each-lawful (λ i. judged 4 (channel t)) (λ i. judged-lawful 4 (channel t)) (channelsOf t) 0) (λ bs.
-    bind-lawful (judged 2 type) _ (judged-lawful 2 type) (λ k. give-lawful (coloured nm t bs k)))))
+    bind-lawful (judged 2 type) _ (judged-lawful 2 type) (λ k. give-lawful (colourRead nm t bs k)))))
 
 module _ (s : List ℕ) (d n at : ℕ) (room : at + 6 + n ≤ length s) (e : Entry) (q : ℕ) (u : List ℕ) where
   -- it ends behind its payload, and another file that is the same there has it too
@@ -345,18 +345,18 @@ module _ (s : List ℕ) (d n at : ℕ) (room : at + 6 + n ≤ length s) (e : Ent
   unfolding content
   content-ends t = go (eqb t 0xC001) (eqb t 0xC002)
     where
-      stopping : Ends (rule (unless (eqb n 0) 13) (at + 2) (rule (unless (ltb 0 d) 9) at (ok stopped (at + 6)))) (rule (unless (eqb n 0) 13) (at + 2) (rule (unless (ltb 0 d) 9) at (ok stopped (at + 6))))
+      stopping : Ends (rule (unless (eqb n 0) 13) (at + 2) (rule (unless (ltb 0 d) 9) at (ok groupEndRead (at + 6)))) (rule (unless (eqb n 0) 13) (at + 2) (rule (unless (ltb 0 d) 9) at (ok groupEndRead (at + 6))))
       stopping h =
-          let i = rule-inv (unless (eqb n 0) 13) (at + 2) (rule (unless (ltb 0 d) 9) at (ok stopped (at + 6))) h in
-          let j = rule-inv (unless (ltb 0 d) 9) at (ok stopped (at + 6)) (i .1) in
+          let i = rule-inv (unless (eqb n 0) 13) (at + 2) (rule (unless (ltb 0 d) 9) at (ok groupEndRead (at + 6))) h in
+          let j = rule-inv (unless (ltb 0 d) 9) at (ok groupEndRead (at + 6)) (i .1) in
           let z : n ≡ 0 = eqb-true n 0 (unless-fine (eqb n 0) 13 (i .0)) in
           (omega (arith, ok-place (j .1)), λ same. h)
 
-      go : (a b : Bool) → Ends (pick a (rule (unless (ltb d deepest) 10) at (within group n s at)) (pick b (rule (unless (eqb n 0) 13) (at + 2) (rule (unless (ltb 0 d) 9) at (ok stopped (at + 6)))) (within shade n s at)))
-          (pick a (rule (unless (ltb d deepest) 10) at (within group n u at)) (pick b (rule (unless (eqb n 0) 13) (at + 2) (rule (unless (ltb 0 d) 9) at (ok stopped (at + 6)))) (within shade n u at)))
-      go true b = rule-ends (ltb d deepest) 10 at (within group n s at) (within group n u at) (within-ends s n at room group group-lawful e q u)
+      go : (a b : Bool) → Ends (pick a (rule (unless (ltb d deepest) 10) at (within groupContent n s at)) (pick b (rule (unless (eqb n 0) 13) (at + 2) (rule (unless (ltb 0 d) 9) at (ok groupEndRead (at + 6)))) (within colourContent n s at)))
+          (pick a (rule (unless (ltb d deepest) 10) at (within groupContent n u at)) (pick b (rule (unless (eqb n 0) 13) (at + 2) (rule (unless (ltb 0 d) 9) at (ok groupEndRead (at + 6)))) (within colourContent n u at)))
+      go true b = rule-ends (ltb d deepest) 10 at (within groupContent n s at) (within groupContent n u at) (within-ends s n at room groupContent group-lawful e q u)
       go false true = stopping
-      go false false = within-ends s n at room shade shade-lawful e q u
+      go false false = within-ends s n at room colourContent colour-content-lawful e q u
 
 pub block-lawful : (d : ℕ) → Lawful (block d)
 block-lawful d = record {
@@ -370,5 +370,5 @@ block-lawful d = record {
       let r = content-ends s d n at (i .0) e q u (num 2 s at) (i .2) in
       let x : num 2 u at ≡ num 2 s at = same-num same 2 at (omega arith) (omega (arith, r .0)) in
       let y : num 4 u (at + 2) ≡ n = same-num same 4 (at + 2) (omega arith) (omega (arith, r .0)) in
-      block-in u d at (omega (arith, r .0, same .inside)) (ap isType x ∙ i .1) ∙ ap₂ (λ (a b : ℕ). content a d b u at) x y ∙ r .1 same;
+      block-in u d at (omega (arith, r .0, same .inside)) (ap isBlockType x ∙ i .1) ∙ ap₂ (λ (a b : ℕ). content a d b u at) x y ∙ r .1 same;
 }

@@ -8,6 +8,7 @@ use lib.Seq.{length-take-le}
 use lib.Dec.{leb, ltb, eqb}
 use borrow.Author.Tests.{leb-true}
 use native.Mathlib.Omega.{arith}
+use Rattle.algebra.specs.Chars.{chars}
 use Rattle.algebra.specs.Reader.{Res, Reader, ok, refuse, pick, field, Judged, unless, judged, each, stateAfter, chain}
 use Rattle.algebra.specs.Text.{name}
 use Rattle.algebra.specs.Refusal.{Of, among, Placed, ends, fails, Places}
@@ -15,7 +16,7 @@ use Rattle.algebra.proofs.Inverse.{field-inv}
 use Rattle.algebra.proofs.Placed.{unless-numbered, refusal-placed, placed-then, placed-from, placed-pick, placed-rule, field-placed, judged-placed, ended-placed, name-placed, each-placed, chain-placed, limited-placed}
 use Rattle.colour.specs.Models.{isModel, channelsOf}
 use Rattle.colour.specs.Channels.{allowsBits}
-use Rattle.ase.specs.Reading.{group, model, channel, type, shade, inside, within, deepest, isType, content, block, standingAfter, heading, blocks, palette, ase}
+use Rattle.ase.specs.Reading.{groupContent, model, channel, type, colourContent, inside, within, deepest, isBlockType, content, block, openAfterEntry, heading, blocks, palette, ase}
 use Rattle.ase.specs.Refusals.{refusals}
 
 three : Of refusals 3
@@ -29,13 +30,13 @@ thirteen = among refl
 
 -- ---- a payload's content
 
-group-placed : Places refusals group
-unfolding group
+group-placed : Places refusals groupContent
+unfolding groupContent
 group-placed s at l = placed-then (name 2 s at) _ (name-placed (among refl) (among refl) 2 at l) (λ nm q h. ends h)
 
-shade-placed : Places refusals shade
-unfolding shade
-shade-placed s at l =
+colour-content-placed : Places refusals colourContent
+unfolding colourContent
+colour-content-placed s at l =
     let five : Of refusals 5 = among refl in
     placed-then (name 2 s at) _ (name-placed (among refl) (among refl) 2 at l)
     (λ nm q h. placed-then (judged 4 model s q) _ (judged-placed (among refl) 4 model q (λ t. unless-numbered (isModel t) (among refl)) h)
@@ -63,16 +64,16 @@ module _ {s : List ℕ} where
       let a : at ≤ length s = omega arith in
       let b : at + 2 ≤ length s = omega arith in
       let c : at + 6 ≤ length s = omega arith in
-      placed-pick (eqb t 0xC001) (placed-rule (unless (ltb d deepest) 10) (unless-numbered (ltb d deepest) (among refl)) a (within-placed group group-placed n at l))
+      placed-pick (eqb t 0xC001) (placed-rule (unless (ltb d deepest) 10) (unless-numbered (ltb d deepest) (among refl)) a (within-placed groupContent group-placed n at l))
       (placed-pick (eqb t 0xC002) (placed-rule (unless (eqb n 0) 13) (unless-numbered (eqb n 0) thirteen) b (placed-rule (unless (ltb 0 d) 9) (unless-numbered (ltb 0 d) nine) a (ends c)))
-      (within-placed shade shade-placed n at l))
+      (within-placed colourContent colour-content-placed n at l))
 
   block-placed : (d at : ℕ) → at ≤ length s → Placed refusals s (block d s at)
   unfolding block
   block-placed d at l =
       placed-from (field 2 s at) _ (field-placed (among refl) 2 at l)
       (λ t a e h. placed-from (field 4 s a) _ (field-placed (among refl) 4 a h)
-      (λ n b f g. placed-rule (unless (isType t) 4) (unless-numbered (isType t) (among refl)) l
+      (λ n b f g. placed-rule (unless (isBlockType t) 4) (unless-numbered (isBlockType t) (among refl)) l
       (let i = field-inv 2 s at e in let j = field-inv 4 s a f in let z : b ≡ at + 6 = omega arith in payload t n b z g (leb n (length s - b)) refl)))
     where
       payload : (t n b : ℕ) → b ≡ at + 6 → b ≤ length s → (c : Bool) → leb n (length s - b) ≡ c → Placed refusals s (pick c (content t d n s at) (refuse 2 b 0 0))
@@ -84,18 +85,18 @@ module _ {s : List ℕ} where
   heading-placed : (at : ℕ) → at ≤ length s → Placed refusals s (heading s at)
   unfolding heading
   heading-placed at l =
-      let i : ℕ → Judged = λ x. unless (eqb x 0x4153_4546) 3 in
+      let i : ℕ → Judged = λ x. unless (eqb x (chars "ASEF")) 3 in
       let j : ℕ → Judged = λ v. unless (eqb v 1) 3 in
       let k : ℕ → Judged = λ w. unless (eqb w 0) 3 in
-      placed-then (judged 4 i s at) _ (judged-placed (among refl) 4 i at (λ x. unless-numbered (eqb x 0x4153_4546) three) l)
+      placed-then (judged 4 i s at) _ (judged-placed (among refl) 4 i at (λ x. unless-numbered (eqb x (chars "ASEF")) three) l)
       (λ x q h. placed-then (judged 2 j s q) _ (judged-placed (among refl) 2 j q (λ v. unless-numbered (eqb v 1) three) h)
       (λ v e g. placed-then (judged 2 k s e) _ (judged-placed (among refl) 2 k e (λ w. unless-numbered (eqb w 0) three) g) (λ w r y. field-placed (among refl) 4 r y)))
 
   blocks-placed : (n at : ℕ) → at ≤ length s → Placed refusals s (blocks n s at)
   unfolding blocks
   blocks-placed n at l =
-      placed-then (chain standingAfter block n 0 s at) _ (chain-placed standingAfter block block-placed n 0 at l)
-      (λ es q h. placed-rule (unless (eqb (stateAfter standingAfter 0 es) 0) 9) (unless-numbered (eqb (stateAfter standingAfter 0 es) 0) nine) h (ends h))
+      placed-then (chain openAfterEntry block n 0 s at) _ (chain-placed openAfterEntry block block-placed n 0 at l)
+      (λ es q h. placed-rule (unless (eqb (stateAfter openAfterEntry 0 es) 0) 9) (unless-numbered (eqb (stateAfter openAfterEntry 0 es) 0) nine) h (ends h))
 
   palette-placed : (at : ℕ) → at ≤ length s → Placed refusals s (palette s at)
   unfolding palette

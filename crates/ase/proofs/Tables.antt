@@ -7,7 +7,7 @@ use mathlib.Core.Bool.{Bool, true, false, true≢false}
 use lib.Dec.{eqb}
 use borrow.Author.Tests.{ne-eqb}
 use native.Mathlib.Omega.{arith}
-use Rattle.colour.specs.declared.model.Known.the-variants as vk
+use Rattle.colour.specs.declared.model.KnownModel.the-variants as vk
 use Rattle.colour.specs.declared.model.Model.the-variants as vm
 use Rattle.colour.specs.Models.{modelOf, isKnown, countIn, isModel, channelsOf}
 use Rattle.colour.specs.Channels.{allowsBits}
@@ -15,12 +15,12 @@ use Rattle.colour.proofs.Models.{Tagged, of, none, model-tagged, allows-unit, a
 use Rattle.algebra.specs.Numbers.{All}
 use Rattle.algebra.specs.Reader.{fine}
 use Rattle.algebra.proofs.Exact.{all-map}
-use Rattle.ase.specs.Reading.{channel, isType}
+use Rattle.ase.specs.Reading.{channel, isBlockType}
 use Rattle.ase.specs.Grammar.{Known, starts, stops, colours, Unknown, Model, rgb, cmyk, lab, gray, Channel, unit, minus, finite}
 
 -- ---- types of a block
 
-pub known-type : {t : ℕ} → Known t → isType t ≡ true
+pub known-type : {t : ℕ} → Known t → isBlockType t ≡ true
 known-type starts = refl
 known-type stops = refl
 known-type colours = refl
@@ -40,7 +40,7 @@ module _ (t : ℕ) (u : Unknown t) where
   pub no-colour : eqb t 0x0001 ≡ false
   no-colour = ne-eqb t 0x0001 (λ e. u .none (subst Known (sym e) colours))
 
-  pub unknown-type : isType t ≡ false
+  pub unknown-type : isBlockType t ≡ false
   unknown-type = simp (no-start, no-stop, no-colour)
 
 -- ---- models

@@ -7,6 +7,7 @@ use lib.Seq.{length-take-le}
 use borrow.Author.Tests.{le-leb, lt-leb, le-ltb, lt-ltb, eq-eqb, ne-eqb}
 use native.Mathlib.Omega.{arith}
 use native.Mathlib.Nat.{add-zero}
+use Rattle.algebra.specs.Chars.{chars}
 use Rattle.algebra.specs.Numbers.{be, joined, At, Bytes, All}
 use Rattle.algebra.specs.Reader.{Res, ok, refuse, Reader, then, field, fine, judged, each, stateAfter, chain}
 use Rattle.algebra.specs.Text.{Name, name, nameBytes, Named}
@@ -19,8 +20,8 @@ use Rattle.algebra.proofs.Stops.{each-stops}
 use Rattle.algebra.proofs.Tails.{Tail, tail-left, tail-after, field-there, field-cut, judged-there, judged-wrong, judged-cut, name-cut, name-none, name-units-cut, name-open}
 use Rattle.colour.specs.Models.{channelsOf}
 use Rattle.ase.specs.Grammar.{colour, payload, Known, starts, stops, colours, Unknown, Model, Channel}
-use Rattle.ase.specs.Reading.{Entry, coloured, group, model, channel, type, shade, inside, within, content, block, standingAfter, marked, heading, blocks, palette}
-use Rattle.ase.specs.Damaged.{DamagedHeading, signature-cut, wrong-signature, major-cut, wrong-major, minor-cut, wrong-minor, blocks-cut, DamagedName, count-cut, no-units, units-cut, unclosed, DamagedGroup, group-name, group-left, Begun, DamagedColour, colour-name, model-cut, wrong-model, channel-cut, wrong-channel, type-cut, wrong-type, colour-left, modelAt, channelAt, framed, loaded, DamagedBlock, block-cut, length-cut, unknown, payload-cut, too-deep, wrong-group, end-with-payload, end-without-group, wrong-colour}
+use Rattle.ase.specs.Reading.{Entry, colourRead, groupContent, model, channel, type, colourContent, inside, within, content, block, openAfterEntry, fixedNumber, heading, blocks, palette}
+use Rattle.ase.specs.Damaged.{DamagedHeading, signature-cut, wrong-signature, major-cut, wrong-major, minor-cut, wrong-minor, blocks-cut, DamagedName, count-cut, no-units, units-cut, unclosed, DamagedGroup, group-name, group-left, Begun, DamagedColour, colour-name, model-cut, wrong-model, channel-cut, wrong-channel, type-cut, wrong-type, colour-left, modelAt, channelAt, blockHead, blockFrame, DamagedBlock, block-cut, length-cut, unknown, payload-cut, too-deep, wrong-group, end-with-payload, end-without-group, wrong-colour}
 use Rattle.ase.proofs.Answers.{length-cut-first}
 use Rattle.ase.proofs.Payload.{at-cut}
 use Rattle.ase.proofs.Tables.{known-type, known-small, unknown-type, model-known, model-count, model-small, unknown-model, channel-refused, channels-fine}
@@ -28,28 +29,28 @@ use Rattle.ase.proofs.Tables.{known-type, known-small, unknown-type, mo
 -- ---- the heading
 
 module _ (s : List ℕ) where
-  mark-there : (w v at : ℕ) → v < 256 ^ w → (x : List ℕ) → Tail s at (be w v ++ x) → (judged w (marked v) s at ≡ ok v (at + w)) × Tail s (at + w) x
-  mark-there w v at small x t = (judged-there s w at (marked v) v small (rw (eq-eqb v v refl)) (tail-left s at (be w v) x t), tail-after s at (be w v) x (at + w) (ap (λ (k : ℕ). at + k) (length-be w v)) t)
+  mark-there : (w v at : ℕ) → v < 256 ^ w → (x : List ℕ) → Tail s at (be w v ++ x) → (judged w (fixedNumber v) s at ≡ ok v (at + w)) × Tail s (at + w) x
+  mark-there w v at small x t = (judged-there s w at (fixedNumber v) v small (rw (eq-eqb v v refl)) (tail-left s at (be w v) x t), tail-after s at (be w v) x (at + w) (ap (λ (k : ℕ). at + k) (length-be w v)) t)
 
-  mark-wrong : (w v at u : ℕ) → u < 256 ^ w → (u ≡ v → ⊥) → (x : List ℕ) → Tail s at (be w u ++ x) → judged w (marked v) s at ≡ refuse 3 at 0 0
-  mark-wrong w v at u small ne x t = judged-wrong s w at (marked v) 3 u small (rw (ne-eqb u v ne)) (tail-left s at (be w u) x t)
+  mark-wrong : (w v at u : ℕ) → u < 256 ^ w → (u ≡ v → ⊥) → (x : List ℕ) → Tail s at (be w u ++ x) → judged w (fixedNumber v) s at ≡ refuse 3 at 0 0
+  mark-wrong w v at u small ne x t = judged-wrong s w at (fixedNumber v) 3 u small (rw (ne-eqb u v ne)) (tail-left s at (be w u) x t)
 
   pub heading-stops : {b : List ℕ} {z p : ℕ} → DamagedHeading b z p → Tail s 0 b → heading s 0 ≡ refuse z p 0 0
   unfolding heading
-  heading-stops (signature-cut x few) t = rw (judged-cut s 4 0 (marked 0x4153_4546) few t)
-  heading-stops (wrong-signature v x small ne) t = rw (mark-wrong 4 0x4153_4546 0 v small ne x t)
-  heading-stops (major-cut x few) t = let a = mark-there 4 0x4153_4546 0 (omega arith) x t in rw (a .0) (rw (judged-cut s 2 4 (marked 1) few (a .1)))
-  heading-stops (wrong-major v x small ne) t = let a = mark-there 4 0x4153_4546 0 (omega arith) _ t in rw (a .0) (rw (mark-wrong 2 1 4 v small ne x (a .1)))
+  heading-stops (signature-cut x few) t = rw (judged-cut s 4 0 (fixedNumber (chars "ASEF")) few t)
+  heading-stops (wrong-signature v x small ne) t = rw (mark-wrong 4 (chars "ASEF") 0 v small ne x t)
+  heading-stops (major-cut x few) t = let a = mark-there 4 (chars "ASEF") 0 (omega arith) x t in rw (a .0) (rw (judged-cut s 2 4 (fixedNumber 1) few (a .1)))
+  heading-stops (wrong-major v x small ne) t = let a = mark-there 4 (chars "ASEF") 0 (omega arith) _ t in rw (a .0) (rw (mark-wrong 2 1 4 v small ne x (a .1)))
   heading-stops (minor-cut x few) t =
-      let a = mark-there 4 0x4153_4546 0 (omega arith) _ t in
+      let a = mark-there 4 (chars "ASEF") 0 (omega arith) _ t in
       let b = mark-there 2 1 4 (omega arith) x (a .1) in
-      rw (a .0) (rw (b .0) (rw (judged-cut s 2 6 (marked 0) few (b .1))))
+      rw (a .0) (rw (b .0) (rw (judged-cut s 2 6 (fixedNumber 0) few (b .1))))
   heading-stops (wrong-minor v x small ne) t =
-      let a = mark-there 4 0x4153_4546 0 (omega arith) _ t in
+      let a = mark-there 4 (chars "ASEF") 0 (omega arith) _ t in
       let b = mark-there 2 1 4 (omega arith) _ (a .1) in
       rw (a .0) (rw (b .0) (rw (mark-wrong 2 0 6 v small ne x (b .1))))
   heading-stops (blocks-cut x few) t =
-      let a = mark-there 4 0x4153_4546 0 (omega arith) _ t in
+      let a = mark-there 4 (chars "ASEF") 0 (omega arith) _ t in
       let b = mark-there 2 1 4 (omega arith) _ (a .1) in
       let c = mark-there 2 0 6 (omega arith) x (b .1) in
       rw (a .0) (rw (b .0) (rw (c .0) (field-cut s 4 8 few (c .1))))
@@ -92,16 +93,16 @@ module _ (s : List ℕ) (bytes : Bytes s) (at : ℕ) where
       (x .0, x .1 ∙ ap (λ (k : ℕ). ok (x .0) k) e, tail-after s (at + 6) (nameBytes 2 us) l (at + modelAt us) e t)
 
   -- a group start's content, where the payload ends with the file
-  group-stops : {l : List ℕ} {z p : ℕ} → DamagedGroup l z p → Tail s (at + 6) l → inside (at + 2) (length s) (group s (at + 6)) ≡ refuse z (at + p) 0 0
-  unfolding group
+  group-stops : {l : List ℕ} {z p : ℕ} → DamagedGroup l z p → Tail s (at + 6) l → inside (at + 2) (length s) (groupContent s (at + 6)) ≡ refuse z (at + p) 0 0
+  unfolding groupContent
   group-stops (group-name d) t = stopped-inside (length s) _ (stopped-then (name 2 s (at + 6)) _ (name-stops d t))
   group-stops (group-left us l nm some) t =
       let x = named-there us l nm t in
       rw (x .1) (rw (ne-eqb (at + modelAt us) (length s) (λ z. omega (arith, x .2 .ends))))
 
   -- an unknown model is 4, whatever follows it
-  model-stops : (us : List ℕ) (t : ℕ) (l : List ℕ) → Named 2 us → t < 256 ^ 4 → ((n : ℕ) → Model t n → ⊥) → Tail s (at + 6) (nameBytes 2 us ++ (be 4 t ++ l)) → shade s (at + 6) ≡ refuse 4 (at + modelAt us) 0 0
-  unfolding shade
+  model-stops : (us : List ℕ) (t : ℕ) (l : List ℕ) → Named 2 us → t < 256 ^ 4 → ((n : ℕ) → Model t n → ⊥) → Tail s (at + 6) (nameBytes 2 us ++ (be 4 t ++ l)) → colourContent s (at + 6) ≡ refuse 4 (at + modelAt us) 0 0
+  unfolding colourContent
   model-stops us t l nm small none h =
       let x = named-there us (be 4 t ++ l) nm h in
       rw (x .1) (rw (judged-wrong s 4 (at + modelAt us) model 4 t small (rw (unknown-model t none)) (tail-left s (at + modelAt us) (be 4 t) l (x .2))))
@@ -140,12 +141,12 @@ module _ (s : List ℕ) (bytes : Bytes s) (at : ℕ) where
     first = at + modelAt us + 4
 
     begun-stops : (l : List ℕ) {z p : ℕ} → Tail s (at + 6) (nameBytes 2 us ++ (be 4 t ++ (joined (be 4) bs ++ l)))
-        → ((mk : List ℕ → ℕ → Entry) → Tail s first (joined (be 4) bs ++ l) → Stopped at (then (channels t s first) (λ vs q. then (judged 2 type s q) (λ k r. ok (mk vs k) r))) z p) → Stopped at (shade s (at + 6)) z p
-    unfolding shade
+        → ((mk : List ℕ → ℕ → Entry) → Tail s first (joined (be 4) bs ++ l) → Stopped at (then (channels t s first) (λ vs q. then (judged 2 type s q) (λ k r. ok (mk vs k) r))) z p) → Stopped at (colourContent s (at + 6)) z p
+    unfolding colourContent
     begun-stops l h rest =
         let x = named-there us (be 4 t ++ (joined (be 4) bs ++ l)) (b .named) h in
         let y = model-there us t n (joined (be 4) bs ++ l) (b .model) (x .2) in
-        stopped-after (name 2 s (at + 6)) _ (x .0) (at + modelAt us) (x .1) (stopped-after (judged 4 model s (at + modelAt us)) _ t first (y .0) (rest (λ vs k. coloured (x .0) t vs k) (y .1)))
+        stopped-after (name 2 s (at + 6)) _ (x .0) (at + modelAt us) (x .1) (stopped-after (judged 4 model s (at + modelAt us)) _ t first (y .0) (rest (λ vs k. colourRead (x .0) t vs k) (y .1)))
 
     -- behind all channels, a type that is refused
     type-stops : (l : List ℕ) {x p : ℕ} → length bs ≡ n → (mk : List ℕ → ℕ → Entry) → Tail s first (joined (be 4) bs ++ l) → (Tail s (first + 4 * n) l → judged 2 type s (first + 4 * n) ≡ refuse x p 0 0)
@@ -153,8 +154,8 @@ module _ (s : List ℕ) (bytes : Bytes s) (at : ℕ) where
     type-stops l all mk h e = let c = channels-there first t n bs l (b .model) (b .channels) all h in rw (c .0) (rw (e (c .1)))
 
   -- a colour's content, where the payload ends with the file
-  colour-stops : {l : List ℕ} {z p : ℕ} → DamagedColour l z p → Tail s (at + 6) l → inside (at + 2) (length s) (shade s (at + 6)) ≡ refuse z (at + p) 0 0
-  unfolding shade
+  colour-stops : {l : List ℕ} {z p : ℕ} → DamagedColour l z p → Tail s (at + 6) l → inside (at + 2) (length s) (colourContent s (at + 6)) ≡ refuse z (at + p) 0 0
+  unfolding colourContent
   colour-stops (colour-name d) h = stopped-inside (length s) _ (stopped-then (name 2 s (at + 6)) _ (name-stops d h))
   colour-stops (model-cut us l nm few) h =
       let x = named-there us l nm h in
@@ -186,19 +187,19 @@ module _ (s : List ℕ) (bytes : Bytes s) (at : ℕ) where
 
 module _ (s : List ℕ) (bytes : Bytes s) (d at : ℕ) where
   -- a type and a length that stand there
-  framed-there : (t m : ℕ) (x : List ℕ) → t < 256 ^ 2 → m < 256 ^ 4 → At s at (framed t m x) → (field 2 s at ≡ ok t (at + 2)) × (field 4 s (at + 2) ≡ ok m (at + 6))
+  framed-there : (t m : ℕ) (x : List ℕ) → t < 256 ^ 2 → m < 256 ^ 4 → At s at (blockHead t m x) → (field 2 s at ≡ ok t (at + 2)) × (field 4 s (at + 2) ≡ ok m (at + 6))
   framed-there t m x small few h =
       let r : At s (at + 2) (be 4 m ++ x) = at-after s at (be 2 t) (be 4 m ++ x) (at + 2) (ap (λ (k : ℕ). at + k) (length-be 2 t)) h in
       let e : at + 2 + 4 ≡ at + 6 = omega arith in
       (field-there s 2 at t small (at-left s at (be 2 t) (be 4 m ++ x) h), field-there s 4 (at + 2) m few (at-left s (at + 2) (be 4 m) x r) ∙ ap (λ (k : ℕ). ok m k) e)
 
-  framed-rest : (t m : ℕ) (x : List ℕ) → Tail s at (framed t m x) → Tail s (at + 6) x
+  framed-rest : (t m : ℕ) (x : List ℕ) → Tail s at (blockHead t m x) → Tail s (at + 6) x
   framed-rest t m x h =
       let e : at + length (be 2 t ++ be 4 m) ≡ at + 6 = omega (arith, length-append (be 2 t) (be 4 m), length-be 2 t, length-be 4 m) in
       tail-after s at (be 2 t ++ be 4 m) x (at + 6) e (subst (λ (y : List ℕ). Tail s at y) (sym (append-assoc (be 2 t) (be 4 m) x)) h)
 
   -- its payload stands there: its content is read
-  pub loaded-there : (t : ℕ) (l x : List ℕ) → Known t → length s ≤ 16777216 → Tail s at (loaded t l x) → (block d s at ≡ content t d (length l) s at) × At s (at + 6) l
+  pub loaded-there : (t : ℕ) (l x : List ℕ) → Known t → length s ≤ 16777216 → Tail s at (blockFrame t l x) → (block d s at ≡ content t d (length l) s at) × At s (at + 6) l
   unfolding block
   loaded-there t l x known short h =
       let few : length l < 256 ^ 4 = omega (arith, h .ends, length-append (be 2 t) (be 4 (length l) ++ (l ++ x)), length-append (be 4 (length l)) (l ++ x), length-append l x) in
@@ -218,7 +219,7 @@ module _ (s : List ℕ) (bytes : Bytes s) (d at : ℕ) where
   within-stops {A} {z} {p} r l h e = subst (λ (k : ℕ). inside (at + 2) k (r (take (at + 6 + length l) s) (at + 6)) ≡ refuse z p 0 0) (payload-tail l h .ends) e
 
   -- an unknown type is 4 at the block, whatever follows its length
-  pub unknown-stops : (t m : ℕ) (x : List ℕ) → Unknown t → m < 256 ^ 4 → At s at (framed t m x) → block d s at ≡ refuse 4 at 0 0
+  pub unknown-stops : (t m : ℕ) (x : List ℕ) → Unknown t → m < 256 ^ 4 → At s at (blockHead t m x) → block d s at ≡ refuse 4 at 0 0
   unfolding block
   unknown-stops t m x u few h = let f = framed-there t m x (u .small) few h in rw (f .0) (rw (f .1) (rw (unknown-type t u)))
 
@@ -237,24 +238,24 @@ module _ (s : List ℕ) (bytes : Bytes s) (d at : ℕ) where
   block-stops short (too-deep l x many) h = let f = loaded-there 0xC001 l x starts short h in f .0 ∙ rw (le-ltb d 16 (omega arith)) (here 10)
   block-stops short (wrong-group l x z p less g) h =
       let f = loaded-there 0xC001 l x starts short h in
-      f .0 ∙ rw (lt-ltb d 16 less) (within-stops group l (f .1) (group-stops (take (at + 6 + length l) s) (bytes-take (at + 6 + length l) s bytes) at g (payload-tail l (f .1))))
+      f .0 ∙ rw (lt-ltb d 16 less) (within-stops groupContent l (f .1) (group-stops (take (at + 6 + length l) s) (bytes-take (at + 6 + length l) s bytes) at g (payload-tail l (f .1))))
   block-stops short (end-with-payload l x some) h = let f = loaded-there 0xC002 l x stops short h in f .0 ∙ rw (ne-eqb (length l) 0 (λ z. omega arith))
   block-stops short (end-without-group x none) h =
       let f = framed-there 0xC002 0 x (omega arith) (omega arith) (h .stands) in
       rw (f .0) (rw (f .1) (rw (le-leb 0 (length s - (at + 6)) (omega arith)) (rw (le-ltb 0 d (omega arith)) (here 9))))
   block-stops short (wrong-colour l x z p g) h =
       let f = loaded-there 0x0001 l x colours short h in
-      f .0 ∙ within-stops shade l (f .1) (colour-stops (take (at + 6 + length l) s) (bytes-take (at + 6 + length l) s bytes) at g (payload-tail l (f .1)))
+      f .0 ∙ within-stops colourContent l (f .1) (colour-stops (take (at + 6 + length l) s) (bytes-take (at + 6 + length l) s bytes) at g (payload-tail l (f .1)))
 
 -- ---- behind the last block
 
-module _ (s : List ℕ) (n p : ℕ) (head : heading s 0 ≡ ok n p) (es : List Entry) (q : ℕ) (all : chain standingAfter block n 0 s p ≡ ok es q) where
+module _ (s : List ℕ) (n p : ℕ) (head : heading s 0 ≡ ok n p) (es : List Entry) (q : ℕ) (all : chain openAfterEntry block n 0 s p ≡ ok es q) where
   -- a group that is left open is 9, whatever follows
-  pub open-stops : 0 < stateAfter standingAfter 0 es → palette s 0 ≡ refuse 9 q 0 0
+  pub open-stops : 0 < stateAfter openAfterEntry 0 es → palette s 0 ≡ refuse 9 q 0 0
   unfolding palette blocks
-  open-stops some = rw head (rw all (rw (ne-eqb (stateAfter standingAfter 0 es) 0 (λ z. omega arith))))
+  open-stops some = rw head (rw all (rw (ne-eqb (stateAfter openAfterEntry 0 es) 0 (λ z. omega arith))))
 
   -- bytes left are 6
-  pub over-stops : stateAfter standingAfter 0 es ≡ 0 → q < length s → palette s 0 ≡ refuse 6 q 0 0
+  pub over-stops : stateAfter openAfterEntry 0 es ≡ 0 → q < length s → palette s 0 ≡ refuse 6 q 0 0
   unfolding palette blocks
-  over-stops none more = rw head (rw all (rw (eq-eqb (stateAfter standingAfter 0 es) 0 none) (ended-left es s q more)))
+  over-stops none more = rw head (rw all (rw (eq-eqb (stateAfter openAfterEntry 0 es) 0 none) (ended-left es s q more)))

@@ -6,13 +6,14 @@ use lib.Dec.{leb, eqb}
 use lib.ListN.{length, length-append}
 use borrow.Author.Tests.{eqb-true, eq-eqb, le-leb, leb-true}
 use native.Mathlib.Omega.{arith}
+use Rattle.algebra.specs.Chars.{chars}
 use Rattle.algebra.specs.Numbers.{joined, At, Bytes, All}
 use Rattle.algebra.specs.Reader.{ok, unless, judged, stateAfter, chain, ended}
 use Rattle.algebra.proofs.Places.{at-in, at-next, at-left, at-after, at-all, at-whole}
 use Rattle.algebra.proofs.Inverse.{then-inv, rule-inv, pick-inv, unless-fine, field-inv, judged-inv, ended-inv, ok-value, ok-place}
 use Rattle.algebra.proofs.Chain.{in-map, in-all, state-map}
 use Rattle.ase.specs.Grammar.{Block, blockBytes, fileBytes, Allowed, Nested, File, file}
-use Rattle.ase.specs.Reading.{Entry, blockOf, block, standing, standingAfter, marked, heading, blocks, palette, ase}
+use Rattle.ase.specs.Reading.{Entry, blockOf, block, openAfter, openAfterEntry, fixedNumber, heading, blocks, palette, ase}
 use Rattle.ase.proofs.Laws.{Steps, Sound}
 use Rattle.ase.proofs.Blocks.{headBytes, length-head, file-parts, heading-exact, chain-blocks, nested-steps, steps-nested, length-file, few-blocks, file-short, bytes-file, sound}
 
@@ -29,7 +30,7 @@ module _ (bs : List Block) (allowed : All (λ i b. Allowed b) 0 bs) (nested : Ne
       let hd : heading s 0 ≡ ok n 12 = x .1 ∙ ap₂ (λ (a b : ℕ). ok a b) (x .2) twelve in
       let y = chain-blocks s bytes n .reads 12 bs (refl, sound bs 0 allowed nested (file-short bs short)) (at-after s 0 (headBytes n) l 12 twelve h) in
       let es : List Entry = y .0 in
-      let none : stateAfter standingAfter 0 es ≡ 0 = state-map standingAfter standing blockOf (λ d e. refl) 0 es ∙ ap (stateAfter standing 0) (y .2) ∙ nested-steps 0 bs nested .1 in
+      let none : stateAfter openAfterEntry 0 es ≡ 0 = state-map openAfterEntry openAfter blockOf (λ d e. refl) 0 es ∙ ap (stateAfter openAfter 0) (y .2) ∙ nested-steps 0 bs nested .1 in
       (es, rw hd (rw (y .1) (rw none (rw len (simp (eq-eqb (length s) (length s) refl))))), y .2)
 
   pub file-reads : (es : List Entry) × (ase (fileBytes bs) ≡ ok es (length (fileBytes bs))) × (map blockOf es ≡ bs)
@@ -49,22 +50,22 @@ module _ (s : List ℕ) (bytes : Bytes s) where
       let n : ℕ = t .0 in
       let x = heading-exact s bytes .writes 0 (omega arith) n (t .1) (t .2) in
       let u = then-inv (blocks n s (t .1)) _ (t .3) in
-      let v = then-inv (chain standingAfter block n 0 s (t .1)) _ (u .2) in
-      let r = rule-inv (unless (eqb (stateAfter standingAfter 0 (v .0)) 0) 9) (v .1) (ok (v .0) (v .1)) (v .3) in
+      let v = then-inv (chain openAfterEntry block n 0 s (t .1)) _ (u .2) in
+      let r = rule-inv (unless (eqb (stateAfter openAfterEntry 0 (v .0)) 0) 9) (v .1) (ok (v .0) (v .1)) (v .3) in
       let z = ended-inv (u .0) s (u .1) (u .3) in
       let same : v .0 ≡ es = ok-value (r .1) ∙ z .1 in
       let y = chain-blocks s bytes n .writes (t .1) (omega (arith, at-in s 0 (headBytes n) (x .1), x .2)) (v .0) (v .1) (v .2) in
       let bs : List Block = map blockOf (v .0) in
       let l : List ℕ = joined blockBytes bs in
-      let none : stateAfter standing 0 bs ≡ 0 = sym (state-map standingAfter standing blockOf (λ d e. refl) 0 (v .0)) ∙ eqb-true (stateAfter standingAfter 0 (v .0)) 0 (unless-fine (eqb (stateAfter standingAfter 0 (v .0)) 0) 9 (r .0)) in
+      let none : stateAfter openAfter 0 bs ≡ 0 = sym (state-map openAfterEntry openAfter blockOf (λ d e. refl) 0 (v .0)) ∙ eqb-true (stateAfter openAfterEntry 0 (v .0)) 0 (unless-fine (eqb (stateAfter openAfterEntry 0 (v .0)) 0) 9 (r .0)) in
       let hd : At s 0 (headBytes (length bs)) = subst (λ (k : ℕ). At s 0 (headBytes k)) (sym (y .0 .0)) (x .1) in
       let next : 0 + length (headBytes (length bs)) ≡ t .1 = ap (λ (k : ℕ). 0 + length (headBytes k)) (y .0 .0) ∙ x .2 in
       let whole : At s 0 (headBytes (length bs) ++ l) = at-next s 0 (headBytes (length bs)) l (t .1) next hd (y .1) in
       let end : v .1 ≡ length s = ok-place (r .1) ∙ z .0 in
       let len : length (headBytes (length bs) ++ l) ≡ length s = omega (arith, length-append (headBytes (length bs)) l, next, y .2, end) in
       let is : s ≡ fileBytes bs = at-all s (headBytes (length bs) ++ l) whole len ∙ sym (file-parts bs) in
-      let allowed : All (λ i b. Allowed b) 0 bs = in-all standing Allowed 0 0 bs (in-map standing Sound (λ d b. Allowed b) (λ d b h. h .0 .0) 0 bs (y .0 .1)) in
-      let nested : Nested 0 bs 0 = steps-nested 0 bs (in-map standing Sound Steps (λ d b h. h .0 .1) 0 bs (y .0 .1)) none in
+      let allowed : All (λ i b. Allowed b) 0 bs = in-all openAfter Allowed 0 0 bs (in-map openAfter Sound (λ d b. Allowed b) (λ d b h. h .0 .0) 0 bs (y .0 .1)) in
+      let nested : Nested 0 bs 0 = steps-nested 0 bs (in-map openAfter Sound Steps (λ d b h. h .0 .1) 0 bs (y .0 .1)) none in
       let f : File bs s = subst (λ (b : List ℕ). File bs b) (sym is) (file allowed nested (omega (arith, short, ap length is))) in
       (subst (λ (k : List Entry). File (map blockOf k) s) same f, sym (z .2) ∙ z .0)
 
@@ -76,11 +77,11 @@ module _ (s : List ℕ) (bytes : Bytes s) where
 pub heading-inv : (s : List ℕ) {n q : ℕ} → heading s 0 ≡ ok n q → (q ≡ 12) × (12 ≤ length s)
 unfolding heading
 heading-inv s e =
-    let x = then-inv (judged 4 (marked 0x4153_4546) s 0) _ e in
-    let v = then-inv (judged 2 (marked 1) s (x .1)) _ (x .3) in
-    let w = then-inv (judged 2 (marked 0) s (v .1)) _ (v .3) in
-    let a = judged-inv 4 s 0 (marked 0x4153_4546) (x .2) in
-    let b = judged-inv 2 s (x .1) (marked 1) (v .2) in
-    let c = judged-inv 2 s (v .1) (marked 0) (w .2) in
+    let x = then-inv (judged 4 (fixedNumber (chars "ASEF")) s 0) _ e in
+    let v = then-inv (judged 2 (fixedNumber 1) s (x .1)) _ (x .3) in
+    let w = then-inv (judged 2 (fixedNumber 0) s (v .1)) _ (v .3) in
+    let a = judged-inv 4 s 0 (fixedNumber (chars "ASEF")) (x .2) in
+    let b = judged-inv 2 s (x .1) (fixedNumber 1) (v .2) in
+    let c = judged-inv 2 s (v .1) (fixedNumber 0) (w .2) in
     let d = field-inv 4 s (w .1) (w .3) in
     (omega arith, omega arith)

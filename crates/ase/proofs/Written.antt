@@ -19,8 +19,8 @@ use Rattle.algebra.proofs.Tells.{Outcome, good, bad, outcome-fault, outcome-the
 use Rattle.algebra.proofs.Chain.{state-map, all-in, chain-tells, chain-gives}
 use Rattle.colour.specs.Models.{isModel, channelsOf}
 use Rattle.colour.specs.Channels.{allowsBits}
-use Rattle.ase.specs.Grammar.{Block, start, stop, colour, other, typeOf, payload, blockBytes}
-use Rattle.ase.specs.Reading.{Entry, started, stopped, coloured, blockOf, group, model, channel, type, shade, inside, within, content, block, standing, standingAfter, heading, blocks, palette}
+use Rattle.ase.specs.Grammar.{Block, groupStart, groupEnd, colour, other, typeOf, payload, blockBytes}
+use Rattle.ase.specs.Reading.{Entry, groupStartRead, groupEndRead, colourRead, blockOf, groupContent, model, channel, type, colourContent, inside, within, content, block, openAfter, openAfterEntry, heading, blocks, palette}
 use Rattle.ase.specs.Faults.{nameFault, channelFault, shadeFault, blockFault, blocksFault, paletteFault, NameFits, ColourFits, BlockFits}
 use Rattle.ase.proofs.Payload.{at-cut, inside-ok}
 use Rattle.ase.proofs.Turns.{unknown-stops}
@@ -34,11 +34,11 @@ module _ (s : List ℕ) where
   name-outcome : (at : ℕ) (us : List ℕ) → NameFits us → At s at (nameBytes 2 us) → Outcome (name 2 s at) (nameFault 0 us) (at + length (nameBytes 2 us))
   name-outcome at us f h = outcome (name-tells s 2) at us (f .counted, f .units) h
 
-  pub group-outcome : (at : ℕ) (us : List ℕ) → NameFits us → At s at (nameBytes 2 us) → Outcome (group s at) (nameFault 0 us) (at + length (nameBytes 2 us))
-  unfolding group
+  pub group-outcome : (at : ℕ) (us : List ℕ) → NameFits us → At s at (nameBytes 2 us) → Outcome (groupContent s at) (nameFault 0 us) (at + length (nameBytes 2 us))
+  unfolding groupContent
   group-outcome at us f h =
       let end : ℕ = at + length (nameBytes 2 us) in
-      outcome-fault _ _ _ end (first-zero (nameFault 0 us)) (outcome-then (name 2 s at) (λ nm q. ok (started nm) q) (nameFault 0 us) 0 end end (name-outcome at us f h) (λ nm e. good (started nm) refl refl))
+      outcome-fault _ _ _ end (first-zero (nameFault 0 us)) (outcome-then (name 2 s at) (λ nm q. ok (groupStartRead nm) q) (nameFault 0 us) 0 end end (name-outcome at us f h) (λ nm e. good (groupStartRead nm) refl refl))
 
   channels-tells : (t : ℕ) → Tells s (each (channelsOf t) 0 (λ i. judged 4 (channel t))) (λ bs. (length bs ≡ channelsOf t) × All (λ i b. b < 256 ^ 4) 0 bs) (joined (be 4)) (faultsFrom (λ i. channelFault t) 0)
   channels-tells t = each-tells {p = λ i. judged 4 (channel t)} {Fits = λ i b. b < 256 ^ 4} {f = λ i. channelFault t} (λ i. unless-tells s 4 (allowsBits t) 5 (omega arith)) (channelsOf t) 0
@@ -85,19 +85,19 @@ module _ (s : List ℕ) where
         subst (λ (x : ℕ). Outcome (then (each (channelsOf x) 0 (λ i. judged 4 (channel x)) s mid) (λ vs q. then (judged 2 type s q) (λ v r. ok (mk x vs v) r))) g end) same
         (subst (λ (z : ℕ). Outcome (then (each (channelsOf t) 0 (λ i. judged 4 (channel t)) s mid) (λ vs q. then (judged 2 type s q) (λ v r. ok (mk t vs v) r))) g z) l (channels-outcome (mk t) mid (at-right s at (be 4 t) c h))))
 
-    pub shade-outcome : (at : ℕ) → At s at (payload (colour us t bs k)) → Outcome (shade s at) (firstOf (nameFault 0 us) (shadeFault t bs k)) (at + length (payload (colour us t bs k)))
-    unfolding shade
-    shade-outcome at h =
+    pub colour-content-outcome : (at : ℕ) → At s at (payload (colour us t bs k)) → Outcome (colourContent s at) (firstOf (nameFault 0 us) (shadeFault t bs k)) (at + length (payload (colour us t bs k)))
+    unfolding colourContent
+    colour-content-outcome at h =
         let n : List ℕ = nameBytes 2 us in
         let c : List ℕ = be 4 t ++ (joined (be 4) bs ++ be 2 k) in
         let mid : ℕ = at + length n in
         let end : ℕ = at + length (n ++ c) in
         let l : mid + length c ≡ end = omega (arith, length-append n c) in
         let g : ℕ = shadeFault t bs k in
-        outcome-then (name 2 s at) (λ nm o. then (judged 4 model s o) (λ x p. then (each (channelsOf x) 0 (λ i. judged 4 (channel x)) s p) (λ vs q. then (judged 2 type s q) (λ v r. ok (coloured nm x vs v) r)))) (nameFault 0 us) g mid end
+        outcome-then (name 2 s at) (λ nm o. then (judged 4 model s o) (λ x p. then (each (channelsOf x) 0 (λ i. judged 4 (channel x)) s p) (λ vs q. then (judged 2 type s q) (λ v r. ok (colourRead nm x vs v) r)))) (nameFault 0 us) g mid end
         (name-outcome at us (f .name) (at-left s at n c h))
-        (λ nm e. subst (λ (z : ℕ). Outcome (then (judged 4 model s mid) (λ x p. then (each (channelsOf x) 0 (λ i. judged 4 (channel x)) s p) (λ vs q. then (judged 2 type s q) (λ v r. ok (coloured nm x vs v) r)))) g z) l
-        (model-outcome (coloured nm) mid (at-right s at n c h)))
+        (λ nm e. subst (λ (z : ℕ). Outcome (then (judged 4 model s mid) (λ x p. then (each (channelsOf x) 0 (λ i. judged 4 (channel x)) s p) (λ vs q. then (judged 2 type s q) (λ v r. ok (colourRead nm x vs v) r)))) g z) l
+        (model-outcome (colourRead nm) mid (at-right s at n c h)))
 
 -- ---- no fault of a payload's content is 2, which would be told as 13
 
@@ -121,9 +121,9 @@ channels-other t i (b ∷ bs) e = first-other (channelFault t b) (faultsFrom (λ
 name-other : (us : List ℕ) → nameFault 0 us ≡ 2 → ⊥
 name-other us e = pick-other (anyZero us) 8 0 (λ z. omega arith) (λ z. omega arith) e
 
-shade-other : (t : ℕ) (bs : List ℕ) (k : ℕ) → shadeFault t bs k ≡ 2 → ⊥
+colour-content-other : (t : ℕ) (bs : List ℕ) (k : ℕ) → shadeFault t bs k ≡ 2 → ⊥
 unfolding shadeFault
-shade-other t bs k e =
+colour-content-other t bs k e =
     first-other (pick (isModel t) 0 4) (firstOf (faultsFrom (λ i. channelFault t) 0 bs) (pick (leb k 2) 0 5)) (pick-other (isModel t) 0 4 (λ z. omega arith) (λ z. omega arith))
     (first-other (faultsFrom (λ i. channelFault t) 0 bs) (pick (leb k 2) 0 5) (channels-other t 0 bs) (pick-other (leb k 2) 0 5 (λ z. omega arith) (λ z. omega arith))) e
 
@@ -138,19 +138,19 @@ module _ (s : List ℕ) (d at : ℕ) where
   content-outcome : (b : Block) → Typed b → BlockFits b → At s (at + 6) (payload b) → Outcome (content (typeOf b) d (length (payload b)) s at) (blockFault 0 d b) (at + 6 + length (payload b))
   unfolding content blockFault
   content-outcome (other t) known f h = absurd known
-  content-outcome (start us) known f h =
+  content-outcome (groupStart us) known f h =
       let l : List ℕ = nameBytes 2 us in
       let end : ℕ = at + 6 + length l in
       let room : end ≤ length s = at-in s (at + 6) l h in
-      unless-outcome (ltb d 16) 10 at (omega arith) (within group (length l) s at) (nameFault 0 us) end
-      (inside-outcome (at + 2) end (group (take end s) (at + 6)) (nameFault 0 us) (name-other us) (group-outcome (take end s) (at + 6) us f (at-cut s end room (at + 6) l (omega arith) h)))
-  content-outcome stop known f h =
-      outcome-fault _ _ _ (at + 6 + 0) (first-zero (pick (ltb 0 d) 0 9)) (unless-outcome (ltb 0 d) 9 at (omega arith) (ok stopped (at + 6)) 0 (at + 6 + 0) (good stopped (ap (λ (k : ℕ). ok stopped k) (sym (add-zero (at + 6)))) refl))
+      unless-outcome (ltb d 16) 10 at (omega arith) (within groupContent (length l) s at) (nameFault 0 us) end
+      (inside-outcome (at + 2) end (groupContent (take end s) (at + 6)) (nameFault 0 us) (name-other us) (group-outcome (take end s) (at + 6) us f (at-cut s end room (at + 6) l (omega arith) h)))
+  content-outcome groupEnd known f h =
+      outcome-fault _ _ _ (at + 6 + 0) (first-zero (pick (ltb 0 d) 0 9)) (unless-outcome (ltb 0 d) 9 at (omega arith) (ok groupEndRead (at + 6)) 0 (at + 6 + 0) (good groupEndRead (ap (λ (k : ℕ). ok groupEndRead k) (sym (add-zero (at + 6)))) refl))
   content-outcome (colour us t bs k) known f h =
       let l : List ℕ = payload (colour us t bs k) in
       let end : ℕ = at + 6 + length l in
       let room : end ≤ length s = at-in s (at + 6) l h in
-      inside-outcome (at + 2) end (shade (take end s) (at + 6)) (firstOf (nameFault 0 us) (shadeFault t bs k)) (first-other (nameFault 0 us) (shadeFault t bs k) (name-other us) (shade-other t bs k)) (shade-outcome (take end s) us t bs k f (at + 6) (at-cut s end room (at + 6) l (omega arith) h))
+      inside-outcome (at + 2) end (colourContent (take end s) (at + 6)) (firstOf (nameFault 0 us) (shadeFault t bs k)) (first-other (nameFault 0 us) (shadeFault t bs k) (name-other us) (colour-content-other t bs k)) (colour-content-outcome (take end s) us t bs k f (at + 6) (at-cut s end room (at + 6) l (omega arith) h))
 
 -- a block that fits its fields, its payload's length too
 abbrev pub Fitting : Block → Type 0
@@ -165,8 +165,8 @@ module _ (s : List ℕ) (bytes : Bytes s) where
 
   block-outcome : (d at : ℕ) (b : Block) → Fitting b → At s at (blockBytes b) → Outcome (block d s at) (blockFault 0 d b) (at + length (blockBytes b))
   unfolding blockFault blockBytes
-  block-outcome d at (start us) fit h = known-outcome d at (start us) tt fit h
-  block-outcome d at stop fit h = known-outcome d at stop tt fit h
+  block-outcome d at (groupStart us) fit h = known-outcome d at (groupStart us) tt fit h
+  block-outcome d at groupEnd fit h = known-outcome d at groupEnd tt fit h
   block-outcome d at (colour us t bs k) fit h = known-outcome d at (colour us t bs k) tt fit h
   block-outcome d at (other t) fit h = bad at 0 0 (unknown-stops s bytes d at t 0 [] (fit .0) (omega arith) h) (omega arith)
 
@@ -186,20 +186,20 @@ module _ (s : List ℕ) (bytes : Bytes s) where
 -- ---- a whole file
 
 module _ (s : List ℕ) (bytes : Bytes s) (bs : List Block) (few : length bs < 256 ^ 4) (fits : All (λ i b. Fitting b) 0 bs) where
-  fitting : AllIn standing (λ d b. Fitting b) 0 bs
-  fitting = all-in standing Fitting 0 0 bs fits
+  fitting : AllIn openAfter (λ d b. Fitting b) 0 bs
+  fitting = all-in openAfter Fitting 0 0 bs fits
 
-  chain-outcome : (at : ℕ) → At s at (joined blockBytes bs) → Outcome (chain standingAfter block (length bs) 0 s at) (faultsIn standing (blockFault 0) 0 bs) (at + length (joined blockBytes bs))
-  chain-outcome at h = outcome (chain-tells standingAfter standing blockOf (λ d e. refl) {p = block} {Fits = λ d b. Fitting b} (block-gives s bytes) {f = blockFault 0} (block-tells s bytes) (length bs) 0) at bs (refl, fitting) h
+  chain-outcome : (at : ℕ) → At s at (joined blockBytes bs) → Outcome (chain openAfterEntry block (length bs) 0 s at) (faultsIn openAfter (blockFault 0) 0 bs) (at + length (joined blockBytes bs))
+  chain-outcome at h = outcome (chain-tells openAfterEntry openAfter blockOf (λ d e. refl) {p = block} {Fits = λ d b. Fitting b} (block-gives s bytes) {f = blockFault 0} (block-tells s bytes) (length bs) 0) at bs (refl, fitting) h
 
   blocks-outcome : (at : ℕ) → At s at (joined blockBytes bs) → Outcome (blocks (length bs) s at) (paletteFault bs) (at + length (joined blockBytes bs))
   unfolding blocks blocksFault
   blocks-outcome at h =
       let end : ℕ = at + length (joined blockBytes bs) in
-      let st : ℕ = stateAfter standing 0 bs in
-      outcome-then (chain standingAfter block (length bs) 0 s at) (λ es q. rule (unless (eqb (stateAfter standingAfter 0 es) 0) 9) q (ok es q)) (faultsIn standing (blockFault 0) 0 bs) (pick (eqb st 0) 0 9) end end (chain-outcome at h) (λ es e.
-      let g = chain-gives standingAfter standing blockOf (λ d e. refl) {p = block} {Fits = λ d b. Fitting b} (block-gives s bytes) (length bs) 0 .gives at bs (refl, fitting) h es end e in
-      let same : stateAfter standingAfter 0 es ≡ st = state-map standingAfter standing blockOf (λ d e. refl) 0 es ∙ ap (stateAfter standing 0) (g .0) in
+      let st : ℕ = stateAfter openAfter 0 bs in
+      outcome-then (chain openAfterEntry block (length bs) 0 s at) (λ es q. rule (unless (eqb (stateAfter openAfterEntry 0 es) 0) 9) q (ok es q)) (faultsIn openAfter (blockFault 0) 0 bs) (pick (eqb st 0) 0 9) end end (chain-outcome at h) (λ es e.
+      let g = chain-gives openAfterEntry openAfter blockOf (λ d e. refl) {p = block} {Fits = λ d b. Fitting b} (block-gives s bytes) (length bs) 0 .gives at bs (refl, fitting) h es end e in
+      let same : stateAfter openAfterEntry 0 es ≡ st = state-map openAfterEntry openAfter blockOf (λ d e. refl) 0 es ∙ ap (stateAfter openAfter 0) (g .0) in
       rw same (outcome-fault _ _ _ end (unless-found (eqb st 0) 9) (outcome-rule (unless (eqb st 0) 9) end es end (unless-sure (eqb st 0) 9 (omega arith)))))
 
   -- the first fault is the blocks' in their order, then the groups left open

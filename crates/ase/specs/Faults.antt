@@ -10,8 +10,8 @@ use Rattle.algebra.specs.Text.{anyZero}
 use Rattle.algebra.specs.Faults.{firstOf, faultsFrom, faultsIn}
 use Rattle.colour.specs.Models.{isModel, channelsOf}
 use Rattle.colour.specs.Channels.{allowsBits}
-use Rattle.ase.specs.Grammar.{Block, start, stop, colour, other, Unknown}
-use Rattle.ase.specs.Reading.{deepest, standing}
+use Rattle.ase.specs.Grammar.{Block, groupStart, groupEnd, colour, other, Unknown}
+use Rattle.ase.specs.Reading.{deepest, openAfter}
 
 -- a name that was found with the fault x, 0 where it is a value: x first, then a zero unit is 8
 abbrev pub nameFault : ℕ → List ℕ → ℕ
@@ -27,16 +27,16 @@ shadeFault t bs k = firstOf (pick (isModel t) 0 4) (firstOf (faultsFrom (λ i b.
 
 -- a block whose name was found with the fault x, where d groups stand open; an unknown type is 4
 unfoldable pub blockFault : ℕ → ℕ → Block → ℕ
-blockFault x d (start us) = firstOf (pick (ltb d deepest) 0 10) (nameFault x us)
-blockFault x d stop = pick (ltb 0 d) 0 9
+blockFault x d (groupStart us) = firstOf (pick (ltb d deepest) 0 10) (nameFault x us)
+blockFault x d groupEnd = pick (ltb 0 d) 0 9
 blockFault x d (colour us t bs k) = firstOf (nameFault x us) (shadeFault t bs k)
 blockFault x d (other t) = 4
 
 -- blocks in their order, where d groups stand open, and after the last a group that is left open; each is what `block` makes of it, its name found as `found` says
 unfoldable pub blocksFault : {A : Type 0} → (A → ℕ) → (A → Block) → ℕ → List A → ℕ
 blocksFault found block d l =
-    firstOf (faultsIn (λ e a. standing e (block a)) (λ e a. blockFault (found a) e (block a)) d l)
-    (pick (eqb (stateAfter (λ e a. standing e (block a)) d l) 0) 0 9)
+    firstOf (faultsIn (λ e a. openAfter e (block a)) (λ e a. blockFault (found a) e (block a)) d l)
+    (pick (eqb (stateAfter (λ e a. openAfter e (block a)) d l) 0) 0 9)
 
 -- blocks as values
 abbrev pub paletteFault : List Block → ℕ
@@ -56,7 +56,7 @@ pub record ColourFits (us : List ℕ) (t : ℕ) (bs : List ℕ) (k : ℕ) : Type
   pub type : k < 256 ^ 2
 
 abbrev pub BlockFits : Block → Type 0
-BlockFits (start us) = NameFits us
-BlockFits stop = Unit
+BlockFits (groupStart us) = NameFits us
+BlockFits groupEnd = Unit
 BlockFits (colour us t bs k) = ColourFits us t bs k
 BlockFits (other t) = Unknown t

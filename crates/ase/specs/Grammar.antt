@@ -4,6 +4,7 @@ use Prim.Native.Nat.{ℕ, _+_, _-_, _%_, _^_, _≤_, _<_}
 use mathlib.Core.Path.{_≡_}
 use mathlib.Core.List.{List, [], _∷_, _++_}
 use lib.ListN.{length}
+use Rattle.algebra.specs.Chars.{chars}
 use Rattle.algebra.specs.Numbers.{be, joined, All}
 use Rattle.algebra.specs.Text.{nameBytes, Named}
 
@@ -11,23 +12,23 @@ use Rattle.algebra.specs.Text.{nameBytes, Named}
 -- a colour: the units of its name, the tag of its model, the bits of its channels, and its type;
 -- or a block of another type, without a payload, which no file has and a writer may be given
 pub data Block : Type 0 where
-  start : List ℕ → Block
-  stop : Block
+  groupStart : List ℕ → Block
+  groupEnd : Block
   colour : List ℕ → ℕ → List ℕ → ℕ → Block
   other : ℕ → Block
 
 -- ---- its bytes
 
 abbrev pub typeOf : Block → ℕ
-typeOf (start us) = 0xC001
-typeOf stop = 0xC002
+typeOf (groupStart us) = 0xC001
+typeOf groupEnd = 0xC002
 typeOf (colour us t bs k) = 0x0001
 typeOf (other t) = t
 
 -- a name with a 16-bit count; in a colour then model, channels and type
 abbrev pub payload : Block → List ℕ
-payload (start us) = nameBytes 2 us
-payload stop = []
+payload (groupStart us) = nameBytes 2 us
+payload groupEnd = []
 payload (colour us t bs k) = nameBytes 2 us ++ (be 4 t ++ (joined (be 4) bs ++ be 2 k))
 payload (other t) = []
 
@@ -37,7 +38,7 @@ blockBytes b = be 2 (typeOf b) ++ (be 4 (length (payload b)) ++ payload b)
 
 -- `ASEF`, 1, 0, the block count, the blocks
 unfoldable pub fileBytes : List Block → List ℕ
-fileBytes bs = be 4 0x4153_4546 ++ (be 2 1 ++ (be 2 0 ++ (be 4 (length bs) ++ joined blockBytes bs)))
+fileBytes bs = be 4 (chars "ASEF") ++ (be 2 1 ++ (be 2 0 ++ (be 4 (length bs) ++ joined blockBytes bs)))
 
 -- ---- which blocks are allowed
 
@@ -54,18 +55,19 @@ pub record Unknown (t : ℕ) : Type 0 where
 
 -- a model by its tag, and how many channels it has: `RGB `, `CMYK`, `LAB `, `Gray`
 pub data Model : ℕ → ℕ → Type 0 where
-  rgb : Model 0x5247_4220 3
-  cmyk : Model 0x434D_594B 4
-  lab : Model 0x4C41_4220 3
-  gray : Model 0x4772_6179 1
+  rgb : Model (chars "RGB ") 3
+  cmyk : Model (chars "CMYK") 4
+  lab : Model (chars "LAB ") 3
+  gray : Model (chars "Gray") 1
 
--- the bits of a channel: from 0 to 1, minus zero, and in Lab any finite float
+-- the bits of a channel, of whatever tag: from 0 to 1, which is 3F800000, and minus zero, the sign alone; in Lab any finite float, below the infinity 7F800000
 pub data Channel : ℕ → ℕ → Type 0 where
   unit : {t b : ℕ} → b ≤ 0x3F80_0000 → Channel t b
   minus : {t : ℕ} → Channel t 0x8000_0000
-  finite : {b : ℕ} → b < 2 ^ 32 → b % 0x8000_0000 < 0x7F80_0000 → Channel 0x4C41_4220 b
+  finite : {b : ℕ} → b < 2 ^ 32 → b % 0x8000_0000 < 0x7F80_0000 → Channel (chars "LAB ") b
 
 pub record Colour (us : List ℕ) (t : ℕ) (bs : List ℕ) (k : ℕ) : Type 0 where
+  -- as many channels as the model has
   pub count : ℕ
   pub model : Model t count
   pub all : length bs ≡ count
@@ -75,16 +77,16 @@ pub record Colour (us : List ℕ) (t : ℕ) (bs : List ℕ) (k : ℕ) : Type 0 w
   pub name : Named 2 us
 
 abbrev pub Allowed : Block → Type 0
-Allowed (start us) = Named 2 us
-Allowed stop = Unit
+Allowed (groupStart us) = Named 2 us
+Allowed groupEnd = Unit
 Allowed (colour us t bs k) = Colour us t bs k
 Allowed (other t) = ⊥
 
 -- where d groups stand open and the blocks leave e open: at most 16 do at once, and every end closes one
 abbrev pub Nested : ℕ → List Block → ℕ → Type 0
 Nested d [] e = d ≡ e
-Nested d (start us ∷ bs) e = (d < 16) × Nested (d + 1) bs e
-Nested d (stop ∷ bs) e = (0 < d) × Nested (d - 1) bs e
+Nested d (groupStart us ∷ bs) e = (d < 16) × Nested (d + 1) bs e
+Nested d (groupEnd ∷ bs) e = (0 < d) × Nested (d - 1) bs e
 Nested d (colour us t cs k ∷ bs) e = Nested d bs e
 Nested d (other t ∷ bs) e = Nested d bs e
 

@@ -7,9 +7,9 @@ pub const WIDTH: usize = 9;
 // The most groups that stand open.
 pub const DEEPEST: usize = 16;
 // The types of a block.
-pub const START: u16 = 0xC001;
+pub const GROUP_START: u16 = 0xC001;
 
-pub const STOP: u16 = 0xC002;
+pub const GROUP_END: u16 = 0xC002;
 
 pub const COLOUR: u16 = 0x0001;
 // `ASEF`.
@@ -17,7 +17,7 @@ pub const SIGNATURE: u32 = 0x4153_4546;
 
 // A record's numbers in the order of a row: its block's type, where its name lies, and of a colour
 // the tag of its model, the bits of its channels, and its type.
-pub struct Numbers {
+pub struct RowNumbers {
     pub block: u32,
     pub first: u32,
     pub units: u32,

@@ -8,6 +8,7 @@ use lib.Dec.{leb, ltb, eqb}
 use borrow.Author.Tests.{le-leb, lt-leb, lt-ltb, le-ltb, eq-eqb, ne-eqb, eqb-true, eqb-false}
 use native.Mathlib.Omega.{arith}
 use native.Mathlib.Nat.{zero-add, add-assoc}
+use Rattle.algebra.specs.Chars.{chars}
 use Rattle.algebra.specs.Reader.{Res, ok, refuse, Reader, then, pick, rule, field, done, mapRes, each, stateAfter, chain, ended, Judged, judged, unless, limit}
 use Rattle.algebra.specs.Text.{Name, name, place}
 use Rattle.algebra.proofs.Laws.{field-next, judged-short, judged-bad, judged-ok, then-ok}
@@ -19,10 +20,11 @@ use Rattle.colour.specs.declared.model.Model.{Model}
 use Rattle.colour.specs.declared.model.Traits.{Traits}
 use Rattle.colour.specs.declared.model.Model.the-variants as vm
 use Rattle.colour.specs.Channels.{wide, allowsBits}
-use Rattle.colour.specs.declared.model.Known.the-variants.{Is, Unknown}
-use Rattle.ase.specs.Reading.{Entry, started, stopped, coloured, group, model, channel, type, shade, inside, deepest, isType, content, block, standingAfter, marked, heading, blocks, palette, ase}
-use Rattle.ase_judge.specs.Parts.{channelIn, paint, startOf, stopOf, colourOf, whole}
-use Rattle.ase_judge.specs.Answer.{colourIn, colours, passed, tally, report}
+use Rattle.colour.specs.declared.model.KnownModel.the-variants.{Is, Unknown}
+use Rattle.ase.specs.Reading.{Entry, groupStartRead, groupEndRead, colourRead, groupContent, model, channel, type, colourContent, inside, deepest, isBlockType, content, block, openAfterEntry, fixedNumber, heading, blocks, palette, ase}
+use Rattle.ase_judge.specs.scaffold.Parts.{channelIn, afterName, startOf, stopOf, colourOf, whole}
+use Rattle.ase_judge.specs.Answer.{colourIn, colours, passed, report}
+use Rattle.ase_judge.specs.scaffold.Answer.{tally}
 use Rattle.algebra.specs.Table.{accepted, refused, verdict}
 
 -- ---- answers with their value changed
@@ -73,9 +75,9 @@ inside-map f b p end (refuse x q r g) h = go (eqb x 2)
 
 -- ---- names, models, channels
 
-pub group-done : (s : List ℕ) (at : ℕ) → done (group s at) ≡ done (place (name 2 s at))
-unfolding group
-group-done s at = then-ok started (name 2 s at) ∙ sym (done-place (name 2 s at))
+pub group-done : (s : List ℕ) (at : ℕ) → done (groupContent s at) ≡ done (place (name 2 s at))
+unfolding groupContent
+group-done s at = then-ok groupStartRead (name 2 s at) ∙ sym (done-place (name 2 s at))
 
 -- what a model allows, looked at once
 channel-in : (m : Model) → channel (traitsOf m .tag) ≡ channelIn (wide m)
@@ -88,19 +90,19 @@ channel-in vm.Gray = refl
 -- ---- what stands behind a colour's name
 
 module _ (s : List ℕ) (at : ℕ) where
-  pub paint-short : refuse 2 at 0 0 ≡ field 4 s at → paint s at ≡ refuse 2 at 0 0
-  unfolding paint
-  paint-short e = rw (judged-short 4 s at model e)
+  pub after-name-short : refuse 2 at 0 0 ≡ field 4 s at → afterName s at ≡ refuse 2 at 0 0
+  unfolding afterName
+  after-name-short e = rw (judged-short 4 s at model e)
 
   module _ (t n : ℕ) (e : ok t n ≡ field 4 s at) where
-    pub paint-unknown : modelOf t ≡ Unknown → paint s at ≡ refuse 4 at 0 0
-    unfolding paint
-    paint-unknown u = rw (judged-bad 4 s at model 4 0 0 e (rw (model-bad t u)))
+    pub after-name-unknown : modelOf t ≡ Unknown → afterName s at ≡ refuse 4 at 0 0
+    unfolding afterName
+    after-name-unknown u = rw (judged-bad 4 s at model 4 0 0 e (rw (model-bad t u)))
 
-    paint-known : (m : Model) → modelOf t ≡ Is m
-        → paint s at ≡ then (done (each (traitsOf m .channels) 0 (λ i. judged 4 (channel (traitsOf m .tag))) s n)) (λ u q. done (judged 2 type s q))
-    unfolding paint
-    paint-known m u =
+    after-name-known : (m : Model) → modelOf t ≡ Is m
+        → afterName s at ≡ then (done (each (traitsOf m .channels) 0 (λ i. judged 4 (channel (traitsOf m .tag))) s n)) (λ u q. done (judged 2 type s q))
+    unfolding afterName
+    after-name-known m u =
         let g : traitsOf m .tag ≡ t = tag-known t m u in
         rw (judged-ok 4 s at model e (rw (model-good t m u)))
         (subst (λ (x : ℕ). then (each (channelsOf x) 0 (λ i. judged 4 (channel x)) s n) (λ bs q. then (judged 2 type s q) (λ k r. ok tt r)) ≡ then (done (each (traitsOf m .channels) 0 (λ i. judged 4 (channel (traitsOf m .tag))) s n)) (λ u q. done (judged 2 type s q))) g
@@ -116,44 +118,44 @@ module _ (s : List ℕ) (at : ℕ) where
         go (refuse x p r f) = refl
 
     -- the same, with what the model was asked and what its channels came to
-    pub paint-channels : (m : Model) → modelOf t ≡ Is m → {v : Traits} → v ≡ traitsOf m → {w : Bool} → w ≡ wide m → {r : Res Unit} → r ≡ done (each (v .channels) 0 (λ i. judged 4 (channelIn w)) s n)
-        → paint s at ≡ then r (λ u q. done (judged 2 type s q))
-    paint-channels m u f g h =
+    pub after-name-channels : (m : Model) → modelOf t ≡ Is m → {v : Traits} → v ≡ traitsOf m → {w : Bool} → w ≡ wide m → {r : Res Unit} → r ≡ done (each (v .channels) 0 (λ i. judged 4 (channelIn w)) s n)
+        → afterName s at ≡ then r (λ u q. done (judged 2 type s q))
+    after-name-channels m u f g h =
         let k = h ∙ ap₂ (λ (v : Traits) (w : Bool). done (each (v .channels) 0 (λ i. judged 4 (channelIn w)) s n)) f g ∙ ap (λ (j : ℕ → Judged). done (each (traitsOf m .channels) 0 (λ i. judged 4 j) s n)) (sym (channel-in m)) in
-        paint-known m u ∙ ap (λ (x : Res Unit). then x (λ u q. done (judged 2 type s q))) (sym k)
+        after-name-known m u ∙ ap (λ (x : Res Unit). then x (λ u q. done (judged 2 type s q))) (sym k)
 
-pub shade-done : (s : List ℕ) (at : ℕ) → done (shade s at) ≡ then (done (place (name 2 s at))) (λ u q. paint s q)
-unfolding shade paint
-shade-done s at = go (name 2 s at)
+pub colour-content-done : (s : List ℕ) (at : ℕ) → done (colourContent s at) ≡ then (done (place (name 2 s at))) (λ u q. afterName s q)
+unfolding colourContent afterName
+colour-content-done s at = go (name 2 s at)
   where
-    last : (t : ℕ) (nm : Name) (bs : List ℕ) (r : Res ℕ) → done (then r (λ k q. ok (coloured nm t bs k) q)) ≡ then r (λ k q. ok tt q)
+    last : (t : ℕ) (nm : Name) (bs : List ℕ) (r : Res ℕ) → done (then r (λ k q. ok (colourRead nm t bs k) q)) ≡ then r (λ k q. ok tt q)
     last t nm bs (ok k q) = refl
     last t nm bs (refuse x p r f) = refl
 
-    third : (t : ℕ) (nm : Name) (r : Res (List ℕ)) → done (then r (λ bs q. then (judged 2 type s q) (λ k z. ok (coloured nm t bs k) z))) ≡ then r (λ bs q. then (judged 2 type s q) (λ k z. ok tt z))
+    third : (t : ℕ) (nm : Name) (r : Res (List ℕ)) → done (then r (λ bs q. then (judged 2 type s q) (λ k z. ok (colourRead nm t bs k) z))) ≡ then r (λ bs q. then (judged 2 type s q) (λ k z. ok tt z))
     third t nm (ok bs q) = last t nm bs (judged 2 type s q)
     third t nm (refuse x p r f) = refl
 
     second : (nm : Name) (r : Res ℕ)
-        → done (then r (λ t p. then (each (channelsOf t) 0 (λ i. judged 4 (channel t)) s p) (λ bs q. then (judged 2 type s q) (λ k z. ok (coloured nm t bs k) z))))
+        → done (then r (λ t p. then (each (channelsOf t) 0 (λ i. judged 4 (channel t)) s p) (λ bs q. then (judged 2 type s q) (λ k z. ok (colourRead nm t bs k) z))))
         ≡ then r (λ t p. then (each (channelsOf t) 0 (λ i. judged 4 (channel t)) s p) (λ bs q. then (judged 2 type s q) (λ k z. ok tt z)))
     second nm (ok t p) = third t nm (each (channelsOf t) 0 (λ i. judged 4 (channel t)) s p)
     second nm (refuse x p r f) = refl
 
     go : (m : Res Name)
-        → done (then m (λ nm a. then (judged 4 model s a) (λ t p. then (each (channelsOf t) 0 (λ i. judged 4 (channel t)) s p) (λ bs q. then (judged 2 type s q) (λ k z. ok (coloured nm t bs k) z)))))
+        → done (then m (λ nm a. then (judged 4 model s a) (λ t p. then (each (channelsOf t) 0 (λ i. judged 4 (channel t)) s p) (λ bs q. then (judged 2 type s q) (λ k z. ok (colourRead nm t bs k) z)))))
         ≡ then (done (place m)) (λ u a. then (judged 4 model s a) (λ t p. then (each (channelsOf t) 0 (λ i. judged 4 (channel t)) s p) (λ bs q. then (judged 2 type s q) (λ k z. ok tt z))))
     go (ok nm a) = second nm (judged 4 model s a)
     go (refuse x p r f) = refl
 
 -- what each content is
-pub group-passed : (s : List ℕ) (at d : ℕ) (e : Entry) (q : ℕ) → group s at ≡ ok e q → passed d e ≡ (d + 1, 0)
-unfolding group
+pub group-passed : (s : List ℕ) (at d : ℕ) (e : Entry) (q : ℕ) → groupContent s at ≡ ok e q → passed d e ≡ (d + 1, 0)
+unfolding groupContent
 group-passed s at d e q h = let t = then-inv (name 2 s at) _ h in ap (passed d) (sym (ok-value (t .3)))
 
-pub shade-passed : (s : List ℕ) (at d : ℕ) (e : Entry) (q : ℕ) → shade s at ≡ ok e q → passed d e ≡ (d, 1)
-unfolding shade
-shade-passed s at d e q h =
+pub colour-content-passed : (s : List ℕ) (at d : ℕ) (e : Entry) (q : ℕ) → colourContent s at ≡ ok e q → passed d e ≡ (d, 1)
+unfolding colourContent
+colour-content-passed s at d e q h =
     let a = then-inv (name 2 s at) _ h in
     let b = then-inv (judged 4 model s (a .1)) _ (a .3) in
     let c = then-inv (each (channelsOf (b .0)) 0 (λ i. judged 4 (channel (b .0))) s (b .1)) _ (b .3) in
@@ -167,13 +169,13 @@ module _ (d end : ℕ) (s : List ℕ) (at : ℕ) where
   unfolding startOf
   start-deep h = rw (le-ltb d 16 h)
 
-  pub start-map : d < 16 → mapRes (passed d) (startOf d end s at) ≡ mapRes (λ u. (d + 1, 0)) (inside (at + 2) end (done (group (take end s) (at + 6))))
+  pub start-map : d < 16 → mapRes (passed d) (startOf d end s at) ≡ mapRes (λ u. (d + 1, 0)) (inside (at + 2) end (done (groupContent (take end s) (at + 6))))
   unfolding startOf
-  start-map h = rw (lt-ltb d 16 h) (inside-map (passed d) (d + 1, 0) (at + 2) end (group (take end s) (at + 6)) (λ e q g. group-passed (take end s) (at + 6) d e q g))
+  start-map h = rw (lt-ltb d 16 h) (inside-map (passed d) (d + 1, 0) (at + 2) end (groupContent (take end s) (at + 6)) (λ e q g. group-passed (take end s) (at + 6) d e q g))
 
-  pub colour-map : mapRes (passed d) (colourOf end s at) ≡ mapRes (λ u. (d, 1)) (inside (at + 2) end (done (shade (take end s) (at + 6))))
+  pub colour-map : mapRes (passed d) (colourOf end s at) ≡ mapRes (λ u. (d, 1)) (inside (at + 2) end (done (colourContent (take end s) (at + 6))))
   unfolding colourOf
-  colour-map = inside-map (passed d) (d, 1) (at + 2) end (shade (take end s) (at + 6)) (λ e q g. shade-passed (take end s) (at + 6) d e q g)
+  colour-map = inside-map (passed d) (d, 1) (at + 2) end (colourContent (take end s) (at + 6)) (λ e q g. colour-content-passed (take end s) (at + 6) d e q g)
 
 module _ (d end at : ℕ) where
   pub stop-long : (end ≡ at + 6 → ⊥) → refuse 13 (at + 2) 0 0 ≡ mapRes (passed d) (stopOf d end at)
@@ -201,29 +203,29 @@ module _ (d : ℕ) (s : List ℕ) (at : ℕ) where
     block-short-length f = rw (← e) (rw (← f))
 
     module _ (n b : ℕ) (f : ok n b ≡ field 4 s a) where
-      block-by : block d s at ≡ rule (unless (isType t) 4) at (pick (leb n (length s - b)) (content t d n s at) (refuse 2 b 0 0))
+      block-by : block d s at ≡ rule (unless (isBlockType t) 4) at (pick (leb n (length s - b)) (content t d n s at) (refuse 2 b 0 0))
       unfolding block
       block-by = rw (← e) (rw (← f) refl)
 
-      pub block-unknown : isType t ≡ false → block d s at ≡ refuse 4 at 0 0
+      pub block-unknown : isBlockType t ≡ false → block d s at ≡ refuse 4 at 0 0
       block-unknown u = block-by ∙ ap (λ (y : Bool). rule (unless y 4) at (pick (leb n (length s - b)) (content t d n s at) (refuse 2 b 0 0))) u
 
-      block-known : isType t ≡ true → block d s at ≡ pick (leb n (length s - b)) (content t d n s at) (refuse 2 b 0 0)
+      block-known : isBlockType t ≡ true → block d s at ≡ pick (leb n (length s - b)) (content t d n s at) (refuse 2 b 0 0)
       block-known u = block-by ∙ ap (λ (y : Bool). rule (unless y 4) at (pick (leb n (length s - b)) (content t d n s at) (refuse 2 b 0 0))) u
 
-      pub block-cut : isType t ≡ true → length s - b < n → block d s at ≡ refuse 2 b 0 0
+      pub block-cut : isBlockType t ≡ true → length s - b < n → block d s at ≡ refuse 2 b 0 0
       block-cut u h = block-known u ∙ ap (λ (y : Bool). pick y (content t d n s at) (refuse 2 b 0 0)) (lt-leb n (length s - b) h)
 
-      block-content : isType t ≡ true → n ≤ length s - b → block d s at ≡ content t d n s at
+      block-content : isBlockType t ≡ true → n ≤ length s - b → block d s at ≡ content t d n s at
       block-content u h = block-known u ∙ ap (λ (y : Bool). pick y (content t d n s at) (refuse 2 b 0 0)) (le-leb n (length s - b) h)
 
   pub content-start : (t n end : ℕ) → t ≡ 0xC001 → at + 6 + n ≡ end → content t d n s at ≡ startOf d end s at
   unfolding content startOf
-  content-start t n end e h = rw e (ap (λ (z : ℕ). rule (unless (ltb d deepest) 10) at (inside (at + 2) z (group (take z s) (at + 6)))) h)
+  content-start t n end e h = rw e (ap (λ (z : ℕ). rule (unless (ltb d deepest) 10) at (inside (at + 2) z (groupContent (take z s) (at + 6)))) h)
 
   pub content-stop : (t n end : ℕ) → t ≡ 0xC002 → at + 6 + n ≡ end → content t d n s at ≡ stopOf d end at
   unfolding content stopOf
-  content-stop t n end e h = rw e (ap (λ (z : Bool). rule (unless z 13) (at + 2) (rule (unless (ltb 0 d) 9) at (ok stopped (at + 6)))) (same (eqb n 0) refl))
+  content-stop t n end e h = rw e (ap (λ (z : Bool). rule (unless z 13) (at + 2) (rule (unless (ltb 0 d) 9) at (ok groupEndRead (at + 6)))) (same (eqb n 0) refl))
     where
       same : (z : Bool) → eqb n 0 ≡ z → eqb n 0 ≡ eqb end (at + 6)
       same true q = q ∙ sym (eq-eqb end (at + 6) (omega (arith, eqb-true n 0 q)))
@@ -231,7 +233,7 @@ module _ (d : ℕ) (s : List ℕ) (at : ℕ) where
 
   pub content-colour : (t n end : ℕ) → (t ≡ 0xC001 → ⊥) → (t ≡ 0xC002 → ⊥) → at + 6 + n ≡ end → content t d n s at ≡ colourOf end s at
   unfolding content colourOf
-  content-colour t n end p q h = rw (ne-eqb t 0xC001 p, ne-eqb t 0xC002 q) (ap (λ (z : ℕ). inside (at + 2) z (shade (take z s) (at + 6))) h)
+  content-colour t n end p q h = rw (ne-eqb t 0xC001 p, ne-eqb t 0xC002 q) (ap (λ (z : ℕ). inside (at + 2) z (colourContent (take z s) (at + 6))) h)
 
 -- the same, with the end that the code works out
 module _ (d : ℕ) (s : List ℕ) (at t a : ℕ) (e : ok t a ≡ field 2 s at) (n b : ℕ) (f : ok n b ≡ field 4 s a) where
@@ -241,7 +243,7 @@ module _ (d : ℕ) (s : List ℕ) (at t a : ℕ) (e : ok t a ≡ field 2 s at) (
       let y = field-next 4 s a n b f in
       (omega (arith, x .1, y .1), omega (arith, x .0, y .0, x .1, y .1))
 
-  module _ (u : isType t ≡ true) (h : n ≤ length s - b) where
+  module _ (u : isBlockType t ≡ true) (h : n ≤ length s - b) where
     pub room : (at + 6 ≤ b + n) × (b + n ≤ length s)
     room = (omega (arith, after-length .0), omega (arith, after-length .1))
 
@@ -252,38 +254,38 @@ module _ (d : ℕ) (s : List ℕ) (at t a : ℕ) (e : ok t a ≡ field 2 s at) (
 
 -- what is told of the blocks that are left, where so many colours were passed
 abbrev pub plus : ℕ → ℕ → List Entry → ℕ × ℕ
-plus k d es = (stateAfter standingAfter d es, k + colours es)
+plus k d es = (stateAfter openAfterEntry d es, k + colours es)
 
 abbrev pub rest : ℕ → ℕ → Reader (List Entry)
-rest n d = chain standingAfter block n d
+rest n d = chain openAfterEntry block n d
 
 pub colour-one : (e : Entry) → colourIn e ≤ 1
-colour-one (started nm) = omega arith
-colour-one stopped = omega arith
-colour-one (coloured nm t bs k) = omega arith
+colour-one (groupStartRead nm) = omega arith
+colour-one groupEndRead = omega arith
+colour-one (colourRead nm t bs k) = omega arith
 
-map-plus : (k d : ℕ) (e : Entry) (m : Res (List Entry)) → mapRes (plus k d) (then m (λ more end. ok (e ∷ more) end)) ≡ mapRes (plus (k + colourIn e) (standingAfter d e)) m
+map-plus : (k d : ℕ) (e : Entry) (m : Res (List Entry)) → mapRes (plus k d) (then m (λ more end. ok (e ∷ more) end)) ≡ mapRes (plus (k + colourIn e) (openAfterEntry d e)) m
 unfolding stateAfter colours
-map-plus k d e (ok more q) = ap (λ (x : ℕ). ok (stateAfter standingAfter (standingAfter d e) more, x) q) (sym (add-assoc k (colourIn e) (colours more)))
+map-plus k d e (ok more q) = ap (λ (x : ℕ). ok (stateAfter openAfterEntry (openAfterEntry d e) more, x) q) (sym (add-assoc k (colourIn e) (colours more)))
 map-plus k d e (refuse x p r f) = refl
 
 pub rest-start : (n : ℕ) (s : List ℕ) (at : ℕ) → mapRes (tally 0) (rest n 0 s at) ≡ mapRes (plus 0 0) (rest (n - 0) 0 s at)
 rest-start n s at = let z : n ≡ n - 0 = omega arith in go (rest n 0 s at) ∙ ap (λ (k : ℕ). mapRes (plus 0 0) (rest k 0 s at)) z
   where
     go : (m : Res (List Entry)) → mapRes (tally 0) m ≡ mapRes (plus 0 0) m
-    go (ok es q) = ap (λ (x : ℕ). ok (stateAfter standingAfter 0 es, x) q) (sym (zero-add (colours es)))
+    go (ok es q) = ap (λ (x : ℕ). ok (stateAfter openAfterEntry 0 es, x) q) (sym (zero-add (colours es)))
     go (refuse x p r f) = refl
 
 module _ (n i k d : ℕ) (s : List ℕ) (p : ℕ) (all : Res (ℕ × ℕ)) (inv : all ≡ mapRes (plus k d) (rest (n - i) d s p)) where
-  step : i < n → all ≡ mapRes (plus k d) (then (block d s p) (λ e q. then (rest (n - (i + 1)) (standingAfter d e) s q) (λ more end. ok (e ∷ more) end)))
+  step : i < n → all ≡ mapRes (plus k d) (then (block d s p) (λ e q. then (rest (n - (i + 1)) (openAfterEntry d e) s q) (λ more end. ok (e ∷ more) end)))
   unfolding chain
   step h = let z : n - i ≡ suc (n - (i + 1)) = omega arith in inv ∙ ap (λ (m : ℕ). mapRes (plus k d) (rest m d s p)) z
 
-  pub rest-ok : i < n → (e : Entry) (q : ℕ) → block d s p ≡ ok e q → all ≡ mapRes (plus (k + colourIn e) (standingAfter d e)) (rest (n - (i + 1)) (standingAfter d e) s q)
-  rest-ok h e q g = step h ∙ ap (λ (m : Res Entry). mapRes (plus k d) (then m (λ e q. then (rest (n - (i + 1)) (standingAfter d e) s q) (λ more end. ok (e ∷ more) end)))) g ∙ map-plus k d e (rest (n - (i + 1)) (standingAfter d e) s q)
+  pub rest-ok : i < n → (e : Entry) (q : ℕ) → block d s p ≡ ok e q → all ≡ mapRes (plus (k + colourIn e) (openAfterEntry d e)) (rest (n - (i + 1)) (openAfterEntry d e) s q)
+  rest-ok h e q g = step h ∙ ap (λ (m : Res Entry). mapRes (plus k d) (then m (λ e q. then (rest (n - (i + 1)) (openAfterEntry d e) s q) (λ more end. ok (e ∷ more) end)))) g ∙ map-plus k d e (rest (n - (i + 1)) (openAfterEntry d e) s q)
 
   pub rest-no : i < n → {x q r f : ℕ} → block d s p ≡ refuse x q r f → all ≡ refuse x q r f
-  rest-no h g = step h ∙ ap (λ (m : Res Entry). mapRes (plus k d) (then m (λ e q. then (rest (n - (i + 1)) (standingAfter d e) s q) (λ more end. ok (e ∷ more) end)))) g
+  rest-no h g = step h ∙ ap (λ (m : Res Entry). mapRes (plus k d) (then m (λ e q. then (rest (n - (i + 1)) (openAfterEntry d e) s q) (λ more end. ok (e ∷ more) end)))) g
 
   pub rest-end : n ≤ i → all ≡ ok (d, k) p
   unfolding chain stateAfter colours
@@ -293,7 +295,7 @@ module _ (n i k d : ℕ) (s : List ℕ) (p : ℕ) (all : Res (ℕ × ℕ)) (inv 
   pub turn-ok : i < n → (d′ k′ q : ℕ) → ok (d′, k′) q ≡ mapRes (passed d) (block d s p) → k ≤ i → (k + k′ ≤ i + 1) × (all ≡ mapRes (plus (k + k′) d′) (rest (n - (i + 1)) d′ s q))
   turn-ok h d′ k′ q e l =
       let t = map-inv (passed d) (block d s p) (sym e) in
-      let g : standingAfter d (t .0) ≡ d′ = ap (λ (w : ℕ × ℕ). w .0) (t .2) in
+      let g : openAfterEntry d (t .0) ≡ d′ = ap (λ (w : ℕ × ℕ). w .0) (t .2) in
       let c : colourIn (t .0) ≡ k′ = ap (λ (w : ℕ × ℕ). w .1) (t .2) in
       (omega (arith, colour-one (t .0), c), rest-ok h (t .0) q (t .1) ∙ ap₂ (λ (x y : ℕ). mapRes (plus (k + x) y) (rest (n - (i + 1)) y s q)) c g)
 
@@ -305,23 +307,23 @@ module _ (n i k d : ℕ) (s : List ℕ) (p : ℕ) (all : Res (ℕ × ℕ)) (inv 
 module _ (s : List ℕ) where
   pub heading-short : refuse 2 0 0 0 ≡ field 4 s 0 → heading s 0 ≡ refuse 2 0 0 0
   unfolding heading
-  heading-short e = rw (judged-short 4 s 0 (marked 0x4153_4546) e)
+  heading-short e = rw (judged-short 4 s 0 (fixedNumber (chars "ASEF")) e)
 
   module _ (x a : ℕ) (e : ok x a ≡ field 4 s 0) where
-    pub heading-bad : (x ≡ 0x4153_4546 → ⊥) → heading s 0 ≡ refuse 3 0 0 0
+    pub heading-bad : (x ≡ chars "ASEF" → ⊥) → heading s 0 ≡ refuse 3 0 0 0
     unfolding heading
-    heading-bad h = rw (judged-bad 4 s 0 (marked 0x4153_4546) 3 0 0 e (rw (ne-eqb x 0x4153_4546 h)))
+    heading-bad h = rw (judged-bad 4 s 0 (fixedNumber (chars "ASEF")) 3 0 0 e (rw (ne-eqb x (chars "ASEF") h)))
 
-    pub heading-good : x ≡ 0x4153_4546 → heading s 0 ≡ then (done (judged 2 (marked 1) s a)) (λ u b. then (done (judged 2 (marked 0) s b)) (λ u c. field 4 s c))
+    pub heading-good : x ≡ chars "ASEF" → heading s 0 ≡ then (done (judged 2 (fixedNumber 1) s a)) (λ u b. then (done (judged 2 (fixedNumber 0) s b)) (λ u c. field 4 s c))
     unfolding heading
-    heading-good h = rw (judged-ok 4 s 0 (marked 0x4153_4546) e (rw (eq-eqb x 0x4153_4546 h))) (first (judged 2 (marked 1) s a))
+    heading-good h = rw (judged-ok 4 s 0 (fixedNumber (chars "ASEF")) e (rw (eq-eqb x (chars "ASEF") h))) (first (judged 2 (fixedNumber 1) s a))
       where
         second : (m : Res ℕ) → then m (λ v c. field 4 s c) ≡ then (done m) (λ u c. field 4 s c)
         second (ok v c) = refl
         second (refuse x p r f) = refl
 
-        first : (m : Res ℕ) → then m (λ v b. then (judged 2 (marked 0) s b) (λ w c. field 4 s c)) ≡ then (done m) (λ u b. then (done (judged 2 (marked 0) s b)) (λ u c. field 4 s c))
-        first (ok v b) = second (judged 2 (marked 0) s b)
+        first : (m : Res ℕ) → then m (λ v b. then (judged 2 (fixedNumber 0) s b) (λ w c. field 4 s c)) ≡ then (done m) (λ u b. then (done (judged 2 (fixedNumber 0) s b)) (λ u c. field 4 s c))
+        first (ok v b) = second (judged 2 (fixedNumber 0) s b)
         first (refuse x p r f) = refl
 
 -- ---- the file
@@ -331,8 +333,8 @@ unfolding chain
 chain-length zero d s at es q e = ap length (sym (ok-value e))
 chain-length (suc n) d s at es q e =
     let a = then-inv (block d s at) _ e in
-    let b = then-inv (rest n (standingAfter d (a .0)) s (a .1)) _ (a .3) in
-    ap length (sym (ok-value (b .3))) ∙ ap suc (chain-length n (standingAfter d (a .0)) s (a .1) (b .0) (b .1) (b .2))
+    let b = then-inv (rest n (openAfterEntry d (a .0)) s (a .1)) _ (a .3) in
+    ap length (sym (ok-value (b .3))) ∙ ap suc (chain-length n (openAfterEntry d (a .0)) s (a .1) (b .0) (b .1) (b .2))
 
 module _ (n : ℕ) (s : List ℕ) (at : ℕ) where
   pub whole-no : (x q : ℕ) → refuse x q 0 0 ≡ mapRes (tally 0) (rest n 0 s at) → refused x q 0 0 ≡ verdict report (whole n s at)

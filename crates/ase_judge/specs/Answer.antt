@@ -2,22 +2,21 @@
 use Prim.Native.Nat.{ℕ, _+_}
 use mathlib.Core.List.{List, [], _∷_}
 use lib.ListN.{length}
-use Rattle.algebra.specs.Reader.{Res, ok, refuse, stateAfter}
+use Rattle.algebra.specs.Reader.{Res, ok, refuse}
 use Rattle.algebra.specs.Table.{Verdict, accepted, refused}
-use Rattle.ase.specs.Reading.{Entry, started, stopped, coloured, standingAfter}
+use Rattle.ase.specs.Reading.{Entry, groupStartRead, groupEndRead, colourRead, openAfterEntry}
 use Rattle.ase_judge.specs.declared.Answer.{Answer}
 use Rattle.ase_judge.specs.declared.Answer.the-variants as va
 use Rattle.ase_judge.specs.declared.Passed.{Passed}
 use Rattle.ase_judge.specs.declared.Passed.the-variants as vp
-use Rattle.ase_judge.specs.declared.Heading.{Heading}
-use Rattle.ase_judge.specs.declared.Heading.the-variants as vh
+
+-- 1 for a colour, else 0
+abbrev pub colourIn : Entry → ℕ
+colourIn (groupStartRead nm) = 0
+colourIn groupEndRead = 0
+colourIn (colourRead nm t bs k) = 1
 
 -- how many of some records are colours
-abbrev pub colourIn : Entry → ℕ
-colourIn (started nm) = 0
-colourIn stopped = 0
-colourIn (coloured nm t bs k) = 1
-
 unfoldable pub colours : List Entry → ℕ
 colours [] = 0
 colours (e ∷ es) = colourIn e + colours es
@@ -32,16 +31,8 @@ told (va.Refused x p) = refused x p 0 0
 
 -- what is told of a block that was passed, where d groups stood open: how many then do, and how many colours it is
 abbrev pub passed : ℕ → Entry → ℕ × ℕ
-passed d e = (standingAfter d e, colourIn e)
-
--- the same of some blocks
-abbrev pub tally : ℕ → List Entry → ℕ × ℕ
-tally d es = (stateAfter standingAfter d es, colours es)
+passed d e = (openAfterEntry d e, colourIn e)
 
 abbrev pub toldPassed : Passed → Res (ℕ × ℕ)
 toldPassed (vp.Next n d k) = ok (d, k) n
 toldPassed (vp.Refused x p) = refuse x p 0 0
-
-abbrev pub toldHeading : Heading → Res ℕ
-toldHeading (vh.Is n next) = ok n next
-toldHeading (vh.Refused x p) = refuse x p 0 0

@@ -4,21 +4,22 @@ ghost use Prim.Native.Nat.{_+_, _-_, _≤_, _<_};
 ghost use lib.ListN.{length};
 ghost use Rattle.algebra.specs.Reader.{done, each, judged, mapRes, chain};
 ghost use Rattle.fields.specs.Answer.{toldStep};
-ghost use Rattle.ase.specs.Reading.{type, shade, group, inside, isType, content, block, standingAfter, heading, ase};
-ghost use Rattle.ase_judge.specs.Parts.{channelIn, paint, startOf, stopOf, colourOf, whole};
+ghost use Rattle.ase.specs.Reading.{type, colourContent, groupContent, inside, isBlockType, content, block, openAfterEntry, heading, ase};
+ghost use Rattle.ase_judge.specs.scaffold.Parts.{channelIn, afterName, startOf, stopOf, colourOf, whole};
 ghost use Rattle.algebra.specs.Table.{verdict};
-ghost use Rattle.ase_judge.specs.Answer.{report, told, toldPassed, toldHeading, passed, tally};
+ghost use Rattle.ase_judge.specs.Answer.{report, told, toldPassed, passed};
+ghost use Rattle.ase_judge.specs.scaffold.Answer.{toldHeading, tally};
 use ase::COLOUR;
 use ase::DEEPEST;
+use ase::GROUP_END;
+use ase::GROUP_START;
 use ase::LIMIT;
 use ase::SIGNATURE;
-use ase::START;
-use ase::STOP;
-use colour::Known;
+use colour::KnownModel;
 use colour::Model;
+use fields::FieldEnd;
 use fields::Number16;
 use fields::Number32;
-use fields::Step;
 use names::NameAt;
 
 // How many blocks a file has, and how many of them are colours; or a refusal.
@@ -50,89 +51,89 @@ pub enum Heading {
 // ---- a payload's content, in a file that ends with it
 
 // The n channels from `at`, which may be any finite float where they are wide, else one from 0 to 1.
-fn channels_at(file: &[u8], at: usize, wide: bool, n: u16) -> Step
+fn channels_at(file: &[u8], at: usize, wide: bool, n: u16) -> FieldEnd
     ensures { λ r. ⌜ toldStep r ≡ done (each n 0 (λ i. judged 4 (channelIn wide)) (now (file .entry)) at) ⌝ }
 {
     let mut p = at;
     let mut i: u16 = 0;
     while i < n {
         let Number32::Is(bits, next) = fields::u32_at(file, p) else {
-            return Step::Refused(2, p);
+            return FieldEnd::Refused(2, p);
         };
         if !colour::is_channel(wide, bits) {
-            return Step::Refused(5, p);
+            return FieldEnd::Refused(5, p);
         }
         p = next;
         i += 1;
     }
-    Step::Next(p)
+    FieldEnd::Next(p)
 }
 
 // The model, channels and type from `at`.
-fn paint_at(file: &[u8], at: usize) -> Step
-    ensures { λ r. ⌜ toldStep r ≡ paint (now (file .entry)) at ⌝ }
+fn after_name_at(file: &[u8], at: usize) -> FieldEnd
+    ensures { λ r. ⌜ toldStep r ≡ afterName (now (file .entry)) at ⌝ }
 {
     let Number32::Is(tag, first) = fields::u32_at(file, at) else {
-        return Step::Refused(2, at);
+        return FieldEnd::Refused(2, at);
     };
-    let Known::Is(model) = Model::from_tag(tag) else {
-        return Step::Refused(4, at);
+    let KnownModel::Is(model) = Model::from_tag(tag) else {
+        return FieldEnd::Refused(4, at);
     };
     match channels_at(file, first, model.is_wide(), model.traits().channels) {
-        Step::Refused(x, p) => Step::Refused(x, p),
-        Step::Next(p) => type_at(file, p),
+        FieldEnd::Refused(x, p) => FieldEnd::Refused(x, p),
+        FieldEnd::Next(p) => type_at(file, p),
     }
 }
 
 // The type of a colour at `at`.
-fn type_at(file: &[u8], at: usize) -> Step
+fn type_at(file: &[u8], at: usize) -> FieldEnd
     ensures { λ r. ⌜ toldStep r ≡ done (judged 2 type (now (file .entry)) at) ⌝ }
 {
     let Number16::Is(kind, next) = fields::u16_at(file, at) else {
-        return Step::Refused(2, at);
+        return FieldEnd::Refused(2, at);
     };
     if 2 < kind {
-        return Step::Refused(5, at);
+        return FieldEnd::Refused(5, at);
     }
-    Step::Next(next)
+    FieldEnd::Next(next)
 }
 
 // A colour's content from `at`.
-fn shade_at(file: &[u8], at: usize) -> Step
-    ensures { λ r. ⌜ toldStep r ≡ done (shade (now (file .entry)) at) ⌝ }
+fn colour_content_at(file: &[u8], at: usize) -> FieldEnd
+    ensures { λ r. ⌜ toldStep r ≡ done (colourContent (now (file .entry)) at) ⌝ }
 {
     match names::name16_at(file, at) {
-        NameAt::Refused(x, p) => Step::Refused(x, p),
-        NameAt::Is(_, _, next) => paint_at(file, next),
+        NameAt::Refused(x, p) => FieldEnd::Refused(x, p),
+        NameAt::Is(_, _, next) => after_name_at(file, next),
     }
 }
 
 // A group's name from `at`.
-fn group_at(file: &[u8], at: usize) -> Step
-    ensures { λ r. ⌜ toldStep r ≡ done (group (now (file .entry)) at) ⌝ }
+fn group_at(file: &[u8], at: usize) -> FieldEnd
+    ensures { λ r. ⌜ toldStep r ≡ done (groupContent (now (file .entry)) at) ⌝ }
 {
     match names::name16_at(file, at) {
-        NameAt::Refused(x, p) => Step::Refused(x, p),
-        NameAt::Is(_, _, next) => Step::Next(next),
+        NameAt::Refused(x, p) => FieldEnd::Refused(x, p),
+        NameAt::Is(_, _, next) => FieldEnd::Next(next),
     }
 }
 
 // What a content's reader answers of a payload that ends at `end`, whose length stands at `place`.
-fn inside_of(step: Step, place: usize, end: usize) -> Step
+fn inside_of(step: FieldEnd, place: usize, end: usize) -> FieldEnd
     ensures { λ r. ⌜ toldStep r ≡ inside place end (toldStep step) ⌝ }
 {
     match step {
-        Step::Next(p) => {
+        FieldEnd::Next(p) => {
             if p == end {
-                return Step::Next(p);
+                return FieldEnd::Next(p);
             }
-            Step::Refused(13, place)
+            FieldEnd::Refused(13, place)
         }
-        Step::Refused(x, p) => {
+        FieldEnd::Refused(x, p) => {
             if x == 2 {
-                return Step::Refused(13, place);
+                return FieldEnd::Refused(13, place);
             }
-            Step::Refused(x, p)
+            FieldEnd::Refused(x, p)
         }
     }
 }
@@ -140,7 +141,7 @@ fn inside_of(step: Step, place: usize, end: usize) -> Step
 // ---- a block
 
 // A group start at `at`, whose payload ends at `end`.
-fn start_at(file: &[u8], at: usize, end: usize, depth: usize) -> Passed
+fn group_start_at(file: &[u8], at: usize, end: usize, depth: usize) -> Passed
     requires { ⌜ (at + 6 ≤ end) × (end ≤ length (now file)) ⌝ }
     ensures { λ r. ⌜ toldPassed r ≡ mapRes (passed depth) (startOf depth end (now (file .entry)) at) ⌝ }
 {
@@ -151,8 +152,8 @@ fn start_at(file: &[u8], at: usize, end: usize, depth: usize) -> Passed
         };
     }
     match inside_of(group_at(&file[..end], at + 6), at + 2, end) {
-        Step::Refused(number, place) => Passed::Refused { number, place },
-        Step::Next(next) => Passed::Next {
+        FieldEnd::Refused(number, place) => Passed::Refused { number, place },
+        FieldEnd::Next(next) => Passed::Next {
             next,
             depth: depth + 1,
             colours: 0,
@@ -161,7 +162,7 @@ fn start_at(file: &[u8], at: usize, end: usize, depth: usize) -> Passed
 }
 
 // A group end at `at`, whose payload ends at `end`.
-fn stop_at(at: usize, end: usize, depth: usize) -> Passed
+fn group_end_at(at: usize, end: usize, depth: usize) -> Passed
     requires { ⌜ (at + 6 ≤ end) ⌝ }
     ensures { λ r. ⌜ toldPassed r ≡ mapRes (passed depth) (stopOf depth end at) ⌝ }
 {
@@ -189,9 +190,9 @@ fn colour_at(file: &[u8], at: usize, end: usize, depth: usize) -> Passed
     requires { ⌜ (at + 6 ≤ end) × (end ≤ length (now file)) ⌝ }
     ensures { λ r. ⌜ toldPassed r ≡ mapRes (passed depth) (colourOf end (now (file .entry)) at) ⌝ }
 {
-    match inside_of(shade_at(&file[..end], at + 6), at + 2, end) {
-        Step::Refused(number, place) => Passed::Refused { number, place },
-        Step::Next(next) => Passed::Next {
+    match inside_of(colour_content_at(&file[..end], at + 6), at + 2, end) {
+        FieldEnd::Refused(number, place) => Passed::Refused { number, place },
+        FieldEnd::Next(next) => Passed::Next {
             next,
             depth,
             colours: 1,
@@ -199,12 +200,12 @@ fn colour_at(file: &[u8], at: usize, end: usize, depth: usize) -> Passed
     }
 }
 
-fn is_type(kind: u16) -> bool
-    ensures { λ r. ⌜ r ≡ isType kind ⌝ }
+fn is_block_type(kind: u16) -> bool
+    ensures { λ r. ⌜ r ≡ isBlockType kind ⌝ }
 {
     match kind {
-        START => true,
-        STOP => true,
+        GROUP_START => true,
+        GROUP_END => true,
         COLOUR => true,
         _ => false,
     }
@@ -217,8 +218,8 @@ fn content_at(file: &[u8], at: usize, end: usize, kind: u16, depth: usize) -> Pa
     ensures { λ r. ⌜ toldPassed r ≡ mapRes (passed depth) (content kind depth (end - (at + 6)) (now (file .entry)) at) ⌝ }
 {
     match kind {
-        START => start_at(file, at, end, depth),
-        STOP => stop_at(at, end, depth),
+        GROUP_START => group_start_at(file, at, end, depth),
+        GROUP_END => group_end_at(at, end, depth),
         _ => colour_at(file, at, end, depth),
     }
 }
@@ -239,7 +240,7 @@ pub fn block_at(file: &[u8], at: usize, depth: usize) -> Passed
             place: a,
         };
     };
-    if !is_type(kind) {
+    if !is_block_type(kind) {
         return Passed::Refused {
             number: 4,
             place: at,
@@ -258,7 +259,7 @@ pub fn block_at(file: &[u8], at: usize, depth: usize) -> Passed
 
 // The n blocks from `at`: how many groups are left open, and how many of them are colours.
 fn blocks_at(file: &[u8], at: usize, n: u32) -> Passed
-    ensures { λ r. ⌜ toldPassed r ≡ mapRes (tally 0) (chain standingAfter block n 0 (now (file .entry)) at) ⌝ }
+    ensures { λ r. ⌜ toldPassed r ≡ mapRes (tally 0) (chain openAfterEntry block n 0 (now (file .entry)) at) ⌝ }
 {
     let mut p = at;
     let mut level: usize = 0;
@@ -330,10 +331,10 @@ fn heading_at(file: &[u8]) -> Heading
         return Heading::Refused(3, 0);
     }
     match fields::u16_is(file, a, 1, 3) {
-        Step::Refused(x, p) => Heading::Refused(x, p),
-        Step::Next(b) => match fields::u16_is(file, b, 0, 3) {
-            Step::Refused(x, p) => Heading::Refused(x, p),
-            Step::Next(c) => match fields::u32_at(file, c) {
+        FieldEnd::Refused(x, p) => Heading::Refused(x, p),
+        FieldEnd::Next(b) => match fields::u16_is(file, b, 0, 3) {
+            FieldEnd::Refused(x, p) => Heading::Refused(x, p),
+            FieldEnd::Next(c) => match fields::u32_at(file, c) {
                 Number32::Short => Heading::Refused(2, c),
                 Number32::Is(n, next) => Heading::Is(n, next),
             },

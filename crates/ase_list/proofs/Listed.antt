@@ -16,20 +16,22 @@ use Rattle.colour.specs.declared.channel.Channels.the-variants as vc
 use Rattle.ase.specs.Reading.{Entry, ase}
 use Rattle.algebra.specs.Table.{accepted, refused as refusedFile, verdict}
 use Rattle.algebra.proofs.Table.{accepted-of, refused-of}
-use Rattle.ase.specs.Row.{Given}
+use Rattle.ase.specs.Row.{RecordRow}
 use Rattle.ase_judge.specs.Answer.{report}
 use Rattle.ase_walk.specs.Walking.{firstPlace, blockWalk}
-use Rattle.ase_walk.specs.Answer.{toldBlock, handing, handed}
+use Rattle.ase_walk.specs.Answer.{toldBlock, recordCall, callAndPlace}
 use Rattle.ase_walk.specs.declared.Block.{Block}
 use Rattle.ase_walk.specs.declared.Block.the-variants as vb
 use Rattle.ase_walk.proofs.Walked.{blocks-in-turn}
-use Rattle.walk.specs.Walk.{Call, placeAfter, call, inTurn, answers}
+use Rattle.walk.specs.Walk.{Call, placeAfter, call, inTurn}
+use Rattle.walk.specs.scaffold.Walk.{answers}
 use Rattle.walk.proofs.Turns.{answers-start, answers-none, answers-next}
 use Rattle.walk.specs.Names.{namePart}
 use Rattle.listing.specs.Buffer.{Buffer, putAll}
 use Rattle.listing.specs.Text.{ascii, name, lines, refusal}
 use Rattle.listing.proofs.Putting.{put-both, lines-turn, lines-none}
-use Rattle.ase_list.specs.Listing.{heading, model, tagged, channel, type, line, listing, shade, answer, answerLine, shownWalk}
+use Rattle.ase_list.specs.Listing.{heading, model, tagged, channel, type, line, listing}
+use Rattle.ase_list.specs.scaffold.Listing.{colourText, answer, answerLine, shownWalk}
 
 -- ---- a colour
 
@@ -40,43 +42,43 @@ few t Cmyk e = omega (arith, ap (λ (x : Traits). x .channels) e)
 few t Lab e = omega (arith, ap (λ (x : Traits). x .channels) e)
 few t Gray e = omega (arith, ap (λ (x : Traits). x .channels) e)
 
-pub put-shade : (o : Buffer) (m : Model) (t : Traits) (bs : List ℕ) (c : Channels) (k : ℕ) (b : List ℕ) {p q r x : Buffer} → m ≡ modelIn c → t ≡ traitsOf m → bs ≡ bitsOf c
-    → p ≡ putAll o (model m) → q ≡ putAll p (joined channel (take (t .channels) bs)) → r ≡ putAll q (type k) → x ≡ putAll r (name b) → x ≡ putAll o (shade c k b)
-put-shade o m t bs c k b d e f g h i j =
+pub put-colour-content : (o : Buffer) (m : Model) (t : Traits) (bs : List ℕ) (c : Channels) (k : ℕ) (b : List ℕ) {p q r x : Buffer} → m ≡ modelIn c → t ≡ traitsOf m → bs ≡ bitsOf c
+    → p ≡ putAll o (model m) → q ≡ putAll p (joined channel (take (t .channels) bs)) → r ≡ putAll q (type k) → x ≡ putAll r (name b) → x ≡ putAll o (colourText c k b)
+put-colour-content o m t bs c k b d e f g h i j =
     put-both _ _ _ (put-both _ _ _ (put-both _ _ _ g h) i) j
     ∙ ap₂ (λ (m : Model) (l : List ℕ). putAll o (model m ++ joined channel l ++ type k ++ name b)) d (ap₂ (λ (t : Traits) (l : List ℕ). take (t .channels) l) (e ∙ ap traitsOf d) f)
 
 -- the same by its model's tag
-shade-is : (c : Channels) (k : ℕ) (b : List ℕ) → shade c k b ≡ tagged (modelOf (traitsOf (modelIn c) .tag)) ++ joined channel (take (channelsOf (traitsOf (modelIn c) .tag)) (bitsOf c)) ++ type k ++ name b
+colour-content-is : (c : Channels) (k : ℕ) (b : List ℕ) → colourText c k b ≡ tagged (modelOf (traitsOf (modelIn c) .tag)) ++ joined channel (take (channelsOf (traitsOf (modelIn c) .tag)) (bitsOf c)) ++ type k ++ name b
 unfolding modelOf channelsOf
-shade-is (vc.Rgb x y z) k b = refl
-shade-is (vc.Cmyk x y z w) k b = refl
-shade-is (vc.Lab x y z) k b = refl
-shade-is (vc.Gray x) k b = refl
+colour-content-is (vc.Rgb x y z) k b = refl
+colour-content-is (vc.Cmyk x y z w) k b = refl
+colour-content-is (vc.Lab x y z) k b = refl
+colour-content-is (vc.Gray x) k b = refl
 
 -- ---- a block
 
 module _ (s : List ℕ) (o : Buffer) (b : Block) where
-  pub put-group : {place u : ℕ} {nm : List ℕ} {p q : Buffer} → nm ≡ namePart s place u → b ≡ vb.Group place u → p ≡ putAll o (ascii " group ") → q ≡ putAll p (name nm) → q ≡ putAll o (answer s (toldBlock b))
+  pub put-group : {place u : ℕ} {nm : List ℕ} {p q : Buffer} → nm ≡ namePart s place u → b ≡ vb.GroupStart place u → p ≡ putAll o (ascii " group ") → q ≡ putAll p (name nm) → q ≡ putAll o (answer s (toldBlock b))
   put-group n e f g =
       put-both _ _ _ f g ∙ ap (λ (l : List ℕ). putAll o (ascii " group " ++ name l)) n ∙ ap (λ (b : Block). putAll o (answer s (toldBlock b))) (sym e)
 
-  pub put-shown : {place u : ℕ} {c : Channels} {k : ℕ} {nm : List ℕ} {p q : Buffer} → nm ≡ namePart s place u → b ≡ vb.Colour place u c k → p ≡ putAll o (ascii " colour ") → q ≡ putAll p (shade c k nm) → q ≡ putAll o (answer s (toldBlock b))
+  pub put-shown : {place u : ℕ} {c : Channels} {k : ℕ} {nm : List ℕ} {p q : Buffer} → nm ≡ namePart s place u → b ≡ vb.Colour place u c k → p ≡ putAll o (ascii " colour ") → q ≡ putAll p (colourText c k nm) → q ≡ putAll o (answer s (toldBlock b))
   put-shown {place} {u} {c} {k} n e f g =
-      put-both _ _ _ f g ∙ ap (λ (l : List ℕ). putAll o (ascii " colour " ++ shade c k l)) n ∙ ap (λ (l : List ℕ). putAll o (ascii " colour " ++ l)) (shade-is c k (namePart s place u))
+      put-both _ _ _ f g ∙ ap (λ (l : List ℕ). putAll o (ascii " colour " ++ colourText c k l)) n ∙ ap (λ (l : List ℕ). putAll o (ascii " colour " ++ l)) (colour-content-is c k (namePart s place u))
       ∙ ap (λ (b : Block). putAll o (answer s (toldBlock b))) (sym e)
 
 -- ---- the loop
 
 module _ (s : List ℕ) (all o : Buffer) (n i at : ℕ) where
   pub lines-start : {p : ℕ} → p ≡ at → all ≡ putAll o (lines (answerLine s) 0 (answers (shownWalk s) n at)) → all ≡ putAll o (lines (answerLine s) 0 (answers (shownWalk s) (n - 0) p))
-  lines-start e g = g ∙ ap (λ (l : List (Call Given)). putAll o (lines (answerLine s) 0 l)) (answers-start (shownWalk s) n e)
+  lines-start e g = g ∙ ap (λ (l : List (Call RecordRow)). putAll o (lines (answerLine s) 0 l)) (answers-start (shownWalk s) n e)
 
   module _ (all-is : all ≡ putAll o (lines (answerLine s) i (answers (shownWalk s) (n - i) at))) where
-    by : {l : List (Call Given)} → answers (shownWalk s) (n - i) at ≡ l → all ≡ putAll o (lines (answerLine s) i l)
-    by e = all-is ∙ ap (λ (l : List (Call Given)). putAll o (lines (answerLine s) i l)) e
+    by : {l : List (Call RecordRow)} → answers (shownWalk s) (n - i) at ≡ l → all ≡ putAll o (lines (answerLine s) i l)
+    by e = all-is ∙ ap (λ (l : List (Call RecordRow)). putAll o (lines (answerLine s) i l)) e
 
-    pub line-turn : (a : Call Given) (q : ℕ) {p : Buffer} → i < n → (a, q) ≡ handed (blockWalk s at) → p ≡ putAll o (answerLine s i a) → all ≡ putAll p (lines (answerLine s) (i + 1) (answers (shownWalk s) (n - (i + 1)) q))
+    pub line-turn : (a : Call RecordRow) (q : ℕ) {p : Buffer} → i < n → (a, q) ≡ callAndPlace (blockWalk s at) → p ≡ putAll o (answerLine s i a) → all ≡ putAll p (lines (answerLine s) (i + 1) (answers (shownWalk s) (n - (i + 1)) q))
     line-turn a q h g x = lines-turn (answerLine s) all o i a (answers (shownWalk s) (n - (i + 1)) q) (by (answers-next (shownWalk s) n i at h (sym g))) x
 
     pub lines-end : n ≤ i → all ≡ o
@@ -88,7 +90,7 @@ answers-lines : (s : List ℕ) (es : List Entry) (at i : ℕ) → ((k : ℕ) →
 unfolding answers lines placeAfter inTurn
 answers-lines s [] at i h = refl
 answers-lines s (e ∷ more) at i h =
-    ap (λ (c : Call Entry). answerLine s i (handing c) ++ lines (answerLine s) (i + 1) (answers (shownWalk s) (length more) (blockWalk s at .1))) (h 0)
+    ap (λ (c : Call Entry). answerLine s i (recordCall c) ++ lines (answerLine s) (i + 1) (answers (shownWalk s) (length more) (blockWalk s at .1))) (h 0)
     ∙ ap (λ (l : List ℕ). line s i e ++ l) (answers-lines s more (blockWalk s at .1) (i + 1) (λ k. h (suc k)))
 
 pub listed-refused : (s : List ℕ) (m : Res (List Entry)) {x p : ℕ} → refusedFile x p 0 0 ≡ verdict report m → refusal x p ≡ listing s m

@@ -8,7 +8,7 @@ use Rattle.algebra.specs.Reader.{field, body, each, stateAfter, chain, ended}
 use Rattle.algebra.specs.Text.{closed, front, name as text}
 use Rattle.colour.specs.Models.{modelOf, isModel, channelsOf}
 use Rattle.colour.specs.Channels.{inUnit, allowsBits}
-use Rattle.ase.specs.Reading.{group, shade, content, block, heading, blocks, palette, ase}
+use Rattle.ase.specs.Reading.{groupContent, colourContent, content, block, heading, blocks, palette, ase}
 use Rattle.listing.specs.Text.{ascii, digit, decimalIn, hex, name, lines}
 use Rattle.ase_list.specs.Listing.{listing}
 
@@ -25,5 +25,5 @@ pub small-listed :
     (listing (headed 0) (ase (headed 0)) ≡ ascii "ASE 0\nend\n")
     × (listing (p6 0x0E []) (ase (p6 0x0E [])) ≡ ascii "ASE 1\n0 colour Gray 3F800000 normal -\nend\n")
     × (listing (p6 0x0F (0x00 ∷ [])) (ase (p6 0x0F (0x00 ∷ []))) ≡ ascii "refused 13 at 14\n")
-unfolding headed p6 num nums be joined field body each stateAfter chain ended closed front text modelOf isModel channelsOf inUnit allowsBits ofBits le lt eq group shade content block heading blocks palette ase digit decimalIn hex name lines
+unfolding headed p6 num nums be joined field body each stateAfter chain ended closed front text modelOf isModel channelsOf inUnit allowsBits ofBits le lt eq groupContent colourContent content block heading blocks palette ase digit decimalIn hex name lines
 small-listed = (refl, refl, refl)

@@ -5,18 +5,13 @@ use lib.ListN.{length, take}
 use lib.Dec.{eqb}
 use Rattle.algebra.specs.Reader.{Res, ok, refuse, pick}
 use Rattle.algebra.specs.Numbers.{joined}
-use Rattle.colour.specs.Models.{traitsOf, modelOf, channelsOf}
-use Rattle.colour.specs.Channels.{bitsOf, modelIn}
+use Rattle.colour.specs.Models.{modelOf, channelsOf}
 use Rattle.colour.specs.declared.model.Model.{Model}
 use Rattle.colour.specs.declared.model.Model.the-variants.{Rgb, Cmyk, Lab, Gray}
-use Rattle.colour.specs.declared.model.Known.{Known}
-use Rattle.colour.specs.declared.model.Known.the-variants.{Is, Unknown}
-use Rattle.colour.specs.declared.channel.Channels.{Channels}
+use Rattle.colour.specs.declared.model.KnownModel.{KnownModel}
+use Rattle.colour.specs.declared.model.KnownModel.the-variants.{Is, Unknown}
 use Rattle.ase.specs.Reading.{Entry}
-use Rattle.ase.specs.Row.{Given, givenOf}
-use Rattle.ase_walk.specs.Walking.{blockWalk}
-use Rattle.ase_walk.specs.Answer.{handed}
-use Rattle.walk.specs.Walk.{Call, gives, over, refused, Step}
+use Rattle.ase.specs.Row.{RecordRow, givenOf}
 use Rattle.walk.specs.Names.{namePart}
 use Rattle.listing.specs.Text.{ascii, decimal, word, bits, name, lines, refusal}
 
@@ -32,7 +27,7 @@ model Lab = ascii "LAB"
 model Gray = ascii "Gray"
 
 -- the model with a tag
-abbrev pub tagged : Known → List ℕ
+abbrev pub tagged : KnownModel → List ℕ
 tagged (Is m) = model m
 tagged Unknown = []
 
@@ -44,7 +39,7 @@ type k = pick (eqb k 0) (ascii " global ") (pick (eqb k 1) (ascii " spot ") (asc
 
 -- ---- a block, as it is handed out: a name by its place in the file s and its number of units, and four channels, of which the model has the first
 
-abbrev pub block : List ℕ → Given → List ℕ
+abbrev pub block : List ℕ → RecordRow → List ℕ
 block s g =
     pick (eqb (g .block) 0xC001) (ascii " group " ++ name (namePart s (g .first) (g .units)))
     (pick (eqb (g .block) 0xC002) (ascii " close")
@@ -57,21 +52,3 @@ line s i e = decimal i ++ block s (givenOf e) ++ ascii "\n"
 abbrev pub listing : List ℕ → Res (List Entry) → List ℕ
 listing s (ok es q) = heading (length es) ++ lines (line s) 0 es ++ ascii "end\n"
 listing s (refuse x p r f) = refusal x p
-
--- ---- the calls of a walk
-
--- a colour by value, whose name has the bytes b
-abbrev pub shade : Channels → ℕ → List ℕ → List ℕ
-shade c k b = model (modelIn c) ++ joined channel (take (traitsOf (modelIn c) .channels) (bitsOf c)) ++ type k ++ name b
-
-abbrev pub answer : List ℕ → Call Given → List ℕ
-answer s (gives b) = block s b
-answer s over = []
-answer s (refused x p) = []
-
-abbrev pub answerLine : List ℕ → ℕ → Call Given → List ℕ
-answerLine s i a = decimal i ++ answer s a ++ ascii "\n"
-
--- a block as it is handed out, one a call
-abbrev pub shownWalk : List ℕ → Step Given
-shownWalk s at = handed (blockWalk s at)

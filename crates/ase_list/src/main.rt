@@ -5,11 +5,12 @@ ghost use lib.ListN.{length, take};
 ghost use Rattle.algebra.specs.Numbers.{joined};
 ghost use Rattle.ase.specs.Reading.{ase};
 ghost use Rattle.ase_walk.specs.Walking.{firstPlace};
-ghost use Rattle.walk.specs.Walk.{answers};
+ghost use Rattle.walk.specs.scaffold.Walk.{answers};
 ghost use Rattle.ase_walk.specs.Answer.{toldBlock};
 ghost use Rattle.listing.specs.Buffer.{putAll};
 ghost use Rattle.listing.specs.Text.{lines, taken};
-ghost use Rattle.ase_list.specs.Listing.{channel, shade, answer, answerLine, shownWalk, listing};
+ghost use Rattle.ase_list.specs.Listing.{channel, listing};
+ghost use Rattle.ase_list.specs.scaffold.Listing.{colourText, answer, answerLine, shownWalk};
 ghost use Rattle.ase_list.specs.Listing.{model as Listing·model, type as Listing·type};
 use ase_judge::Answer;
 use ase_walk::Block;
@@ -69,7 +70,7 @@ fn put_type(out: &mut [u8], n: usize, kind: u16) -> usize
 
 // A colour: its model, channels, type and name.
 fn put_colour(out: &mut [u8], n: usize, colour: Channels, kind: u16, name: &[u8]) -> usize
-    ensures { λ r. ⌜ (now (out .exit), r) ≡ putAll (now (out .entry), n) (shade colour kind (now (name .entry))) ⌝ }
+    ensures { λ r. ⌜ (now (out .exit), r) ≡ putAll (now (out .entry), n) (colourText colour kind (now (name .entry))) ⌝ }
 {
     let model = colour.model();
     let mut at = put_model(out, n, model);
@@ -83,11 +84,11 @@ fn put_block(out: &mut [u8], n: usize, file: &[u8], block: Block) -> usize
     ensures { λ r. ⌜ (now (out .exit), r) ≡ putAll (now (out .entry), n) (answer (now (file .entry)) (toldBlock block)) ⌝ }
 {
     match block {
-        Block::Group { place, units } => {
+        Block::GroupStart { place, units } => {
             let at = put_text(out, n, b" group ");
             put_name(out, at, name_part(file, place, units))
         }
-        Block::Close => put_text(out, n, b" close"),
+        Block::GroupEnd => put_text(out, n, b" close"),
         Block::Colour {
             place,
             units,

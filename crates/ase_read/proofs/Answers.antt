@@ -13,24 +13,25 @@ use Rattle.colour.specs.Models.{traitsOf, modelOf, isKnown, countIn, isModel, c
 use Rattle.colour.specs.Channels.{allowsIn, allowsBits, made, madeIn, bitsOf, modelIn, channel}
 use Rattle.colour.specs.declared.model.Model.{Model}
 use Rattle.colour.specs.declared.model.Model.the-variants.{Rgb, Cmyk, Lab, Gray}
-use Rattle.colour.specs.declared.model.Known.{Known}
-use Rattle.colour.specs.declared.model.Known.the-variants.{Is, Unknown}
+use Rattle.colour.specs.declared.model.KnownModel.{KnownModel}
+use Rattle.colour.specs.declared.model.KnownModel.the-variants.{Is, Unknown}
 use Rattle.colour.specs.declared.channel.Channels.{Channels}
 use Rattle.colour.specs.declared.channel.Channels.the-variants as vc
 use Rattle.colour.specs.declared.channel.Made.the-variants as vm
 use Rattle.colour.proofs.Models.{tag-known}
 use Rattle.colour.proofs.Kept.{same-four, bits-kept}
-use Rattle.ase.specs.Reading.{Entry, started, stopped, coloured, ase}
-use Rattle.ase.specs.Row.{Given, width, group, close, colour, givenOf, givenIn}
-use Rattle.ase.specs.declared.Numbers.{Numbers}
+use Rattle.ase.specs.Reading.{Entry, groupStartRead, groupEndRead, colourRead, ase}
+use Rattle.ase.specs.Row.{RecordRow, width, groupStartRow, groupEndRow, colourRow, givenOf, givenIn}
+use Rattle.ase.specs.declared.RowNumbers.{RowNumbers}
 use Rattle.algebra.specs.Numbers.{joined}
 use Rattle.algebra.specs.Table.{Verdict, accepted, refused, verdict, seen}
 use Rattle.algebra.proofs.Places.{length-joined}
 use Rattle.algebra.proofs.Table.{accepted-of, accepted-by, record-found}
 use Rattle.ase_judge.specs.Answer.{report}
 use Rattle.ase_read.specs.Table.{row, recordAt, nameBytesIn}
-use Rattle.ase_read.specs.Raw.{nextBlock, blockPlace, entriesOf, Accepted}
-use Rattle.ase_read.specs.Answer.{IsColour}
+use Rattle.ase_read.specs.Table.{entriesOf}
+use Rattle.ase_read.specs.scaffold.Raw.{nextBlock, blockPlace, Accepted}
+use Rattle.ase_read.specs.scaffold.Answer.{IsColour}
 use Rattle.ase_read.proofs.Blocks.{Sound, NameIn}
 use Rattle.ase_read.proofs.Filling.{here}
 
@@ -38,19 +39,19 @@ use Rattle.ase_read.proofs.Filling.{here}
 
 module _ (t a b c d : ℕ) (is : IsColour t a b c d) where
   by-tag : madeIn (modelOf t) a b c d ≡ made (is .0) a b c d
-  by-tag = ap (λ (k : Known). madeIn k a b c d) (is .2)
+  by-tag = ap (λ (k : KnownModel). madeIn k a b c d) (is .2)
 
   pub is-made : (n : ℕ) → {X : Type 0} → madeIn (modelOf t) a b c d ≡ vm.Refused n → X
   is-made n e = let z : vm.Is (is .1) ≡ vm.Refused n = sym (is .3) ∙ sym by-tag ∙ e in let w : _≡_ {A = ℕ} 0 1 = cc in absurd (omega arith)
 
   pub colour-is : (x : Channels) → madeIn (modelOf t) a b c d ≡ vm.Is x → a < 2 ^ 32 → b < 2 ^ 32 → c < 2 ^ 32 → d < 2 ^ 32
-      → (p u k : ℕ) → colour p u (traitsOf (modelIn x) .tag) (bitsOf x) k ≡ colour p u t (a ∷ b ∷ c ∷ d ∷ []) k
+      → (p u k : ℕ) → colourRow p u (traitsOf (modelIn x) .tag) (bitsOf x) k ≡ colourRow p u t (a ∷ b ∷ c ∷ d ∷ []) k
   colour-is x e ha hb hc hd p u k =
       let z = bits-kept (is .0) a b c d ha hb hc hd x (sym by-tag ∙ e) in
-      ap₂ (λ (g : ℕ) (l : List ℕ). colour p u g l k) (ap (λ (y : Model). traitsOf y .tag) (z .0) ∙ tag-known t (is .0) (is .2)) (z .1 ∙ is .4)
+      ap₂ (λ (g : ℕ) (l : List ℕ). colourRow p u g l k) (ap (λ (y : Model). traitsOf y .tag) (z .0) ∙ tag-known t (is .0) (is .2)) (z .1 ∙ is .4)
 
 -- what is judged makes a colour
-pub sound-colour : (nm : Name) (t : ℕ) (bs : List ℕ) (k : ℕ) → Sound (coloured nm t bs k) → IsColour t (getD bs 0 0) (getD bs 1 0) (getD bs 2 0) (getD bs 3 0)
+pub sound-colour : (nm : Name) (t : ℕ) (bs : List ℕ) (k : ℕ) → Sound (colourRead nm t bs k) → IsColour t (getD bs 0 0) (getD bs 1 0) (getD bs 2 0) (getD bs 3 0)
 unfolding isModel channelsOf allowsBits
 sound-colour nm t bs k h = go (modelOf t) refl (h .0) (h .1) (h .2)
   where
@@ -63,7 +64,7 @@ sound-colour nm t bs k h = go (modelOf t) refl (h .0) (h .1) (h .2)
     is : {x : Channels} {p : Bool} → p ≡ true → pick p (vm.Is x) (vm.Refused 5) ≡ vm.Is x
     is {x} a = ap (λ (p : Bool). pick p (vm.Is x) (vm.Refused 5)) a
 
-    go : (w : Known) → modelOf t ≡ w → isKnown w ≡ true → length bs ≡ countIn w → ((i : ℕ) → i < length bs → allowsIn w (getD bs i 0) ≡ true) → IsColour t (getD bs 0 0) (getD bs 1 0) (getD bs 2 0) (getD bs 3 0)
+    go : (w : KnownModel) → modelOf t ≡ w → isKnown w ≡ true → length bs ≡ countIn w → ((i : ℕ) → i < length bs → allowsIn w (getD bs i 0) ≡ true) → IsColour t (getD bs 0 0) (getD bs 1 0) (getD bs 2 0) (getD bs 3 0)
     go (Is Rgb) e a n c = (
       Rgb,
       vc.Rgb (channel (getD bs 0 0)) (channel (getD bs 1 0)) (channel (getD bs 2 0)),
@@ -96,33 +97,33 @@ sound-colour nm t bs k h = go (modelOf t) refl (h .0) (h .1) (h .2)
 
 -- ---- a record by its numbers
 
-block-is : (r : Numbers) {g : Given} → givenIn r ≡ g → r .block ≡ g .block
-block-is r e = ap (λ (x : Given). x .block) e
+block-is : (r : RowNumbers) {g : RecordRow} → givenIn r ≡ g → r .block ≡ g .block
+block-is r e = ap (λ (x : RecordRow). x .block) e
 
-module _ (r : Numbers) where
-  pub is-group : (e : Entry) → givenIn r ≡ givenOf e → r .block ≡ 0xC001 → group (r .first) (r .units) ≡ givenOf e
-  is-group (started nm) w h = ap (λ (x : Given). group (x .first) (x .units)) w
-  is-group stopped w h = let z : _≡_ {A = ℕ} 0xC002 0xC001 = sym (block-is r w) ∙ h in absurd (omega arith)
-  is-group (coloured nm t bs k) w h = let z : _≡_ {A = ℕ} 0x0001 0xC001 = sym (block-is r w) ∙ h in absurd (omega arith)
+module _ (r : RowNumbers) where
+  pub is-group : (e : Entry) → givenIn r ≡ givenOf e → r .block ≡ 0xC001 → groupStartRow (r .first) (r .units) ≡ givenOf e
+  is-group (groupStartRead nm) w h = ap (λ (x : RecordRow). groupStartRow (x .first) (x .units)) w
+  is-group groupEndRead w h = let z : _≡_ {A = ℕ} 0xC002 0xC001 = sym (block-is r w) ∙ h in absurd (omega arith)
+  is-group (colourRead nm t bs k) w h = let z : _≡_ {A = ℕ} 0x0001 0xC001 = sym (block-is r w) ∙ h in absurd (omega arith)
 
-  pub is-close : (e : Entry) → givenIn r ≡ givenOf e → r .block ≡ 0xC002 → close ≡ givenOf e
-  is-close (started nm) w h = let z : _≡_ {A = ℕ} 0xC001 0xC002 = sym (block-is r w) ∙ h in absurd (omega arith)
-  is-close stopped w h = refl
-  is-close (coloured nm t bs k) w h = let z : _≡_ {A = ℕ} 0x0001 0xC002 = sym (block-is r w) ∙ h in absurd (omega arith)
+  pub is-close : (e : Entry) → givenIn r ≡ givenOf e → r .block ≡ 0xC002 → groupEndRow ≡ givenOf e
+  is-close (groupStartRead nm) w h = let z : _≡_ {A = ℕ} 0xC001 0xC002 = sym (block-is r w) ∙ h in absurd (omega arith)
+  is-close groupEndRead w h = refl
+  is-close (colourRead nm t bs k) w h = let z : _≡_ {A = ℕ} 0x0001 0xC002 = sym (block-is r w) ∙ h in absurd (omega arith)
 
 -- the colour that they make
-pub record Hue (e : Entry) (r : Numbers) : Type 0 where
+pub record Hue (e : Entry) (r : RowNumbers) : Type 0 where
   pub is : IsColour (r .model) (r .a) (r .b) (r .c) (r .d)
   pub type : r .kind ≤ 2
-  pub shows : colour (r .first) (r .units) (r .model) (r .a ∷ r .b ∷ r .c ∷ r .d ∷ []) (r .kind) ≡ givenOf e
+  pub shows : colourRow (r .first) (r .units) (r .model) (r .a ∷ r .b ∷ r .c ∷ r .d ∷ []) (r .kind) ≡ givenOf e
 
-pub is-colour : (e : Entry) → Sound e → (r : Numbers) → givenIn r ≡ givenOf e → (r .block ≡ 0xC001 → ⊥) → (r .block ≡ 0xC002 → ⊥) → Hue e r
-is-colour (started nm) o r w h g = absurd (h (block-is r w))
-is-colour stopped o r w h g = absurd (g (block-is r w))
-is-colour (coloured nm t bs k) o r w h g = record {
-  is = subst (λ (x : Given). IsColour (x .model) (getD (x .channels) 0 0) (getD (x .channels) 1 0) (getD (x .channels) 2 0) (getD (x .channels) 3 0)) (sym w) (sound-colour nm t bs k o);
-  type = subst (λ (x : Given). x .type ≤ 2) (sym w) (o .3);
-  shows = ap (λ (x : Given). colour (x .first) (x .units) (x .model) (x .channels) (x .type)) w;
+pub is-colour : (e : Entry) → Sound e → (r : RowNumbers) → givenIn r ≡ givenOf e → (r .block ≡ 0xC001 → ⊥) → (r .block ≡ 0xC002 → ⊥) → Hue e r
+is-colour (groupStartRead nm) o r w h g = absurd (h (block-is r w))
+is-colour groupEndRead o r w h g = absurd (g (block-is r w))
+is-colour (colourRead nm t bs k) o r w h g = record {
+  is = subst (λ (x : RecordRow). IsColour (x .model) (getD (x .channels) 0 0) (getD (x .channels) 1 0) (getD (x .channels) 2 0) (getD (x .channels) 3 0)) (sym w) (sound-colour nm t bs k o);
+  type = subst (λ (x : RecordRow). x .type ≤ 2) (sym w) (o .3);
+  shows = ap (λ (x : RecordRow). colourRow (x .first) (x .units) (x .model) (x .channels) (x .type)) w;
 }
 
 -- ---- from the verdict to what the file holds
@@ -134,28 +135,28 @@ pub rows-wide : (es : List Entry) → length (joined row es) ≡ width * length 
 rows-wide es = omega (arith, length-joined row width (λ e. refl) es)
 
 -- a record that the file has
-pub record-is : (m : Res (List Entry)) (n i : ℕ) → Accepted m n → i < n → (g : Given) → g ≡ givenOf (getD (entriesOf m) i stopped) → accepted g ≡ recordAt i m
-record-is m n i a h g e = ap (λ (x : Given). accepted x) e ∙ ap (seen givenOf) (record-found (λ es. es) length (λ k. k) (λ es. refl) m stopped i a h)
+pub record-is : (m : Res (List Entry)) (n i : ℕ) → Accepted m n → i < n → (g : RecordRow) → g ≡ givenOf (getD (entriesOf m) i groupEndRead) → accepted g ≡ recordAt i m
+record-is m n i a h g e = ap (λ (x : RecordRow). accepted x) e ∙ ap (seen givenOf) (record-found (λ es. es) length (λ k. k) (λ es. refl) m groupEndRead i a h)
 
 -- ---- a record's name
 
 -- the part of the file that a name is
-pub name-part : (s : List ℕ) (v : Verdict Given) (g : Given) → accepted g ≡ v → take (g .first + 2 * g .units - g .first) (drop (g .first) s) ≡ nameBytesIn s v
+pub name-part : (s : List ℕ) (v : Verdict RecordRow) (g : RecordRow) → accepted g ≡ v → take (g .first + 2 * g .units - g .first) (drop (g .first) s) ≡ nameBytesIn s v
 name-part s v g e = let n : g .first + 2 * g .units - g .first ≡ 2 * g .units = omega arith in ap (λ (x : ℕ). take x (drop (g .first) s)) n ∙ ap (nameBytesIn s) e
 
 -- it lies inside the file
-pub name-in : (s : List ℕ) (i : ℕ) (g : Given) → accepted g ≡ recordAt i (ase s) → g .first + 2 * g .units ≤ length s
+pub name-in : (s : List ℕ) (i : ℕ) (g : RecordRow) → accepted g ≡ recordAt i (ase s) → g .first + 2 * g .units ≤ length s
 name-in s i g e = go (ase s) refl e
   where
     entry : (q : ℕ) → q ≤ length s → (x : Entry) → NameIn q x → accepted g ≡ accepted (givenOf x) → g .first + 2 * g .units ≤ length s
-    entry q l (started nm) h z = let w : g ≡ givenOf (started nm) = cc in omega (arith, h, ap (λ (x : Given). x .first) w, ap (λ (x : Given). x .units) w)
-    entry q l stopped h z = let w : g ≡ givenOf stopped = cc in omega (arith, ap (λ (x : Given). x .first) w, ap (λ (x : Given). x .units) w)
-    entry q l (coloured nm t bs k) h z = let w : g ≡ givenOf (coloured nm t bs k) = cc in omega (arith, h, ap (λ (x : Given). x .first) w, ap (λ (x : Given). x .units) w)
+    entry q l (groupStartRead nm) h z = let w : g ≡ givenOf (groupStartRead nm) = cc in omega (arith, h, ap (λ (x : RecordRow). x .first) w, ap (λ (x : RecordRow). x .units) w)
+    entry q l groupEndRead h z = let w : g ≡ givenOf groupEndRead = cc in omega (arith, ap (λ (x : RecordRow). x .first) w, ap (λ (x : RecordRow). x .units) w)
+    entry q l (colourRead nm t bs k) h z = let w : g ≡ givenOf (colourRead nm t bs k) = cc in omega (arith, h, ap (λ (x : RecordRow). x .first) w, ap (λ (x : RecordRow). x .units) w)
 
-    test : (es : List Entry) (q : ℕ) → ase s ≡ ok es q → (b : Bool) → ltb i (length es) ≡ b → accepted g ≡ seen givenOf (pick b (accepted (getD es i stopped)) (refused 12 0 0 0)) → g .first + 2 * g .units ≤ length s
+    test : (es : List Entry) (q : ℕ) → ase s ≡ ok es q → (b : Bool) → ltb i (length es) ≡ b → accepted g ≡ seen givenOf (pick b (accepted (getD es i groupEndRead)) (refused 12 0 0 0)) → g .first + 2 * g .units ≤ length s
     test es q x true l z =
         let h = here s (length es) (es, q, x, refl) i (ltb-true _ _ l) (blockPlace s i) refl in
-        entry _ (h .inside) (getD es i stopped) (subst (λ (y : List Entry). NameIn (nextBlock s (blockPlace s i)) (getD y i stopped)) (ap entriesOf x) (h .named)) z
+        entry _ (h .inside) (getD es i groupEndRead) (subst (λ (y : List Entry). NameIn (nextBlock s (blockPlace s i)) (getD y i groupEndRead)) (ap entriesOf x) (h .named)) z
     test es q x false l z = let w : _≡_ {A = ℕ} 0 1 = cc in absurd (omega arith)
 
     go : (m : Res (List Entry)) → ase s ≡ m → accepted g ≡ recordAt i m → g .first + 2 * g .units ≤ length s

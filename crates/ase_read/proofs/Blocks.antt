@@ -17,11 +17,11 @@ use Rattle.algebra.proofs.Inverse.{ok-value, ok-place, then-inv, rule-inv, unle
 use Rattle.algebra.proofs.Texts.{closed-last, length-front}
 use Rattle.colour.specs.Models.{isModel, channelsOf}
 use Rattle.colour.specs.Channels.{allowsBits}
-use Rattle.ase.specs.Reading.{Entry, started, stopped, coloured, group, model, channel, type, shade, inside, within, deepest, isType, content, block}
+use Rattle.ase.specs.Reading.{Entry, groupStartRead, groupEndRead, colourRead, groupContent, model, channel, type, colourContent, inside, within, deepest, isBlockType, content, block}
 use Rattle.ase.proofs.Payload.{inside-inv}
 use Rattle.ase.proofs.Laws.{block-inv}
-use Rattle.ase.specs.Row.{Given, givenOf}
-use Rattle.ase_read.specs.Raw.{load, countAt, firstAt, modelAt, loaded, nextBlock}
+use Rattle.ase.specs.Row.{RecordRow, givenOf}
+use Rattle.ase_read.specs.scaffold.Raw.{load, countAt, firstAt, modelAt, loaded, nextBlock}
 
 -- ---- a number as it is loaded
 
@@ -48,15 +48,15 @@ load-channel u n at i e = go (ltb i n) refl
 
 -- a colour's model is known and allows its channels, and its type is known
 abbrev pub Sound : Entry → Type 0
-Sound (started nm) = Unit
-Sound stopped = Unit
-Sound (coloured nm t bs k) = (isModel t ≡ true) × (length bs ≡ channelsOf t) × ((i : ℕ) → i < length bs → allowsBits t (getD bs i 0) ≡ true) × (k ≤ 2)
+Sound (groupStartRead nm) = Unit
+Sound groupEndRead = Unit
+Sound (colourRead nm t bs k) = (isModel t ≡ true) × (length bs ≡ channelsOf t) × ((i : ℕ) → i < length bs → allowsBits t (getD bs i 0) ≡ true) × (k ≤ 2)
 
 -- its name ends before q
 abbrev pub NameIn : ℕ → Entry → Type 0
-NameIn q (started nm) = nm .first + 2 * length (nm .units) ≤ q
-NameIn q stopped = Unit
-NameIn q (coloured nm t bs k) = nm .first + 2 * length (nm .units) ≤ q
+NameIn q (groupStartRead nm) = nm .first + 2 * length (nm .units) ≤ q
+NameIn q groupEndRead = Unit
+NameIn q (colourRead nm t bs k) = nm .first + 2 * length (nm .units) ≤ q
 
 -- block e at a place, in the file u that ends with it
 pub record Ended (u : List ℕ) (at : ℕ) (e : Entry) : Type 0 where
@@ -112,11 +112,11 @@ named-as u at n nm q r =
 -- ---- its row
 
 pub same : {a b c d e f g h j a′ b′ c′ d′ e′ f′ g′ h′ j′ : ℕ} → a ≡ a′ → b ≡ b′ → c ≡ c′ → d ≡ d′ → e ≡ e′ → f ≡ f′ → g ≡ g′ → h ≡ h′ → j ≡ j′
-    → _≡_ {A = Given} (record { block = a; first = b; units = c; model = d; channels = e ∷ f ∷ g ∷ h ∷ []; type = j }) (record { block = a′; first = b′; units = c′; model = d′; channels = e′ ∷ f′ ∷ g′ ∷ h′ ∷ []; type = j′ })
+    → _≡_ {A = RecordRow} (record { block = a; first = b; units = c; model = d; channels = e ∷ f ∷ g ∷ h ∷ []; type = j }) (record { block = a′; first = b′; units = c′; model = d′; channels = e′ ∷ f′ ∷ g′ ∷ h′ ∷ []; type = j′ })
 same a b c d e f g h j = λ i. record { block = a i; first = b i; units = c i; model = d i; channels = e i ∷ f i ∷ g i ∷ h i ∷ []; type = j i }
 
 -- a group start ends with its name, whose closing zero is the last number
-group-ended : (u : List ℕ) (at : ℕ) (nm : Name) → num 2 u at ≡ 0xC001 → Naming u at nm (length u) → Ended u at (started nm)
+group-ended : (u : List ℕ) (at : ℕ) (nm : Name) → num 2 u at ≡ 0xC001 → Naming u at nm (length u) → Ended u at (groupStartRead nm)
 group-ended u at nm t l =
     let past : (k : ℕ) → 0 ≡ load 4 u (modelAt u at + k) = λ k. sym (load-short 4 u (modelAt u at + k) (omega (arith, l .end))) in record {
       is-row =
@@ -128,7 +128,7 @@ group-ended u at nm t l =
     }
 
 -- a group end has no payload; the last number is the low half of its length
-stop-ended : (u : List ℕ) (at : ℕ) → num 2 u at ≡ 0xC002 → num 4 u (at + 2) ≡ 0 → length u ≡ at + 6 → Ended u at stopped
+stop-ended : (u : List ℕ) (at : ℕ) → num 2 u at ≡ 0xC002 → num 4 u (at + 2) ≡ 0 → length u ≡ at + 6 → Ended u at groupEndRead
 stop-ended u at t z e =
     let none : load 2 u (at + 6) ≡ 0 = load-short 2 u (at + 6) (omega arith) in
     let past : (k : ℕ) → 0 ≡ load 4 u (modelAt u at + k) = λ k. sym (load-short 4 u (modelAt u at + k) (omega arith)) in
@@ -147,7 +147,7 @@ stop-ended u at t z e =
 
 -- a colour: its model and channels stand behind the name, and its type is the last number
 colour-ended : (u : List ℕ) (at r n : ℕ) (nm : Name) (t : ℕ) (bs : List ℕ) (k : ℕ) → num 2 u at ≡ 0x0001 → Naming u at nm r
-    → num 4 u r ≡ t → nums 4 n u (r + 4) ≡ bs → num 2 u (r + 4 + n * 4) ≡ k → r + 4 + n * 4 + 2 ≡ length u → Sound (coloured nm t bs k) → Ended u at (coloured nm t bs k)
+    → num 4 u r ≡ t → nums 4 n u (r + 4) ≡ bs → num 2 u (r + 4 + n * 4) ≡ k → r + 4 + n * 4 + 2 ≡ length u → Sound (colourRead nm t bs k) → Ended u at (colourRead nm t bs k)
 colour-ended u at r n nm t bs k kind l et eb ek e snd =
     let b : modelAt u at ≡ r = l .end in
     let four : (i p : ℕ) → r + 4 + 4 * i ≡ modelAt u at + p → getD bs i 0 ≡ load 4 u (modelAt u at + p) =
@@ -164,8 +164,8 @@ colour-ended u at r n nm t bs k kind l et eb ek e snd =
 
 -- ---- from the reading definition
 
-group-inv : (u : List ℕ) (at : ℕ) {e : Entry} {q : ℕ} → num 2 u at ≡ 0xC001 → q ≡ length u → group u (at + 6) ≡ ok e q → Ended u at e
-unfolding group
+group-inv : (u : List ℕ) (at : ℕ) {e : Entry} {q : ℕ} → num 2 u at ≡ 0xC001 → q ≡ length u → groupContent u (at + 6) ≡ ok e q → Ended u at e
+unfolding groupContent
 group-inv u at {e} {q} t z x =
     let i = then-inv (name 2 u (at + 6)) _ x in
     let y = name-inv 2 u (at + 6) (i .2) in
@@ -177,9 +177,9 @@ channels-sound u n r t bs e h i l =
     let k : i < n = omega (arith, ap length e, length-nums 4 n u r) in
     ap (allowsBits t) (sym (ap (λ (x : List ℕ). getD x i 0) e) ∙ getD-nums 4 u n r i k) ∙ unless-fine (allowsBits t (num 4 u (r + 4 * i))) 5 (h i k)
 
-shade-inv : (u : List ℕ) (at : ℕ) {e : Entry} {q : ℕ} → num 2 u at ≡ 0x0001 → q ≡ length u → shade u (at + 6) ≡ ok e q → Ended u at e
-unfolding shade
-shade-inv u at {e} {q} kind z x =
+colour-content-inv : (u : List ℕ) (at : ℕ) {e : Entry} {q : ℕ} → num 2 u at ≡ 0x0001 → q ≡ length u → colourContent u (at + 6) ≡ ok e q → Ended u at e
+unfolding colourContent
+colour-content-inv u at {e} {q} kind z x =
     let i = then-inv (name 2 u (at + 6)) _ x in
     let y = name-inv 2 u (at + 6) (i .2) in
     let r : ℕ = i .1 in
@@ -201,7 +201,7 @@ shade-inv u at {e} {q} kind z x =
     (unless-fine (isModel t) 4 (mj .3), sym (ap length bits) ∙ length-nums 4 (channelsOf t) u (r + 4), channels-sound u (channelsOf t) (r + 4) t (c .0) bits allowed, leb-true (k .0) 2 (unless-fine (leb (k .0) 2) 5 (kj .3))))
 
 -- the block's content, behind its type t and its length n
-content-inv : (t d n : ℕ) (s : List ℕ) (at : ℕ) {e : Entry} {q : ℕ} → num 2 s at ≡ t → num 4 s (at + 2) ≡ n → isType t ≡ true → at + 6 + n ≤ length s → content t d n s at ≡ ok e q → (q ≡ at + 6 + n) × Ended (take (at + 6 + n) s) at e
+content-inv : (t d n : ℕ) (s : List ℕ) (at : ℕ) {e : Entry} {q : ℕ} → num 2 s at ≡ t → num 4 s (at + 2) ≡ n → isBlockType t ≡ true → at + 6 + n ≤ length s → content t d n s at ≡ ok e q → (q ≡ at + 6 + n) × Ended (take (at + 6 + n) s) at e
 unfolding content
 content-inv t d n s at {e} {q} et en known le x = go (eqb t 0xC001) (eqb t 0xC002) refl refl known x
   where
@@ -221,15 +221,15 @@ content-inv t d n s at {e} {q} et en known le x = go (eqb t 0xC001) (eqb t 0xC00
     payload p w f = let i = inside-inv (at + 2) end (p u (at + 6)) w in (i .1, f (i .1 ∙ sym whole) (i .0))
 
     go : (a b : Bool) → eqb t 0xC001 ≡ a → eqb t 0xC002 ≡ b → pick a true (pick b true (eqb t 0x0001)) ≡ true
-        → pick a (rule (unless (ltb d deepest) 10) at (within group n s at)) (pick b (rule (unless (eqb n 0) 13) (at + 2) (rule (unless (ltb 0 d) 9) at (ok stopped (at + 6)))) (within shade n s at)) ≡ ok e q
+        → pick a (rule (unless (ltb d deepest) 10) at (within groupContent n s at)) (pick b (rule (unless (eqb n 0) 13) (at + 2) (rule (unless (ltb 0 d) 9) at (ok groupEndRead (at + 6)))) (within colourContent n s at)) ≡ ok e q
         → (q ≡ end) × Ended u at e
-    go true b ea eb k y = payload group (rule-inv (unless (ltb d deepest) 10) at (within group n s at) y .1) (λ z w. group-inv u at (kind 0xC001 (eqb-true _ _ ea)) z w)
+    go true b ea eb k y = payload groupContent (rule-inv (unless (ltb d deepest) 10) at (within groupContent n s at) y .1) (λ z w. group-inv u at (kind 0xC001 (eqb-true _ _ ea)) z w)
     go false true ea eb k y =
         let i = rule-inv (unless (eqb n 0) 13) (at + 2) _ y in
-        let j = rule-inv (unless (ltb 0 d) 9) at (ok stopped (at + 6)) (i .1) in
+        let j = rule-inv (unless (ltb 0 d) 9) at (ok groupEndRead (at + 6)) (i .1) in
         let none : n ≡ 0 = eqb-true n 0 (unless-fine (eqb n 0) 13 (i .0)) in
         (omega (arith, ok-place (j .1)), subst (Ended u at) (ok-value (j .1)) (stop-ended u at (kind 0xC002 (eqb-true _ _ eb)) (num-take s end 4 (at + 2) (omega arith) ∙ en ∙ none) (omega (arith, whole))))
-    go false false ea eb k y = payload shade y (λ z w. shade-inv u at (kind 0x0001 (eqb-true _ _ k)) z w)
+    go false false ea eb k y = payload colourContent y (λ z w. colour-content-inv u at (kind 0x0001 (eqb-true _ _ k)) z w)
 
 pub blocked : (d : ℕ) (s : List ℕ) (at : ℕ) {e : Entry} {q : ℕ} → block d s at ≡ ok e q → Blocked s at e q
 blocked d s at {e} {q} x =

@@ -13,9 +13,10 @@ use Rattle.algebra.specs.Reader.{ok, pick, unless, chain, stateAfter, limit}
 use Rattle.algebra.proofs.Inverse.{ok-value, then-inv, rule-inv, pick-inv, ended-inv}
 use Rattle.algebra.proofs.Chain.{chain-inv, chain-length}
 use Rattle.ase.proofs.Whole.{heading-inv}
-use Rattle.ase.specs.Reading.{Entry, stopped, block, standingAfter, heading, blocks, palette, ase}
+use Rattle.ase.specs.Reading.{Entry, groupEndRead, block, openAfterEntry, heading, blocks, palette, ase}
 use Rattle.ase.specs.Row.{givenOf}
-use Rattle.ase_read.specs.Raw.{load, countAt, modelAt, loaded, nextBlock, blockPlace, entriesOf, Accepted}
+use Rattle.ase_read.specs.Table.{entriesOf}
+use Rattle.ase_read.specs.scaffold.Raw.{load, countAt, modelAt, loaded, nextBlock, blockPlace, Accepted}
 use Rattle.ase_read.proofs.Blocks.{same, Sound, NameIn, Blocked, blocked}
 
 -- ---- a block's numbers as they are loaded
@@ -43,39 +44,39 @@ place-low s zero = omega arith
 place-low s (suc i) = omega (arith, place-low s i)
 
 -- block k of those that were read from block i on
-blocks-place : (s : List ℕ) (m i d : ℕ) {es : List Entry} {q : ℕ} → chain standingAfter block m d s (blockPlace s i) ≡ ok es q
-    → (k : ℕ) → k < m → (to : ℕ) × Blocked s (blockPlace s (i + k)) (getD es k stopped) to
+blocks-place : (s : List ℕ) (m i d : ℕ) {es : List Entry} {q : ℕ} → chain openAfterEntry block m d s (blockPlace s i) ≡ ok es q
+    → (k : ℕ) → k < m → (to : ℕ) × Blocked s (blockPlace s (i + k)) (getD es k groupEndRead) to
 blocks-place s zero i d e k h = absurd (omega arith)
 blocks-place s (suc m) i d e zero h =
-    let t = chain-inv standingAfter block s m d (blockPlace s i) e in
-    (t .1, rw (add-zero i) (subst (λ (l : List Entry). Blocked s (blockPlace s i) (getD l 0 stopped) (t .1)) (t .5) (blocked d s (blockPlace s i) (t .3))))
+    let t = chain-inv openAfterEntry block s m d (blockPlace s i) e in
+    (t .1, rw (add-zero i) (subst (λ (l : List Entry). Blocked s (blockPlace s i) (getD l 0 groupEndRead) (t .1)) (t .5) (blocked d s (blockPlace s i) (t .3))))
 blocks-place s (suc m) i d {es} {q} e (suc k) h =
-    let t = chain-inv standingAfter block s m d (blockPlace s i) e in
+    let t = chain-inv openAfterEntry block s m d (blockPlace s i) e in
     let b = blocked d s (blockPlace s i) (t .3) in
     let p : t .1 ≡ blockPlace s (i + 1) = sym (b .next) ∙ sym (place-next s i) in
-    let r = blocks-place s m (i + 1) (standingAfter d (t .0)) {es = t .2} {q = q} (subst (λ (z : ℕ). chain standingAfter block m (standingAfter d (t .0)) s z ≡ ok (t .2) q) p (t .4)) k (omega arith) in
+    let r = blocks-place s m (i + 1) (openAfterEntry d (t .0)) {es = t .2} {q = q} (subst (λ (z : ℕ). chain openAfterEntry block m (openAfterEntry d (t .0)) s z ≡ ok (t .2) q) p (t .4)) k (omega arith) in
     let y : i + 1 + k ≡ i + suc k = omega arith in (
       r .0,
-      subst (λ (l : List Entry). Blocked s (blockPlace s (i + suc k)) (getD l (suc k) stopped) (r .0)) (t .5)
-          (subst (λ (z : ℕ). Blocked s (blockPlace s z) (getD (t .2) k stopped) (r .0)) y (r .1)),
+      subst (λ (l : List Entry). Blocked s (blockPlace s (i + suc k)) (getD l (suc k) groupEndRead) (r .0)) (t .5)
+          (subst (λ (z : ℕ). Blocked s (blockPlace s z) (getD (t .2) k groupEndRead) (r .0)) y (r .1)),
     )
 
 -- ---- the file
 
 -- an accepted file is not too long, and its blocks stand behind the heading
-ase-inv : (s : List ℕ) {es : List Entry} {q : ℕ} → ase s ≡ ok es q → (length s ≤ limit) × (to : ℕ) × (chain standingAfter block (length es) 0 s (blockPlace s 0) ≡ ok es to)
+ase-inv : (s : List ℕ) {es : List Entry} {q : ℕ} → ase s ≡ ok es q → (length s ≤ limit) × (to : ℕ) × (chain openAfterEntry block (length es) 0 s (blockPlace s 0) ≡ ok es to)
 unfolding ase palette blocks
 ase-inv s {es} {q} e =
     let i = pick-inv (leb (length s) limit) (palette s 0) 1 0 0 0 e in
     let h = then-inv (heading s 0) _ (i .1) in
     let b = then-inv (blocks (h .0) s (h .1)) _ (h .3) in
-    let c = then-inv (chain standingAfter block (h .0) 0 s (h .1)) _ (b .2) in
-    let r = rule-inv (unless (eqb (stateAfter standingAfter 0 (c .0)) 0) 9) (c .1) (ok (c .0) (c .1)) (c .3) in
+    let c = then-inv (chain openAfterEntry block (h .0) 0 s (h .1)) _ (b .2) in
+    let r = rule-inv (unless (eqb (stateAfter openAfterEntry 0 (c .0)) 0) 9) (c .1) (ok (c .0) (c .1)) (c .3) in
     let z = ended-inv (b .0) s (b .1) (b .3) in
     let same : c .0 ≡ es = ok-value (r .1) ∙ z .1 in
-    let n : h .0 ≡ length es = sym (chain-length standingAfter block s (h .0) 0 (h .1) (c .2)) ∙ ap length same in
+    let n : h .0 ≡ length es = sym (chain-length openAfterEntry block s (h .0) 0 (h .1) (c .2)) ∙ ap length same in
     let p : h .1 ≡ blockPlace s 0 = heading-inv s (h .2) .0 ∙ sym (place-first s) in
-    (leb-true (length s) limit (i .0), c .1, ap₂ (λ (k a : ℕ). chain standingAfter block k 0 s a) (sym n) (sym p) ∙ c .2 ∙ ap (λ (l : List Entry). ok l (c .1)) same)
+    (leb-true (length s) limit (i .0), c .1, ap₂ (λ (k a : ℕ). chain openAfterEntry block k 0 s a) (sym n) (sym p) ∙ c .2 ∙ ap (λ (l : List Entry). ok l (c .1)) same)
 
 module _ (s : List ℕ) (n : ℕ) (a : Accepted (ase s) n) where
   pub entries-are : entriesOf (ase s) ≡ a .0
@@ -88,14 +89,14 @@ module _ (s : List ℕ) (n : ℕ) (a : Accepted (ase s) n) where
   small = ase-inv s (a .2) .0
 
   -- block i, with the entry that was read
-  pub block-is : (i : ℕ) → i < n → Blocked s (blockPlace s i) (getD (a .0) i stopped) (nextBlock s (blockPlace s i))
+  pub block-is : (i : ℕ) → i < n → Blocked s (blockPlace s i) (getD (a .0) i groupEndRead) (nextBlock s (blockPlace s i))
   block-is i h =
       let b = blocks-place s (length (a .0)) 0 0 (ase-inv s (a .2) .2) i (omega (arith, a .3)) in
       let z : 0 + i ≡ i = omega arith in
-      go (subst (λ (k : ℕ). Blocked s (blockPlace s k) (getD (a .0) i stopped) (b .0)) z (b .1))
+      go (subst (λ (k : ℕ). Blocked s (blockPlace s k) (getD (a .0) i groupEndRead) (b .0)) z (b .1))
     where
-      go : {q : ℕ} → Blocked s (blockPlace s i) (getD (a .0) i stopped) q → Blocked s (blockPlace s i) (getD (a .0) i stopped) (nextBlock s (blockPlace s i))
-      go b = subst (λ (k : ℕ). Blocked s (blockPlace s i) (getD (a .0) i stopped) k) (sym (b .next)) b
+      go : {q : ℕ} → Blocked s (blockPlace s i) (getD (a .0) i groupEndRead) q → Blocked s (blockPlace s i) (getD (a .0) i groupEndRead) (nextBlock s (blockPlace s i))
+      go b = subst (λ (k : ℕ). Blocked s (blockPlace s i) (getD (a .0) i groupEndRead) k) (sym (b .next)) b
 
   -- the place of a block is not past the file's end, and the file is at least as long as it has blocks
   pub count-small : n ≤ limit
@@ -107,7 +108,7 @@ module _ (s : List ℕ) (n : ℕ) (a : Accepted (ase s) n) where
 
 -- record i of a file
 abbrev pub entryAt : List ℕ → ℕ → Entry
-entryAt s i = getD (entriesOf (ase s)) i stopped
+entryAt s i = getD (entriesOf (ase s)) i groupEndRead
 
 -- block i where p is its place
 pub record Here (s : List ℕ) (i p : ℕ) : Type 0 where
@@ -121,14 +122,14 @@ pub record Here (s : List ℕ) (i p : ℕ) : Type 0 where
 pub here : (s : List ℕ) (n : ℕ) (a : Accepted (ase s) n) (i : ℕ) → i < n → (p : ℕ) → p ≡ blockPlace s i → Here s i p
 here s n a i h p e = subst (Here s i) (sym e) (go (block-is s n a i h))
   where
-    go : Blocked s (blockPlace s i) (getD (a .0) i stopped) (nextBlock s (blockPlace s i)) → Here s i (blockPlace s i)
+    go : Blocked s (blockPlace s i) (getD (a .0) i groupEndRead) (nextBlock s (blockPlace s i)) → Here s i (blockPlace s i)
     go b =
         let l = length-take-le (nextBlock s (blockPlace s i)) s (b .inside) in
-        let e : entryAt s i ≡ getD (a .0) i stopped = ap (λ (es : List Entry). getD es i stopped) (entries-are s n a) in record {
+        let e : entryAt s i ≡ getD (a .0) i groupEndRead = ap (λ (es : List Entry). getD es i groupEndRead) (entries-are s n a) in record {
           short = small s n a;
           inside = b .inside;
           next = sym (place-next s i);
           is-row = ap givenOf e ∙ b .ended .is-row;
           sound = subst Sound (sym e) (b .ended .sound);
-          named = subst (NameIn (nextBlock s (blockPlace s i))) (sym e) (subst (λ (q : ℕ). NameIn q (getD (a .0) i stopped)) l (b .ended .named));
+          named = subst (NameIn (nextBlock s (blockPlace s i))) (sym e) (subst (λ (q : ℕ). NameIn q (getD (a .0) i groupEndRead)) l (b .ended .named));
         }

@@ -5,10 +5,16 @@ use Rattle.algebra.specs.Reader.{Res}
 use Rattle.algebra.specs.Store.{part}
 use Rattle.algebra.specs.Table.{Verdict, accepted, refused, seen}
 use Rattle.algebra.specs.Table as table
-use Rattle.ase.specs.Reading.{Entry, stopped}
-use Rattle.ase.specs.Row.{Given, width, numbers, givenOf}
+use Rattle.algebra.specs.Filling.{recordsIn}
+use Rattle.ase.specs.Reading.{Entry, groupEndRead}
+use Rattle.ase.specs.Row.{RecordRow, width, numbers, givenOf}
 use Rattle.ase_judge.specs.Answer.{report}
 
+-- the records of an accepted file
+abbrev pub entriesOf : Res (List Entry) → List Entry
+entriesOf m = recordsIn (λ es. es) m
+
+-- a record's row
 abbrev pub row : Entry → List ℕ
 row e = numbers (givenOf e)
 
@@ -17,10 +23,10 @@ abbrev pub filled : Res (List Entry) → List ℕ → Verdict (ℕ × ℕ) × Li
 filled m t = table.filled width row (λ es. es) report m t
 
 -- record i, as its row gives it
-abbrev pub recordAt : ℕ → Res (List Entry) → Verdict Given
-recordAt i m = seen givenOf (table.recordAt (λ es. es) stopped i m)
+abbrev pub recordAt : ℕ → Res (List Entry) → Verdict RecordRow
+recordAt i m = seen givenOf (table.recordAt (λ es. es) groupEndRead i m)
 
 -- the bytes of a name's units in the file; none where the record has no name, and on a refusal
-abbrev pub nameBytesIn : List ℕ → Verdict Given → List ℕ
+abbrev pub nameBytesIn : List ℕ → Verdict RecordRow → List ℕ
 nameBytesIn s (accepted g) = part s (g .first) (2 * g .units)
 nameBytesIn s (refused x p r f) = []

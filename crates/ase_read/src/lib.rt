@@ -9,12 +9,14 @@ ghost use Rattle.algebra.specs.Numbers.{joined};
 ghost use Rattle.algebra.specs.Reader.{pick, limit};
 ghost use Rattle.algebra.specs.Table.{accepted};
 ghost use Rattle.ase.specs.Reading.{ase};
-ghost use Rattle.ase.specs.Row.{width, numbers, givenIn, colour};
+ghost use Rattle.ase.specs.Row.{width, numbers, givenIn, colourRow};
 ghost use Rattle.ase_judge.specs.Answer.{told};
 ghost use Rattle.ase_read.specs.Table.{row, filled, recordAt, nameBytesIn};
-ghost use Rattle.ase_read.specs.Raw.{nextBlock, blockPlace, loaded, rawRow, entriesOf, Accepted};
-ghost use Rattle.ase_read.specs.Answer.{toldRecord, IsColour};
-use ase::Numbers;
+ghost use Rattle.ase_read.specs.Table.{entriesOf};
+ghost use Rattle.ase_read.specs.scaffold.Raw.{nextBlock, blockPlace, loaded, rawRow, Accepted};
+ghost use Rattle.ase_read.specs.Answer.{toldRecord};
+ghost use Rattle.ase_read.specs.scaffold.Answer.{IsColour};
+use ase::RowNumbers;
 use ase::WIDTH;
 use ase_judge::Answer;
 use colour::Channels;
@@ -24,18 +26,18 @@ use colour::Made;
 const HEADING: usize = 12;
 
 // The types of a block, as a row has them.
-const START: u32 = ase::START as u32;
+const START: u32 = ase::GROUP_START as u32;
 
-const STOP: u32 = ase::STOP as u32;
+const STOP: u32 = ase::GROUP_END as u32;
 
 // A record: a group start with its name's place and number of units, a group end, or a colour with
 // its name, its channels and its type; or a refusal.
 pub enum Record {
-    Group {
+    GroupStart {
         place: usize,
         units: u32,
     },
-    Close,
+    GroupEnd,
     Colour {
         place: usize,
         units: u32,
@@ -79,14 +81,14 @@ fn units_of(count: u16) -> u32
 }
 
 // The block from `at` to the end of `part`: what a shorter payload does not have is 0.
-fn numbers_in(part: &[u8], at: usize) -> Numbers
+fn numbers_in(part: &[u8], at: usize) -> RowNumbers
     requires { ⌜ (at + 6 ≤ length (now part)) × (length (now part) ≤ limit) ⌝ }
     ensures { λ r. ⌜ givenIn r ≡ loaded (now (part .entry)) at ⌝ }
 {
     let block = fields::u16_or_zero(part, at);
     let count = fields::u16_or_zero(part, at + 6);
     let model = at + 8 + 2 * (count as usize);
-    Numbers {
+    RowNumbers {
         block: block as u32,
         first: first_at(count, at),
         units: units_of(count),
@@ -101,7 +103,7 @@ fn numbers_in(part: &[u8], at: usize) -> Numbers
 
 // Stores a row; nothing else knows its order. The stores stand by themselves, so that their proof
 // knows of nothing else.
-fn put_numbers(table: &mut [u32], to: usize, row: Numbers)
+fn put_numbers(table: &mut [u32], to: usize, row: RowNumbers)
     requires { ⌜ to + width ≤ length (now table) ⌝ }
     ensures { λ _. ⌜ now (table .exit) ≡ sets (now (table .entry)) to (numbers (givenIn row)) ⌝ }
 {
@@ -156,9 +158,9 @@ fn block_place(file: &[u8], n: usize, i: usize) -> usize
 }
 
 // A colour by its numbers, which are judged.
-fn coloured(row: Numbers) -> Record
+fn coloured(row: RowNumbers) -> Record
     requires { ⌜ IsColour (row .model) (row .a) (row .b) (row .c) (row .d) × (row .kind ≤ 2) ⌝ }
-    ensures { λ r. ⌜ toldRecord r ≡ accepted (colour (row .first) (row .units) (row .model) (row .a ∷ row .b ∷ row .c ∷ row .d ∷ []) (row .kind)) ⌝ }
+    ensures { λ r. ⌜ toldRecord r ≡ accepted (colourRow (row .first) (row .units) (row .model) (row .a ∷ row .b ∷ row .c ∷ row .d ∷ []) (row .kind)) ⌝ }
 {
     match Channels::from_tag(row.model, row.a, row.b, row.c, row.d) {
         Made::Is(colour) => Record::Colour {
@@ -180,14 +182,14 @@ fn found(file: &[u8], n: usize, i: usize) -> Record
     let end = block_end(file, at);
     let mut table = [0; WIDTH];
     put_row(file, at, end, &mut table, 0);
-    let row = ase_records::record_at(&table, 0);
+    let row = ase_write_judge::record_at(&table, 0);
     let block = row.block;
     match block {
-        START => Record::Group {
+        START => Record::GroupStart {
             place: fields::wide(row.first),
             units: row.units,
         },
-        STOP => Record::Close,
+        STOP => Record::GroupEnd,
         _ => coloured(row),
     }
 }
@@ -235,11 +237,11 @@ pub fn name_at(file: &[u8], i: usize) -> &[u8]
     ensures { λ r. ⌜ now r ≡ nameBytesIn (now (file .entry)) (recordAt i (ase (now (file .entry)))) ⌝ }
 {
     match record_at(file, i) {
-        Record::Group { place, units } => {
+        Record::GroupStart { place, units } => {
             let end = place + 2 * (units as usize);
             &file[place..end]
         }
-        Record::Close => &file[..0],
+        Record::GroupEnd => &file[..0],
         Record::Colour {
             place,
             units,

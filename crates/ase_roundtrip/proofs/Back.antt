@@ -14,17 +14,17 @@ use Rattle.ase.specs.Reading.{Entry, blockOf, ase}
 use Rattle.ase.specs.Faults.{paletteFault}
 use Rattle.ase.proofs.RoundTrip.{accepted-allowed, allowed-written}
 use Rattle.algebra.proofs.Writing.{Wrote, writes-inv}
-use Rattle.ase.specs.Row.{Given}
-use Rattle.ase_records.specs.Writing.{size, fault, needed, written}
+use Rattle.ase.specs.Row.{RecordRow}
+use Rattle.ase_write_judge.specs.Writing.{size, fault, needed, written}
 use Rattle.ase_roundtrip.specs.Tie.{made, tabled}
 use Rattle.ase_roundtrip.proofs.Fitting.{length-made, fault-same}
 use Rattle.ase_roundtrip.proofs.Records.{given-blocks, given-fit}
 
 -- what is known where a writer wrote n bytes
-abbrev pub Written : (text : List ℕ) (gs : List Given) (out : List ℕ) (n : ℕ) (out′ : List ℕ) → Type 0
+abbrev pub Written : (text : List ℕ) (gs : List RecordRow) (out : List ℕ) (n : ℕ) (out′ : List ℕ) → Type 0
 Written text gs out n out′ = Wrote (fault text gs) (size gs) (made text gs) out n out′
 
-pub written-inv : (text : List ℕ) (gs : List Given) (out : List ℕ) {n : ℕ} {out′ : List ℕ} → written text gs out ≡ (bytes n, out′) → Written text gs out n out′
+pub written-inv : (text : List ℕ) (gs : List RecordRow) (out : List ℕ) {n : ℕ} {out′ : List ℕ} → written text gs out ≡ (bytes n, out′) → Written text gs out n out′
 written-inv text gs out e = writes-inv (fault text gs) (size gs) (made text gs) out e
 
 -- a file of the grammar is within the limit

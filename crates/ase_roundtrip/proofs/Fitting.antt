@@ -20,19 +20,19 @@ use Rattle.algebra.proofs.Laws.{body-in}
 use Rattle.algebra.proofs.Tells.{first-inv}
 use Rattle.algebra.proofs.Chain.{in-map, in-both, all-in, in-all, in-inv, state-map}
 use Rattle.colour.specs.Models.{channelsOf}
-use Rattle.ase.specs.Grammar.{Block, start, stop, colour, other, payload, blockBytes, Unknown}
-use Rattle.ase.specs.Reading.{standing}
+use Rattle.ase.specs.Grammar.{Block, groupStart, groupEnd, colour, other, payload, blockBytes, Unknown}
+use Rattle.ase.specs.Reading.{openAfter}
 use Rattle.ase.specs.Faults.{paletteFault, NameFits, BlockFits}
 use Rattle.ase.specs.Faults as a
 use Rattle.ase.proofs.Tables.{no-start, no-stop, no-colour, known-model, model-small}
 use Rattle.ase.proofs.Laws.{length-block}
 use Rattle.ase.proofs.Blocks.{length-file}
-use Rattle.ase.specs.Row.{Given, width, taken}
-use Rattle.ase_records.specs.Writing.{unitsIn, channelsIn, blockIn, sizeIn, sizes, size, foundIn, blockFault, fault}
-use Rattle.ase_records.specs.Parts.{nameFault, shadeFault, standingIn}
+use Rattle.ase.specs.Row.{RecordRow, width, taken}
+use Rattle.ase_write_judge.specs.Writing.{unitsIn, channelsIn, blockIn, sizeIn, sizes, size, foundIn, blockFault, fault}
+use Rattle.ase_write_judge.specs.scaffold.Parts.{nameFault, afterNameFault, standingIn}
 use Rattle.ase_roundtrip.specs.Tie.{Words, made, NameFitting, ColourFitting, Fitting, a-start, an-end, a-colour, another}
 use Rattle.algebra.proofs.Firsts.{test-holds, all-image}
-use Rattle.ase_records.proofs.Judging.{channels-few, name-lies, shade-fine, Sound, is-start, is-stop, is-colour, sound}
+use Rattle.ase_write_judge.proofs.Judging.{channels-few, name-lies, colour-content-fine, Sound, is-start, is-stop, is-colour, sound}
 
 -- ---- values of a list
 
@@ -48,11 +48,11 @@ unfolding faultsIn
 faults-same next view f g d i [] h = refl
 faults-same next view f g d i (a ∷ l) h = ap₂ (λ (x y : ℕ). firstOf x y) (h .0 d) (faults-same next view f g (next d (view a)) (i + 1) l (h .1))
 
-pub channels-all : (g : Given) → length (g .channels) ≡ 4 → length (channelsIn g) ≡ channelsOf (g .model)
+pub channels-all : (g : RecordRow) → length (g .channels) ≡ 4 → length (channelsIn g) ≡ channelsOf (g .model)
 channels-all g four = length-take-le (channelsOf (g .model)) (g .channels) (omega (arith, channels-few (g .model)))
 
 -- a record of a run of words: its channels are four, and fit 32 bits
-abbrev pub Worded : Given → Type 0
+abbrev pub Worded : RecordRow → Type 0
 Worded g = (length (g .channels) ≡ 4) × All (λ i b. b < 256 ^ 4) 0 (g .channels)
 
 pub givens-words : (run : List ℕ) → Words run → (n k i : ℕ) → All (λ k g. Worded g) i (rows width taken run n k)
@@ -64,19 +64,19 @@ givens-words run h (suc n) k i =
 
 -- ---- a record of an unknown type
 
-unknown-in : (names : List ℕ) (g : Given) → Unknown (g .block) → blockIn names g ≡ other (g .block)
+unknown-in : (names : List ℕ) (g : RecordRow) → Unknown (g .block) → blockIn names g ≡ other (g .block)
 unknown-in names g u = simp (no-start (g .block) u, no-stop (g .block) u, no-colour (g .block) u)
 
-unknown-size : (g : Given) → Unknown (g .block) → sizeIn g ≡ 6
+unknown-size : (g : RecordRow) → Unknown (g .block) → sizeIn g ≡ 6
 unknown-size g u = simp (no-start (g .block) u, no-stop (g .block) u, no-colour (g .block) u)
 
 -- ---- a record that fits is as long as its block, and has its block's faults
 
 module _ (names : List ℕ) where
-  length-name : (g : Given) → length (nameBytes 2 (unitsIn names g)) ≡ 4 + 2 * g .units
+  length-name : (g : RecordRow) → length (nameBytes 2 (unitsIn names g)) ≡ 4 + 2 * g .units
   length-name g = omega (arith, length-nameBytes 2 (unitsIn names g), length-nums 2 (g .units) names (g .first))
 
-  length-colour : (g : Given) → length (g .channels) ≡ 4 → length (payload (colour (unitsIn names g) (g .model) (channelsIn g) (g .type))) ≡ 6 + (4 + 2 * g .units) + 4 * channelsOf (g .model)
+  length-colour : (g : RecordRow) → length (g .channels) ≡ 4 → length (payload (colour (unitsIn names g) (g .model) (channelsIn g) (g .type))) ≡ 6 + (4 + 2 * g .units) + 4 * channelsOf (g .model)
   length-colour g four =
       let n : List ℕ = nameBytes 2 (unitsIn names g) in
       let t : List ℕ = be 4 (g .model) in
@@ -84,22 +84,22 @@ module _ (names : List ℕ) where
       let k : List ℕ = be 2 (g .type) in
       omega (arith, length-append n (t ++ (c ++ k)), length-append t (c ++ k), length-append c k, length-name g, length-be 4 (g .model), length-bes 4 (channelsIn g), length-be 2 (g .type), channels-all g four)
 
-  size-is : (g : Given) → Fitting names g → length (blockBytes (blockIn names g)) ≡ sizeIn g
-  size-is g (a-start e n) = rw e (omega (arith, length-block (start (unitsIn names g)), length-name g))
-  size-is g (an-end e) = rw e (length-block stop)
+  size-is : (g : RecordRow) → Fitting names g → length (blockBytes (blockIn names g)) ≡ sizeIn g
+  size-is g (a-start e n) = rw e (omega (arith, length-block (groupStart (unitsIn names g)), length-name g))
+  size-is g (an-end e) = rw e (length-block groupEnd)
   size-is g (another u) = rw (unknown-in names g u) (rw (unknown-size g u) (length-block (other (g .block))))
   size-is g (a-colour e n c) = rw e (omega (arith, length-block (colour (unitsIn names g) (g .model) (channelsIn g) (g .type)), length-colour g (c .four)))
 
-  sizes-are : (i : ℕ) (gs : List Given) → All (λ k g. Fitting names g) i gs → length (joined blockBytes (map (blockIn names) gs)) ≡ sizes gs
+  sizes-are : (i : ℕ) (gs : List RecordRow) → All (λ k g. Fitting names g) i gs → length (joined blockBytes (map (blockIn names) gs)) ≡ sizes gs
   unfolding joined sizes
   sizes-are i [] h = refl
   sizes-are i (g ∷ gs) h = omega (arith, length-append (blockBytes (blockIn names g)) (joined blockBytes (map (blockIn names) gs)), size-is g (h .0), sizes-are (i + 1) gs (h .1))
 
   -- what is made is as long as the writer says
-  pub length-made : (gs : List Given) → All (λ k g. Fitting names g) 0 gs → length (made names gs) ≡ size gs
+  pub length-made : (gs : List RecordRow) → All (λ k g. Fitting names g) 0 gs → length (made names gs) ≡ size gs
   length-made gs h = omega (arith, length-file (map (blockIn names) gs), sizes-are 0 gs h)
 
-  module _ (g : Given) (f : NameFitting names g) where
+  module _ (g : RecordRow) (f : NameFitting names g) where
     found-none : foundIn names g ≡ 0
     found-none = simp (le-leb (g .units + 1) 65535 (omega (arith, f .counted))) (ap numberOf (body-in 2 names (g .first) (g .units) (elim (ℕ-discrete (g .units) 0) [
       | yes z ↦ omega arith
@@ -110,14 +110,14 @@ module _ (names : List ℕ) where
     name-fits bytes = record { counted = omega (arith, f .counted, length-nums 2 (g .units) names (g .first)); units = nums-lt 2 names bytes (g .units) (g .first) 0 }
 
   -- its name is found, unless it has none
-  block-same : (g : Given) → Fitting names g → (d : ℕ) → blockFault names d g ≡ a.blockFault 0 d (blockIn names g)
+  block-same : (g : RecordRow) → Fitting names g → (d : ℕ) → blockFault names d g ≡ a.blockFault 0 d (blockIn names g)
   unfolding a.blockFault
   block-same g (a-start e n) d = ap (λ (x : ℕ). a.blockFault x d (blockIn names g)) (found-none g n)
   block-same g (an-end e) d = rw e
   block-same g (another u) d = rw (unknown-in names g u)
   block-same g (a-colour e n c) d = ap (λ (x : ℕ). a.blockFault x d (blockIn names g)) (found-none g n)
 
-  block-fits : Bytes names → (g : Given) → Fitting names g → BlockFits (blockIn names g)
+  block-fits : Bytes names → (g : RecordRow) → Fitting names g → BlockFits (blockIn names g)
   block-fits bytes g (a-start e n) = rw e (name-fits g n bytes)
   block-fits bytes g (an-end e) = rw e tt
   block-fits bytes g (another u) = rw (unknown-in names g u) u
@@ -129,7 +129,7 @@ module _ (names : List ℕ) where
     type = omega (arith, c .type-small);
   })
 
-  module _ (gs : List Given) (fit : All (λ k g. Fitting names g) 0 gs) where
+  module _ (gs : List RecordRow) (fit : All (λ k g. Fitting names g) 0 gs) where
     pub all-fit : Bytes names → All (λ k b. BlockFits b) 0 (map (blockIn names) gs)
     all-fit bytes = all-image (blockIn names) (λ k b. BlockFits b) 0 gs (all-map (λ k g. Fitting names g) (λ k g. BlockFits (blockIn names g)) (λ k g f. block-fits bytes g f) 0 gs fit)
 
@@ -138,37 +138,37 @@ module _ (names : List ℕ) where
     unfolding fault a.blocksFault
     fault-same =
         let bs : List Block = map (blockIn names) gs in
-        let fs : faultsIn (standingIn names) (blockFault names) 0 gs ≡ faultsIn standing (a.blockFault 0) 0 bs =
-        faults-same standing (blockIn names) (blockFault names) (a.blockFault 0) 0 0 gs
+        let fs : faultsIn (standingIn names) (blockFault names) 0 gs ≡ faultsIn openAfter (a.blockFault 0) 0 bs =
+        faults-same openAfter (blockIn names) (blockFault names) (a.blockFault 0) 0 0 gs
         (all-map (λ k g. Fitting names g) (λ k g. (d : ℕ) → blockFault names d g ≡ a.blockFault 0 d (blockIn names g)) (λ k g f. block-same g f) 0 gs fit) in
-        let st : stateAfter (standingIn names) 0 gs ≡ stateAfter standing 0 bs = state-map (standingIn names) standing (blockIn names) (λ d g. refl) 0 gs in
+        let st : stateAfter (standingIn names) 0 gs ≡ stateAfter openAfter 0 bs = state-map (standingIn names) openAfter (blockIn names) (λ d g. refl) 0 gs in
         ap₂ (λ (m n : ℕ). pick (leb m limit) n 1) (sym (length-made gs fit)) (ap₂ (λ (m n : ℕ). firstOf m (pick (eqb n 0) 0 9)) fs st)
 
   -- ---- records without a fault fit
 
-  lies-fits : (g : Given) → nameFault names g ≡ 0 → NameFitting names g
+  lies-fits : (g : RecordRow) → nameFault names g ≡ 0 → NameFitting names g
   lies-fits g e = let h = name-lies names g e in record { counted = omega (arith, h .0); inside = λ k. omega (arith, h .1) }
 
-  colour-fits : (g : Given) → Worded g → shadeFault g ≡ 0 → ColourFitting g
+  colour-fits : (g : RecordRow) → Worded g → afterNameFault g ≡ 0 → ColourFitting g
   colour-fits g w e =
-      let h = shade-fine g e in record {
+      let h = colour-content-fine g e in record {
         model-small = model-small (known-model (g .model) (h .0));
         four = w .0;
         each-small = all-take (λ i b. b < 256 ^ 4) (channelsOf (g .model)) 0 (g .channels) (w .1);
         type-small = omega (arith, h .1);
       }
 
-  faultless-fits : (d : ℕ) (g : Given) → Worded g → Sound names d g → Fitting names g
+  faultless-fits : (d : ℕ) (g : RecordRow) → Worded g → Sound names d g → Fitting names g
   faultless-fits d g w (is-start e k n) = a-start e (lies-fits g n)
   faultless-fits d g w (is-stop e k) = an-end e
   faultless-fits d g w (is-colour e n s) = a-colour e (lies-fits g n) (colour-fits g w s)
 
-  pub faultless-fit : (gs : List Given) → All (λ k g. Worded g) 0 gs → fault names gs ≡ 0 → All (λ k g. Fitting names g) 0 gs
+  pub faultless-fit : (gs : List RecordRow) → All (λ k g. Worded g) 0 gs → fault names gs ≡ 0 → All (λ k g. Fitting names g) 0 gs
   unfolding fault a.blocksFault
   faultless-fit gs w e =
       let x = test-holds (leb (size gs) limit) _ 1 (omega arith) e in
       let y = first-inv (faultsIn (standingIn names) (blockFault names) 0 gs) (pick (eqb (stateAfter (standingIn names) 0 gs) 0) 0 9) (x .1) in
-      let P : ℕ → Given → Type 0 = λ d g. Worded g × (blockFault names d g ≡ 0) in
+      let P : ℕ → RecordRow → Type 0 = λ d g. Worded g × (blockFault names d g ≡ 0) in
       in-all (standingIn names) (Fitting names) 0 0 gs
       (in-map (standingIn names) P (λ d g. Fitting names g) (λ d g h. faultless-fits d g (h .0) (sound names d g (h .1))) 0 gs
       (in-both (standingIn names) (λ d g. Worded g) (λ d g. blockFault names d g ≡ 0) 0 gs (all-in (standingIn names) Worded 0 0 gs w) (in-inv (standingIn names) (blockFault names) 0 gs (y .0))))

@@ -18,8 +18,8 @@ use Rattle.algebra.proofs.Chain.{chain-none, chain-inv}
 use Rattle.colour.specs.Models.{channelsOf}
 use Rattle.algebra.proofs.Rows.{all-fit}
 use Rattle.algebra.proofs.Table.{whole-back}
-use Rattle.ase.specs.Grammar.{Block, start, colour, Allowed, File, file}
-use Rattle.ase.specs.Reading.{Entry, started, stopped, coloured, blockOf, group, model, channel, type, shade, within, deepest, content, block, standingAfter, heading, blocks, palette, ase}
+use Rattle.ase.specs.Grammar.{Block, groupStart, colour, Allowed, File, file}
+use Rattle.ase.specs.Reading.{Entry, groupStartRead, groupEndRead, colourRead, blockOf, groupContent, model, channel, type, colourContent, within, deepest, content, block, openAfterEntry, heading, blocks, palette, ase}
 use Rattle.ase.specs.Faults.{BlockFits}
 use Rattle.ase.proofs.Payload.{inside-inv}
 use Rattle.ase.proofs.Laws.{block-inv}
@@ -28,10 +28,10 @@ use Rattle.ase.proofs.RoundTrip.{accepted-allowed}
 use Rattle.ase.specs.Row.{width, fourOf, taken, givenOf}
 use Rattle.ase.proofs.Row.{given-back}
 use Rattle.ase_read.specs.Table.{row}
-use Rattle.ase_records.specs.Writing.{blockIn}
+use Rattle.ase_write_judge.specs.Writing.{blockIn}
 use Rattle.ase_roundtrip.specs.Tie.{tabled, Fitting, a-start, an-end, a-colour}
 use Rattle.algebra.proofs.Firsts.{all-image, all-source}
-use Rattle.ase_records.proofs.Judging.{channels-few}
+use Rattle.ase_write_judge.proofs.Judging.{channels-few}
 
 -- ---- a run made of rows gives the records
 
@@ -45,9 +45,9 @@ pub record NameIn (s : List ℕ) (nm : Name) : Type 0 where
   pub inside : nm .first + 2 * length (nm .units) ≤ length s
 
 abbrev pub Lies : List ℕ → Entry → Type 0
-Lies s (started nm) = NameIn s nm
-Lies s stopped = Unit
-Lies s (coloured nm t bs k) = NameIn s nm
+Lies s (groupStartRead nm) = NameIn s nm
+Lies s groupEndRead = Unit
+Lies s (colourRead nm t bs k) = NameIn s nm
 
 name-lies : (w : ℕ) (s : List ℕ) (at : ℕ) (nm : Name) (q : ℕ) → name w s at ≡ ok nm q → NameIn s nm
 name-lies w s at nm q e =
@@ -73,20 +73,20 @@ module _ (s : List ℕ) (end : ℕ) (room : end ≤ length s) where
       }
 
   lies-uncut : (e : Entry) → Lies (take end s) e → Lies s e
-  lies-uncut (started nm) l = name-uncut nm l
-  lies-uncut stopped l = tt
-  lies-uncut (coloured nm t bs k) l = name-uncut nm l
+  lies-uncut (groupStartRead nm) l = name-uncut nm l
+  lies-uncut groupEndRead l = tt
+  lies-uncut (colourRead nm t bs k) l = name-uncut nm l
 
 module _ (s : List ℕ) where
-  group-lies : (at : ℕ) (e : Entry) (q : ℕ) → group s at ≡ ok e q → Lies s e
-  unfolding group
+  group-lies : (at : ℕ) (e : Entry) (q : ℕ) → groupContent s at ≡ ok e q → Lies s e
+  unfolding groupContent
   group-lies at e q h =
       let t = then-inv (name 2 s at) _ h in
       subst (λ (x : Entry). Lies s x) (ok-value (t .3)) (name-lies 2 s at (t .0) (t .1) (t .2))
 
-  shade-lies : (at : ℕ) (e : Entry) (q : ℕ) → shade s at ≡ ok e q → Lies s e
-  unfolding shade
-  shade-lies at e q h =
+  colour-content-lies : (at : ℕ) (e : Entry) (q : ℕ) → colourContent s at ≡ ok e q → Lies s e
+  unfolding colourContent
+  colour-content-lies at e q h =
       let a = then-inv (name 2 s at) _ h in
       let b = then-inv (judged 4 model s (a .1)) _ (a .3) in
       let c = then-inv (each (channelsOf (b .0)) 0 (λ i. judged 4 (channel (b .0))) s (b .1)) _ (b .3) in
@@ -98,28 +98,28 @@ module _ (s : List ℕ) (d n at : ℕ) (room : at + 6 + n ≤ length s) (e : Ent
   unfolding content
   content-lies t h = go (eqb t 0xC001) (eqb t 0xC002) h
     where
-      go : (a b : Bool) → pick a (rule (unless (ltb d deepest) 10) at (within group n s at)) (pick b (rule (unless (eqb n 0) 13) (at + 2) (rule (unless (ltb 0 d) 9) at (ok stopped (at + 6)))) (within shade n s at)) ≡ ok e q → Lies s e
+      go : (a b : Bool) → pick a (rule (unless (ltb d deepest) 10) at (within groupContent n s at)) (pick b (rule (unless (eqb n 0) 13) (at + 2) (rule (unless (ltb 0 d) 9) at (ok groupEndRead (at + 6)))) (within colourContent n s at)) ≡ ok e q → Lies s e
       go true b w =
-          let r = rule-inv (unless (ltb d 16) 10) at (within group n s at) w in
-          let i = inside-inv (at + 2) (at + 6 + n) (group (take (at + 6 + n) s) (at + 6)) (r .1) in
+          let r = rule-inv (unless (ltb d 16) 10) at (within groupContent n s at) w in
+          let i = inside-inv (at + 2) (at + 6 + n) (groupContent (take (at + 6 + n) s) (at + 6)) (r .1) in
           lies-uncut s (at + 6 + n) room e (group-lies (take (at + 6 + n) s) (at + 6) e q (i .0))
       go false true w =
-          let i = rule-inv (unless (eqb n 0) 13) (at + 2) (rule (unless (ltb 0 d) 9) at (ok stopped (at + 6))) w in
-          let j = rule-inv (unless (ltb 0 d) 9) at (ok stopped (at + 6)) (i .1) in
+          let i = rule-inv (unless (eqb n 0) 13) (at + 2) (rule (unless (ltb 0 d) 9) at (ok groupEndRead (at + 6))) w in
+          let j = rule-inv (unless (ltb 0 d) 9) at (ok groupEndRead (at + 6)) (i .1) in
           subst (λ (x : Entry). Lies s x) (ok-value (j .1)) tt
       go false false w =
-          let i = inside-inv (at + 2) (at + 6 + n) (shade (take (at + 6 + n) s) (at + 6)) w in
-          lies-uncut s (at + 6 + n) room e (shade-lies (take (at + 6 + n) s) (at + 6) e q (i .0))
+          let i = inside-inv (at + 2) (at + 6 + n) (colourContent (take (at + 6 + n) s) (at + 6)) w in
+          lies-uncut s (at + 6 + n) room e (colour-content-lies (take (at + 6 + n) s) (at + 6) e q (i .0))
 
 module _ (s : List ℕ) where
   block-lies : (d at : ℕ) (e : Entry) (q : ℕ) → block d s at ≡ ok e q → Lies s e
   block-lies d at e q h = let i = block-inv s d at h in content-lies s d _ at (i .0) e q _ (i .2)
 
-  chain-lies : (n d at i : ℕ) (es : List Entry) (q : ℕ) → chain standingAfter block n d s at ≡ ok es q → All (λ k e. Lies s e) i es
-  chain-lies zero d at i es q h = subst (λ (l : List Entry). All (λ k e. Lies s e) i l) (chain-none standingAfter block s d at h .0) tt
+  chain-lies : (n d at i : ℕ) (es : List Entry) (q : ℕ) → chain openAfterEntry block n d s at ≡ ok es q → All (λ k e. Lies s e) i es
+  chain-lies zero d at i es q h = subst (λ (l : List Entry). All (λ k e. Lies s e) i l) (chain-none openAfterEntry block s d at h .0) tt
   chain-lies (suc n) d at i es q h =
-      let t = chain-inv standingAfter block s n d at h in
-      subst (λ (l : List Entry). All (λ k e. Lies s e) i l) (t .5) (block-lies d at (t .0) (t .1) (t .3), chain-lies n (standingAfter d (t .0)) (t .1) (i + 1) (t .2) q (t .4))
+      let t = chain-inv openAfterEntry block s n d at h in
+      subst (λ (l : List Entry). All (λ k e. Lies s e) i l) (t .5) (block-lies d at (t .0) (t .1) (t .3), chain-lies n (openAfterEntry d (t .0)) (t .1) (i + 1) (t .2) q (t .4))
 
   pub all-lie : {es : List Entry} {q : ℕ} → ase s ≡ ok es q → All (λ k e. Lies s e) 0 es
   unfolding ase palette blocks
@@ -127,8 +127,8 @@ module _ (s : List ℕ) where
       let p = pick-inv (leb (length s) limit) (palette s 0) 1 0 0 0 e in
       let t = then-inv (heading s 0) _ (p .1) in
       let u = then-inv (blocks (t .0) s (t .1)) _ (t .3) in
-      let v = then-inv (chain standingAfter block (t .0) 0 s (t .1)) _ (u .2) in
-      let r = rule-inv (unless (eqb (stateAfter standingAfter 0 (v .0)) 0) 9) (v .1) (ok (v .0) (v .1)) (v .3) in
+      let v = then-inv (chain openAfterEntry block (t .0) 0 s (t .1)) _ (u .2) in
+      let r = rule-inv (unless (eqb (stateAfter openAfterEntry 0 (v .0)) 0) 9) (v .1) (ok (v .0) (v .1)) (v .3) in
       let z = ended-inv (u .0) s (u .1) (u .3) in
       subst (λ (l : List Entry). All (λ k e. Lies s e) 0 l) (ok-value (r .1) ∙ z .1) (chain-lies (t .0) 0 (t .1) 0 (v .0) (v .1) (v .2))
 
@@ -147,18 +147,18 @@ used-back : (t : ℕ) (bs : List ℕ) → length bs ≡ channelsOf t → take (c
 used-back t bs l = ap (λ (n : ℕ). take n (fourOf bs)) (sym l) ∙ four-take bs (omega (arith, channels-few t))
 
 block-back : (s : List ℕ) (e : Entry) → Lies s e → BlockFits (blockOf e) → blockIn s (givenOf e) ≡ blockOf e
-block-back s (started nm) l f = ap start (l .are)
-block-back s stopped l f = refl
-block-back s (coloured nm t bs k) l f = ap₂ (λ (us cs : List ℕ). colour us t cs k) (l .are) (used-back t bs (f .all))
+block-back s (groupStartRead nm) l f = ap groupStart (l .are)
+block-back s groupEndRead l f = refl
+block-back s (colourRead nm t bs k) l f = ap₂ (λ (us cs : List ℕ). colour us t cs k) (l .are) (used-back t bs (f .all))
 
 blocks-back : (s : List ℕ) (i : ℕ) (es : List Entry) → All (λ k e. Lies s e × BlockFits (blockOf e)) i es → map (blockIn s) (map givenOf es) ≡ map blockOf es
 blocks-back s i [] h = refl
 blocks-back s i (e ∷ es) h = ap₂ (λ (b : Block) (bs : List Block). b ∷ bs) (block-back s e (h .0 .0) (h .0 .1)) (blocks-back s (i + 1) es (h .1))
 
 taken-fits : (s : List ℕ) (e : Entry) → Lies s e → BlockFits (blockOf e) → Fitting s (givenOf e)
-taken-fits s (started nm) l f = a-start refl (record { counted = omega (arith, f .counted); inside = λ h. l .inside })
-taken-fits s stopped l f = an-end refl
-taken-fits s (coloured nm t bs k) l f = a-colour refl (record { counted = omega (arith, f .name .counted); inside = λ h. l .inside }) (record {
+taken-fits s (groupStartRead nm) l f = a-start refl (record { counted = omega (arith, f .counted); inside = λ h. l .inside })
+taken-fits s groupEndRead l f = an-end refl
+taken-fits s (colourRead nm t bs k) l f = a-colour refl (record { counted = omega (arith, f .name .counted); inside = λ h. l .inside }) (record {
   model-small = f .model;
   four = refl;
   each-small = subst (λ (cs : List ℕ). All (λ i b. b < 256 ^ 4) 0 cs) (sym (used-back t bs (f .all))) (f .channels);

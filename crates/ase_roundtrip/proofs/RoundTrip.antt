@@ -16,8 +16,8 @@ use Rattle.ase.specs.Reading.{Entry, ase}
 use Rattle.ase.specs.Faults.{paletteFault}
 use Rattle.ase.proofs.RoundTrip.{allowed-reads, written-number, written-allowed}
 use Rattle.ase_read.specs.Table.{row}
-use Rattle.ase.specs.Row.{Given, width, taken}
-use Rattle.ase_records.specs.Writing.{blockIn, sizeIn, size, blockFault, fault, needed, written}
+use Rattle.ase.specs.Row.{RecordRow, width, taken}
+use Rattle.ase_write_judge.specs.Writing.{blockIn, sizeIn, size, blockFault, fault, needed, written}
 use Rattle.ase_roundtrip.specs.Tie.{Words, Holds, made, tabled, Fitting, Alike, AllAlike}
 use Rattle.ase_roundtrip.proofs.Fitting.{length-made, all-fit, fault-same, faultless-fit, givens-words}
 use Rattle.ase_roundtrip.proofs.Records.{given-rows}
@@ -31,7 +31,7 @@ use Rattle.algebra.proofs.Firsts.{test-holds}
 pub written-reads : (text run : List ℕ) → Bytes text → Words run → fault text (whole width taken run) ≡ 0
     → Holds (made text (whole width taken run)) (map (blockIn text) (whole width taken run)) × (length (made text (whole width taken run)) ≡ size (whole width taken run))
 written-reads text run b w e =
-    let gs : List Given = whole width taken run in
+    let gs : List RecordRow = whole width taken run in
     let bs : List Block = map (blockIn text) gs in
     let fit = faultless-fit text gs (givens-words run w _ 0 0) e in
     let x = test-holds (leb (length (fileBytes bs)) limit) (paletteFault bs) 1 (omega arith) (sym (fault-same text gs fit) ∙ e) in
@@ -67,17 +67,17 @@ read-needs s b e = needs-all s b e
 -- ---- refusals
 
 -- of records that fit their fields the writer's refusal, 11 aside, has the number that the reader gives for the bytes made of them; 0 is none
-pub refusals-agree : (text : List ℕ) → Bytes text → (gs : List Given) → All (λ k g. Fitting text g) 0 gs → fault text gs ≡ numberOf (ase (made text gs))
+pub refusals-agree : (text : List ℕ) → Bytes text → (gs : List RecordRow) → All (λ k g. Fitting text g) 0 gs → fault text gs ≡ numberOf (ase (made text gs))
 refusals-agree text b gs fit = fault-same text gs fit ∙ sym (written-number (map (blockIn text) gs) (all-fit text gs fit b))
 
 -- ---- spare places
 
 -- records that differ only in spare places are the same block, of the same fault and length
-pub spare-ignored : (text : List ℕ) (g h : Given) → Alike g h
+pub spare-ignored : (text : List ℕ) (g h : RecordRow) → Alike g h
     → (blockIn text g ≡ blockIn text h) × ((d : ℕ) → blockFault text d g ≡ blockFault text d h) × (sizeIn g ≡ sizeIn h)
 spare-ignored text g h x = (block-alike text g h x, λ d. fault-alike text d g h x, size-alike g h x)
 
 -- and so they are written the same
-pub spare-writes : (text : List ℕ) (gs hs : List Given) → AllAlike gs hs
+pub spare-writes : (text : List ℕ) (gs hs : List RecordRow) → AllAlike gs hs
     → (needed text gs ≡ needed text hs) × ((out : List ℕ) → written text gs out ≡ written text hs out)
 spare-writes text gs hs x = (needed-alike text gs hs x, written-alike text gs hs x)

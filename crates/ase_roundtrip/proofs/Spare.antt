@@ -8,34 +8,34 @@ use Rattle.algebra.specs.Reader.{pick, body, numberOf, stateAfter, limit}
 use Rattle.algebra.specs.Faults.{firstOf, faultsIn}
 use Rattle.algebra.specs.Writing.{needs, writes}
 use Rattle.colour.specs.Models.{channelsOf}
-use Rattle.ase.specs.Grammar.{Block, start, stop, colour, other, fileBytes}
-use Rattle.ase.specs.Reading.{standing}
+use Rattle.ase.specs.Grammar.{Block, groupStart, groupEnd, colour, other, fileBytes}
+use Rattle.ase.specs.Reading.{openAfter}
 use Rattle.ase.specs.Faults as f
-use Rattle.ase.specs.Row.{Given}
-use Rattle.ase_records.specs.Writing.{unitsIn, blockIn, sizeIn, sizes, foundIn, blockFault, fault, needed, written}
-use Rattle.ase_records.specs.Parts.{standingIn}
+use Rattle.ase.specs.Row.{RecordRow}
+use Rattle.ase_write_judge.specs.Writing.{unitsIn, blockIn, sizeIn, sizes, foundIn, blockFault, fault, needed, written}
+use Rattle.ase_write_judge.specs.scaffold.Parts.{standingIn}
 use Rattle.ase_roundtrip.specs.Tie.{Alike, starts, ends, colours, AllAlike}
 
 module _ (names : List ℕ) where
-  found-alike : (g h : Given) → g .first ≡ h .first → g .units ≡ h .units → foundIn names g ≡ foundIn names h
+  found-alike : (g h : RecordRow) → g .first ≡ h .first → g .units ≡ h .units → foundIn names g ≡ foundIn names h
   found-alike g h a b = ap₂ (λ (p n : ℕ). pick (leb (n + 1) 65535) (numberOf (body 2 n names p)) 5) a b
 
-  units-alike : (g h : Given) → g .first ≡ h .first → g .units ≡ h .units → unitsIn names g ≡ unitsIn names h
+  units-alike : (g h : RecordRow) → g .first ≡ h .first → g .units ≡ h .units → unitsIn names g ≡ unitsIn names h
   units-alike g h a b = ap₂ (λ (p n : ℕ). nums 2 n names p) a b
 
-  pub block-alike : (g h : Given) → Alike g h → blockIn names g ≡ blockIn names h
-  block-alike g h (starts x y a b) = rw (x, y) (ap start (units-alike g h a b))
+  pub block-alike : (g h : RecordRow) → Alike g h → blockIn names g ≡ blockIn names h
+  block-alike g h (starts x y a b) = rw (x, y) (ap groupStart (units-alike g h a b))
   block-alike g h (ends x y) = rw (x, y)
   block-alike g h (colours x a b m c k) =
-      λ i. pick (eqb (x i) 0xC001) (start (units-alike g h a b i)) (pick (eqb (x i) 0xC002) stop (pick (eqb (x i) 0x0001) (colour (units-alike g h a b i) (m i) (c i) (k i)) (other (x i))))
+      λ i. pick (eqb (x i) 0xC001) (groupStart (units-alike g h a b i)) (pick (eqb (x i) 0xC002) groupEnd (pick (eqb (x i) 0x0001) (colour (units-alike g h a b i) (m i) (c i) (k i)) (other (x i))))
 
-  pub fault-alike : (d : ℕ) (g h : Given) → Alike g h → blockFault names d g ≡ blockFault names d h
+  pub fault-alike : (d : ℕ) (g h : RecordRow) → Alike g h → blockFault names d g ≡ blockFault names d h
   unfolding f.blockFault
   fault-alike d g h (starts x y a b) = λ i. f.blockFault (found-alike g h a b i) d (block-alike g h (starts x y a b) i)
   fault-alike d g h (ends x y) = rw (x, y)
   fault-alike d g h (colours x a b m c k) = λ i. f.blockFault (found-alike g h a b i) d (block-alike g h (colours x a b m c k) i)
 
-pub size-alike : (g h : Given) → Alike g h → sizeIn g ≡ sizeIn h
+pub size-alike : (g h : RecordRow) → Alike g h → sizeIn g ≡ sizeIn h
 size-alike g h (starts x y a b) = rw (x, y) (ap (λ (n : ℕ). 6 + (4 + 2 * n)) b)
 size-alike g h (ends x y) = rw (x, y)
 size-alike g h (colours x a b m c k) = λ i.
@@ -43,7 +43,7 @@ size-alike g h (colours x a b m c k) = λ i.
 
 -- ---- all of them
 
-sizes-alike : (gs hs : List Given) → AllAlike gs hs → sizes gs ≡ sizes hs
+sizes-alike : (gs hs : List RecordRow) → AllAlike gs hs → sizes gs ≡ sizes hs
 unfolding sizes
 sizes-alike [] [] x = refl
 sizes-alike [] (h ∷ hs) x = absurd x
@@ -51,29 +51,29 @@ sizes-alike (g ∷ gs) [] x = absurd x
 sizes-alike (g ∷ gs) (h ∷ hs) x = ap₂ (λ (m n : ℕ). m + n) (size-alike g h (x .0)) (sizes-alike gs hs (x .1))
 
 module _ (names : List ℕ) where
-  pub blocks-alike : (gs hs : List Given) → AllAlike gs hs → map (blockIn names) gs ≡ map (blockIn names) hs
+  pub blocks-alike : (gs hs : List RecordRow) → AllAlike gs hs → map (blockIn names) gs ≡ map (blockIn names) hs
   blocks-alike [] [] x = refl
   blocks-alike [] (h ∷ hs) x = absurd x
   blocks-alike (g ∷ gs) [] x = absurd x
   blocks-alike (g ∷ gs) (h ∷ hs) x = ap₂ (λ (b : Block) (bs : List Block). b ∷ bs) (block-alike names g h (x .0)) (blocks-alike gs hs (x .1))
 
-  faults-alike : (d : ℕ) (gs hs : List Given) → AllAlike gs hs → faultsIn (standingIn names) (blockFault names) d gs ≡ faultsIn (standingIn names) (blockFault names) d hs
+  faults-alike : (d : ℕ) (gs hs : List RecordRow) → AllAlike gs hs → faultsIn (standingIn names) (blockFault names) d gs ≡ faultsIn (standingIn names) (blockFault names) d hs
   unfolding faultsIn
   faults-alike d [] [] x = refl
   faults-alike d [] (h ∷ hs) x = absurd x
   faults-alike d (g ∷ gs) [] x = absurd x
   faults-alike d (g ∷ gs) (h ∷ hs) x =
       ap₂ (λ (m n : ℕ). firstOf m n) (fault-alike names d g h (x .0))
-      (faults-alike (standingIn names d g) gs hs (x .1) ∙ ap (λ (b : Block). faultsIn (standingIn names) (blockFault names) (standing d b) hs) (block-alike names g h (x .0)))
+      (faults-alike (standingIn names d g) gs hs (x .1) ∙ ap (λ (b : Block). faultsIn (standingIn names) (blockFault names) (openAfter d b) hs) (block-alike names g h (x .0)))
 
-  state-alike : (d : ℕ) (gs hs : List Given) → AllAlike gs hs → stateAfter (standingIn names) d gs ≡ stateAfter (standingIn names) d hs
+  state-alike : (d : ℕ) (gs hs : List RecordRow) → AllAlike gs hs → stateAfter (standingIn names) d gs ≡ stateAfter (standingIn names) d hs
   unfolding stateAfter
   state-alike d [] [] x = refl
   state-alike d [] (h ∷ hs) x = absurd x
   state-alike d (g ∷ gs) [] x = absurd x
-  state-alike d (g ∷ gs) (h ∷ hs) x = state-alike (standingIn names d g) gs hs (x .1) ∙ ap (λ (b : Block). stateAfter (standingIn names) (standing d b) hs) (block-alike names g h (x .0))
+  state-alike d (g ∷ gs) (h ∷ hs) x = state-alike (standingIn names d g) gs hs (x .1) ∙ ap (λ (b : Block). stateAfter (standingIn names) (openAfter d b) hs) (block-alike names g h (x .0))
 
-  module _ (gs hs : List Given) (x : AllAlike gs hs) where
+  module _ (gs hs : List RecordRow) (x : AllAlike gs hs) where
     pub first-alike : fault names gs ≡ fault names hs
     unfolding fault f.blocksFault
     first-alike = λ i. pick (leb (12 + sizes-alike gs hs x i) limit) (firstOf (faults-alike 0 gs hs x i) (pick (eqb (state-alike 0 gs hs x i) 0) 0 9)) 1

@@ -7,18 +7,20 @@ use lib.ListN.{length, take}
 use borrow.Author.Tests.{le-leb, lt-leb}
 use native.Mathlib.Omega.{arith}
 use Rattle.algebra.specs.Reader.{Res, ok, refuse, pick, mapRes}
-use Rattle.ase.specs.Reading.{Entry, started, stopped, coloured}
+use Rattle.ase.specs.Reading.{Entry, groupStartRead, groupEndRead, colourRead}
 use Rattle.algebra.specs.Table.{accepted, refused, verdict}
 use Rattle.algebra.proofs.Table.{accepted-of, refused-of}
-use Rattle.ase.specs.Row.{Given, givenOf}
+use Rattle.ase.specs.Row.{RecordRow, givenOf}
 use Rattle.ase_judge.specs.Answer.{report, passed}
 use Rattle.ase_judge.proofs.Judging.{map-inv, map-refuse}
-use Rattle.ase_read.specs.Raw.{loaded}
+use Rattle.ase_read.specs.scaffold.Raw.{loaded}
 use Rattle.ase_read.proofs.Blocks.{Sound, blocked}
 use Rattle.walk.specs.Walk as w
 use Rattle.walk.proofs.Calls.{step-over, step-elsewhere, from-turn}
-use Rattle.ase_walk.specs.Walking.{blockFrom, Stands, blockWalk, isColour, walk, firstPlace, lentOf, starts, refusal, startOf}
-use Rattle.ase_walk.specs.Answer.{passes, handing, handed}
+use Rattle.ase_walk.specs.Walking.{blockFrom, blockWalk, isColour, walk, firstPlace, lentOf, starts, refusal, startOf}
+use Rattle.ase_walk.specs.scaffold.Walking.{Stands}
+use Rattle.ase_walk.specs.Answer.{recordCall, callAndPlace}
+use Rattle.ase_walk.specs.scaffold.Answer.{passes}
 use Rattle.ase_walk.proofs.Blocks.{walk-moves}
 use Rattle.ase_walk.proofs.Walked.{past-refused}
 
@@ -26,31 +28,31 @@ use Rattle.ase_walk.proofs.Walked.{past-refused}
 
 module _ (s : List ℕ) (at end : ℕ) (b : Stands s at end) where
   -- its numbers, as they are loaded
-  pub stands-given : (g : Given) → g ≡ loaded (take end s) at → g ≡ givenOf (b .0)
+  pub stands-given : (g : RecordRow) → g ≡ loaded (take end s) at → g ≡ givenOf (b .0)
   stands-given g e = e ∙ sym (blocked 1 s at (b .1) .ended .is-row)
 
   pub stands-sound : Sound (b .0)
   stands-sound = blocked 1 s at (b .1) .ended .sound
 
-  pub stands-shown : (c : w.Call Given) → c ≡ w.gives (givenOf (b .0)) → (c, end) ≡ handed (w.answered (length s) (blockFrom s at))
-  stands-shown c e = ap (λ (x : w.Call Given). (x, end)) e ∙ sym (ap (λ (m : Res Entry). handed (w.answered (length s) m)) (b .1))
+  pub stands-shown : (c : w.Call RecordRow) → c ≡ w.gives (givenOf (b .0)) → (c, end) ≡ callAndPlace (w.answered (length s) (blockFrom s at))
+  stands-shown c e = ap (λ (x : w.Call RecordRow). (x, end)) e ∙ sym (ap (λ (m : Res Entry). callAndPlace (w.answered (length s) m)) (b .1))
 
 -- ---- the block step
 
 module _ (s : List ℕ) (at : ℕ) where
-  pub block-over : at ≡ length s → (w.over, at) ≡ handed (blockWalk s at)
-  block-over e = sym (ap handed (step-over blockFrom s at e))
+  pub block-over : at ≡ length s → (w.over, at) ≡ callAndPlace (blockWalk s at)
+  block-over e = sym (ap callAndPlace (step-over blockFrom s at e))
 
   -- a block was passed
   pub passed-stands : {d k q : ℕ} → ok (d, k) q ≡ mapRes (passed 1) (blockFrom s at) → Stands s at q
   passed-stands e = let i = map-inv (passed 1) (blockFrom s at) (sym e) in (i .0, i .1)
 
   module _ (apart : at ≡ length s → ⊥) where
-    pub block-lost : {x p : ℕ} → refuse x p 0 0 ≡ mapRes (passed 1) (blockFrom s at) → handed (w.lost (length s)) ≡ handed (blockWalk s at)
-    block-lost e = sym (ap handed (step-elsewhere blockFrom s at apart ∙ ap (w.answered (length s)) (map-refuse (passed 1) (blockFrom s at) (sym e))))
+    pub block-lost : {x p : ℕ} → refuse x p 0 0 ≡ mapRes (passed 1) (blockFrom s at) → callAndPlace (w.lost (length s)) ≡ callAndPlace (blockWalk s at)
+    block-lost e = sym (ap callAndPlace (step-elsewhere blockFrom s at apart ∙ ap (w.answered (length s)) (map-refuse (passed 1) (blockFrom s at) (sym e))))
 
-    pub block-shown : (v : w.Call Given × ℕ) → v ≡ handed (w.answered (length s) (blockFrom s at)) → v ≡ handed (blockWalk s at)
-    block-shown v e = e ∙ sym (ap handed (step-elsewhere blockFrom s at apart))
+    pub block-shown : (v : w.Call RecordRow × ℕ) → v ≡ callAndPlace (w.answered (length s) (blockFrom s at)) → v ≡ callAndPlace (blockWalk s at)
+    block-shown v e = e ∙ sym (ap callAndPlace (step-elsewhere blockFrom s at apart))
 
 -- ---- the colour step, by what the block step answers
 
@@ -59,8 +61,8 @@ module _ (s : List ℕ) (at : ℕ) where
   turn = from-turn isColour (blockWalk s) (length s) (walk-moves s) at
 
   -- a group is passed over
-  pub passes-on : (c : w.Call Given) (n : ℕ) → passes c ≡ true → (c, n) ≡ handed (blockWalk s at) → (walk s at ≡ walk s n) × (at < n) × (n ≤ length s)
-  passes-on c n h e = go (blockWalk s at .0) (blockWalk s at .1) refl (subst (λ (d : w.Call Given). passes d ≡ true) (ap (λ (y : w.Call Given × ℕ). y .0) e) h) (ap (λ (y : w.Call Given × ℕ). y .1) e)
+  pub passes-on : (c : w.Call RecordRow) (n : ℕ) → passes c ≡ true → (c, n) ≡ callAndPlace (blockWalk s at) → (walk s at ≡ walk s n) × (at < n) × (n ≤ length s)
+  passes-on c n h e = go (blockWalk s at .0) (blockWalk s at .1) refl (subst (λ (d : w.Call RecordRow). passes d ≡ true) (ap (λ (y : w.Call RecordRow × ℕ). y .0) e) h) (ap (λ (y : w.Call RecordRow × ℕ). y .1) e)
     where
       skip : (e : Entry) (q : ℕ) → isColour e ≡ false → blockWalk s at ≡ (w.gives e, q) → n ≡ q → (walk s at ≡ walk s n) × (at < n) × (n ≤ length s)
       skip e q k b z =
@@ -68,30 +70,30 @@ module _ (s : List ℕ) (at : ℕ) where
           let f = turn ∙ ap (λ (v : w.Call Entry × ℕ). w.sought isColour (v .0) (v .1) (walk s)) b ∙ ap (λ (i : Bool). pick i (w.gives e, q) (walk s q)) k in
           (f ∙ ap (walk s) (sym z), omega arith, omega arith)
 
-      go : (x : w.Call Entry) (q : ℕ) → blockWalk s at ≡ (x, q) → passes (handing x) ≡ true → n ≡ q → (walk s at ≡ walk s n) × (at < n) × (n ≤ length s)
-      go (w.gives (started nm)) q b k z = skip (started nm) q refl b z
-      go (w.gives stopped) q b k z = skip stopped q refl b z
-      go (w.gives (coloured nm t bs m)) q b k z = absurd (true≢false (sym k))
+      go : (x : w.Call Entry) (q : ℕ) → blockWalk s at ≡ (x, q) → passes (recordCall x) ≡ true → n ≡ q → (walk s at ≡ walk s n) × (at < n) × (n ≤ length s)
+      go (w.gives (groupStartRead nm)) q b k z = skip (groupStartRead nm) q refl b z
+      go (w.gives groupEndRead) q b k z = skip groupEndRead q refl b z
+      go (w.gives (colourRead nm t bs m)) q b k z = absurd (true≢false (sym k))
       go w.over q b k z = absurd (true≢false (sym k))
       go (w.refused x p) q b k z = absurd (true≢false (sym k))
 
   -- any other answer is the colour step's own
-  pub ends-here : (c : w.Call Given) (n : ℕ) → passes c ≡ false → (c, n) ≡ handed (blockWalk s at) → (c, n) ≡ handed (walk s at)
-  ends-here c n h e = e ∙ go (blockWalk s at .0) (blockWalk s at .1) (subst (λ (d : w.Call Given). passes d ≡ false) (ap (λ (y : w.Call Given × ℕ). y .0) e) h) ∙ sym (ap handed turn)
+  pub ends-here : (c : w.Call RecordRow) (n : ℕ) → passes c ≡ false → (c, n) ≡ callAndPlace (blockWalk s at) → (c, n) ≡ callAndPlace (walk s at)
+  ends-here c n h e = e ∙ go (blockWalk s at .0) (blockWalk s at .1) (subst (λ (d : w.Call RecordRow). passes d ≡ false) (ap (λ (y : w.Call RecordRow × ℕ). y .0) e) h) ∙ sym (ap callAndPlace turn)
     where
-      go : (x : w.Call Entry) (q : ℕ) → passes (handing x) ≡ false → handed (x, q) ≡ handed (w.sought isColour x q (walk s))
-      go (w.gives (coloured nm t bs k)) q z = refl
-      go (w.gives (started nm)) q z = absurd (true≢false z)
-      go (w.gives stopped) q z = absurd (true≢false z)
+      go : (x : w.Call Entry) (q : ℕ) → passes (recordCall x) ≡ false → callAndPlace (x, q) ≡ callAndPlace (w.sought isColour x q (walk s))
+      go (w.gives (colourRead nm t bs k)) q z = refl
+      go (w.gives (groupStartRead nm)) q z = absurd (true≢false z)
+      go (w.gives groupEndRead) q z = absurd (true≢false z)
       go w.over q z = refl
       go (w.refused x p) q z = refl
 
 -- the end, and past it
-pub walk-over : (s : List ℕ) (at : ℕ) → at ≡ length s → (w.over, at) ≡ handed (walk s at)
+pub walk-over : (s : List ℕ) (at : ℕ) → at ≡ length s → (w.over, at) ≡ callAndPlace (walk s at)
 walk-over s at e = ends-here s at w.over at refl (block-over s at e)
 
-pub walk-past : (s : List ℕ) (at : ℕ) → length s < at → handed (w.lost (length s)) ≡ handed (walk s at)
-walk-past s at h = sym (ap handed (past-refused s at h))
+pub walk-past : (s : List ℕ) (at : ℕ) → length s < at → callAndPlace (w.lost (length s)) ≡ callAndPlace (walk s at)
+walk-past s at h = sym (ap callAndPlace (past-refused s at h))
 
 -- ---- the start
 

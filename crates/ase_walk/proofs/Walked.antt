@@ -13,9 +13,9 @@ use Rattle.algebra.specs.Reader.{Res, ok, refuse, pick}
 use Rattle.algebra.specs.Store.{part}
 use Rattle.algebra.specs.Text.{Name}
 use Rattle.algebra.proofs.Exact.{map-id}
-use Rattle.ase.specs.Reading.{Entry, started, stopped, coloured, block, standingAfter, ase}
+use Rattle.ase.specs.Reading.{Entry, groupStartRead, groupEndRead, colourRead, block, openAfterEntry, ase}
 use Rattle.ase_judge.specs.Answer.{colours}
-use Rattle.ase_read.specs.Raw.{entriesOf}
+use Rattle.ase_read.specs.Table.{entriesOf}
 use Rattle.ase_read.proofs.Blocks.{blocked}
 use Rattle.walk.specs.Walk.{Call, gives, over, refused, after, call, inTurn, sought, seek, only}
 use Rattle.walk.proofs.Calls.{Walks, call-stays, calls-are, after-calls, chain-walks, step-over, step-read, step-five, step-past, only-walks, seek-five}
@@ -31,7 +31,7 @@ accepted-blocks : (s : List ℕ) {es : List Entry} {q : ℕ} → ase s ≡ ok es
 unfolding firstPlace
 accepted-blocks s {es} e =
     let a = accepted-chain s e in
-    let w = chain-walks blockFrom (λ (e : Entry). e) s standingAfter block (λ d at x y h. block-item s d at x y h) (a .1) 0 12 (a .2) refl in
+    let w = chain-walks blockFrom (λ (e : Entry). e) s openAfterEntry block (λ d at x y h. block-item s d at x y h) (a .1) 0 12 (a .2) refl in
     let f : 12 ≡ pick (leb 12 (length s)) 12 (length s) = sym (ap (λ (b : Bool). pick b 12 (length s)) (le-leb 12 (length s) (a .0))) in
     subst (λ (n : ℕ). Walks (blockWalk s) n es) f (subst (λ (l : List Entry). Walks (blockWalk s) 12 l) (map-id es) w)
 
@@ -47,9 +47,9 @@ colours-in-turn s {es} e i = calls-are (walk s) (only isColour es) (firstPlace s
 pub colours-counted : (es : List Entry) → length (only isColour es) ≡ colours es
 unfolding only colours
 colours-counted [] = refl
-colours-counted (started nm ∷ es) = omega (arith, colours-counted es)
-colours-counted (stopped ∷ es) = omega (arith, colours-counted es)
-colours-counted (coloured nm t bs k ∷ es) = omega (arith, colours-counted es)
+colours-counted (groupStartRead nm ∷ es) = omega (arith, colours-counted es)
+colours-counted (groupEndRead ∷ es) = omega (arith, colours-counted es)
+colours-counted (colourRead nm t bs k ∷ es) = omega (arith, colours-counted es)
 
 -- the same of a walker that was started on any file: over a refused one, which has no records, it says done from the first call on
 pub started-in-turn : (s : List ℕ) (i : ℕ) → call (walk (lentOf (ase s) s)) (firstPlace (lentOf (ase s) s)) i ≡ inTurn (only isColour (entriesOf (ase s))) i
@@ -91,9 +91,9 @@ sought-given s (suc k) at h {e} {q} w = go (blockWalk s at .0) (blockWalk s at .
 
     go : (c : Call Entry) (n : ℕ) → blockWalk s at ≡ (c, n) → ((n : ℕ) → length s - n ≤ k → seek isColour (blockWalk s) k n ≡ (gives e, q) → (p : ℕ) × (n ≤ p) × (p + 6 ≤ q) × (q ≤ length s) × (blockFrom s p ≡ ok e q) × (isColour e ≡ true))
         → sought isColour c n (λ q. seek isColour (blockWalk s) k q) ≡ (gives e, q) → (p : ℕ) × (at ≤ p) × (p + 6 ≤ q) × (q ≤ length s) × (blockFrom s p ≡ ok e q) × (isColour e ≡ true)
-    go (gives (coloured nm t bs j)) n b f z = here (coloured nm t bs j) n b z refl
-    go (gives (started nm)) n b f z = let m = walk-moves s at (started nm) n b in let r = f n (omega arith) z in (r .0, omega (arith, r .1), r .2, r .3, r .4, r .5)
-    go (gives stopped) n b f z = let m = walk-moves s at stopped n b in let r = f n (omega arith) z in (r .0, omega (arith, r .1), r .2, r .3, r .4, r .5)
+    go (gives (colourRead nm t bs j)) n b f z = here (colourRead nm t bs j) n b z refl
+    go (gives (groupStartRead nm)) n b f z = let m = walk-moves s at (groupStartRead nm) n b in let r = f n (omega arith) z in (r .0, omega (arith, r .1), r .2, r .3, r .4, r .5)
+    go (gives groupEndRead) n b f z = let m = walk-moves s at groupEndRead n b in let r = f n (omega arith) z in (r .0, omega (arith, r .1), r .2, r .3, r .4, r .5)
     go over n b f z = clash (λ y. let w : _≡_ {A = ℕ} 0 1 = cc in absurd (omega arith)) z
     go (refused x p) n b f z = clash (λ y. let w : _≡_ {A = ℕ} 0 1 = cc in absurd (omega arith)) z
 
@@ -102,7 +102,7 @@ pub given-allowed : (s : List ℕ) (at : ℕ) {e : Entry} {q : ℕ} → walk s a
 given-allowed s at {e} {q} w = sought-given s (length s - at) at (omega arith) w
 
 -- its name is a part of the file
-pub given-name : (s : List ℕ) (at : ℕ) {nm : Name} {t : ℕ} {bs : List ℕ} {k q : ℕ} → walk s at ≡ (gives (coloured nm t bs k), q) → part s (nm .first) (2 * length (nm .units)) ≡ namePart s (nm .first) (length (nm .units))
+pub given-name : (s : List ℕ) (at : ℕ) {nm : Name} {t : ℕ} {bs : List ℕ} {k q : ℕ} → walk s at ≡ (gives (colourRead nm t bs k), q) → part s (nm .first) (2 * length (nm .units)) ≡ namePart s (nm .first) (length (nm .units))
 given-name s at {nm} {t} {bs} {k} {q} w =
     let i = given-allowed s at w in
     let b = blocked 1 s (i .0) (i .4) in

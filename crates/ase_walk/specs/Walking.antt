@@ -1,13 +1,12 @@
 -- The blocks and the colours of an ASE file one a call: what a call from any place of any file gives, and where a walk starts.
 use Prim.Native.Nat.{ℕ, _-_}
-use mathlib.Core.Path.{_≡_}
 use mathlib.Core.List.{List, []}
 use mathlib.Core.Bool.{Bool, true, false}
 use lib.Dec.{leb}
 use lib.ListN.{length}
 use denote.Ref.{now}
 use Rattle.algebra.specs.Reader.{Res, ok, refuse, Reader, pick}
-use Rattle.ase.specs.Reading.{Entry, started, stopped, coloured, block}
+use Rattle.ase.specs.Reading.{Entry, groupStartRead, groupEndRead, colourRead, block}
 use Rattle.walk.specs.Walk.{Call, Step, step, seek}
 use Rattle.ase_walk.specs.declared.Walker.{Walker}
 
@@ -17,10 +16,6 @@ use Rattle.ase_walk.specs.declared.Walker.{Walker}
 abbrev pub blockFrom : Reader Entry
 blockFrom = block 1
 
--- a block ends there
-abbrev pub Stands : List ℕ → ℕ → ℕ → Type 0
-Stands s at end = (e : Entry) × (blockFrom s at ≡ ok e end)
-
 -- the rule of the block step: done at the file's end; the block that the layout allows at its place; else 5 at place 0
 abbrev pub blockWalk : List ℕ → Step Entry
 blockWalk s = step blockFrom s
@@ -28,9 +23,9 @@ blockWalk s = step blockFrom s
 -- ---- a colour from a place on
 
 abbrev pub isColour : Entry → Bool
-isColour (started nm) = false
-isColour stopped = false
-isColour (coloured nm t bs k) = true
+isColour (groupStartRead nm) = false
+isColour groupEndRead = false
+isColour (colourRead nm t bs k) = true
 
 -- the rule of every walker, altered or not: groups are passed over, and the first colour is given; where the blocks end without one it is done; else 5 at place 0
 abbrev pub walk : List ℕ → Step Entry

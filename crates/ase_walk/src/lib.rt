@@ -8,13 +8,15 @@ ghost use lib.Dec.{eqb};
 ghost use lib.ListN.{length};
 ghost use Rattle.algebra.specs.Reader.{pick, refuse};
 ghost use Rattle.ase.specs.Reading.{ase};
-ghost use Rattle.ase.specs.Row.{colour};
-ghost use Rattle.ase_read.specs.Answer.{IsColour};
+ghost use Rattle.ase.specs.Row.{colourRow};
+ghost use Rattle.ase_read.specs.scaffold.Answer.{IsColour};
 ghost use Rattle.walk.specs.Walk.{gives, answered};
-ghost use Rattle.ase_walk.specs.Walking.{blockFrom, Stands, blockWalk, walk, firstPlace, lentOf, startOf};
-ghost use Rattle.ase_walk.specs.Answer.{toldBlock, toldBlockStep, passes, toldGiven, toldStep, handed, toldTurn, handedOn, toldStart};
-use ase::START;
-use ase::STOP;
+ghost use Rattle.ase_walk.specs.Walking.{blockFrom, blockWalk, walk, firstPlace, lentOf, startOf};
+ghost use Rattle.ase_walk.specs.scaffold.Walking.{Stands};
+ghost use Rattle.ase_walk.specs.Answer.{toldBlock, toldBlockStep, toldGiven, toldStep, callAndPlace, toldTurn, walkerCall, toldStart};
+ghost use Rattle.ase_walk.specs.scaffold.Answer.{passes};
+use ase::GROUP_END;
+use ase::GROUP_START;
 use ase_judge::Answer;
 use ase_judge::Passed;
 use colour::Channels;
@@ -23,11 +25,11 @@ use colour::Made;
 // What a call of the block step gives: a group start with its name's place and number of units, a
 // group end, or a colour with its name, its channels and its type; done; or a refusal.
 pub enum Block {
-    Group {
+    GroupStart {
         place: usize,
         units: u32,
     },
-    Close,
+    GroupEnd,
     Colour {
         place: usize,
         units: u32,
@@ -49,7 +51,7 @@ pub struct BlockStep {
 
 // What a call of the colour step gives: a colour with its name's place and number of units, its
 // channels and its type; done; or a refusal.
-pub enum Given {
+pub enum NextColour {
     Colour {
         place: usize,
         units: u32,
@@ -64,13 +66,13 @@ pub enum Given {
 }
 
 // A call's answer, and the place of the next call.
-pub struct Step {
-    pub given: Given,
+pub struct ColourStep {
+    pub given: NextColour,
     pub next: usize,
 }
 
 // Where a walk of a file starts, or the file's refusal.
-pub enum Opening {
+pub enum WalkStart {
     At(usize),
     Refused { number: u32, place: usize },
 }
@@ -101,7 +103,7 @@ fn units_of(count: u16) -> u32
 // A colour by its tag and the bits of its channels, which are judged.
 fn coloured(place: usize, units: u32, tag: u32, a: u32, b: u32, c: u32, d: u32, kind: u16) -> Block
     requires { ⌜ IsColour tag a b c d ⌝ }
-    ensures { λ r. ⌜ toldBlock r ≡ gives (colour place units tag (a ∷ b ∷ c ∷ d ∷ []) kind) ⌝ }
+    ensures { λ r. ⌜ toldBlock r ≡ gives (colourRow place units tag (a ∷ b ∷ c ∷ d ∷ []) kind) ⌝ }
 {
     match Channels::from_tag(tag, a, b, c, d) {
         Made::Is(colour) => Block::Colour {
@@ -118,7 +120,7 @@ fn coloured(place: usize, units: u32, tag: u32, a: u32, b: u32, c: u32, d: u32, 
 // what a shorter payload does not have is 0.
 fn block_of(file: &[u8], at: usize, end: usize) -> Block
     requires { ⌜ (at + 6 ≤ end) × (end ≤ length (now file)) × Stands (now file) at end ⌝ }
-    ensures { λ r. ⌜ (toldBlock r, end) ≡ handed (answered (length (now (file .entry))) (blockFrom (now (file .entry)) at)) ⌝ }
+    ensures { λ r. ⌜ (toldBlock r, end) ≡ callAndPlace (answered (length (now (file .entry))) (blockFrom (now (file .entry)) at)) ⌝ }
 {
     let part = &file[..end];
     let kind = fields::u16_or_zero(part, at);
@@ -133,8 +135,8 @@ fn block_of(file: &[u8], at: usize, end: usize) -> Block
     let place = place_of(count, at);
     let units = units_of(count);
     match kind {
-        START => Block::Group { place, units },
-        STOP => Block::Close,
+        GROUP_START => Block::GroupStart { place, units },
+        GROUP_END => Block::GroupEnd,
         _ => coloured(place, units, tag, a, b, c, d, last),
     }
 }
@@ -143,7 +145,7 @@ fn block_of(file: &[u8], at: usize, end: usize) -> Block
 // passes; where nothing stands that the layout allows, the walk is left past the end, so that it is
 // refused ever after.
 pub fn block_at(file: &[u8], at: usize) -> BlockStep
-    ensures { λ r. ⌜ toldBlockStep r ≡ handed (blockWalk (now (file .entry)) at) ⌝ }
+    ensures { λ r. ⌜ toldBlockStep r ≡ callAndPlace (blockWalk (now (file .entry)) at) ⌝ }
 {
     if at == file.len() {
         return BlockStep {
@@ -183,8 +185,8 @@ fn is_group(block: Block) -> bool
     ensures { λ r. ⌜ r ≡ passes (toldBlock block) ⌝ }
 {
     match block {
-        Block::Group { place: _, units: _ } => true,
-        Block::Close => true,
+        Block::GroupStart { place: _, units: _ } => true,
+        Block::GroupEnd => true,
         Block::Colour {
             place: _,
             units: _,
@@ -200,54 +202,54 @@ fn is_group(block: Block) -> bool
 }
 
 // What the block step gave, where it is no group.
-fn given_of(block: Block) -> Given
+fn given_of(block: Block) -> NextColour
     requires { ⌜ passes (toldBlock block) ≡ false ⌝ }
     ensures { λ r. ⌜ toldGiven r ≡ toldBlock block ⌝ }
 {
     match block {
-        Block::Group { place: _, units: _ } => Given::Done,
-        Block::Close => Given::Done,
+        Block::GroupStart { place: _, units: _ } => NextColour::Done,
+        Block::GroupEnd => NextColour::Done,
         Block::Colour {
             place,
             units,
             colour,
             kind,
-        } => Given::Colour {
+        } => NextColour::Colour {
             place,
             units,
             colour,
             kind,
         },
-        Block::Done => Given::Done,
-        Block::Refused { number, place } => Given::Refused { number, place },
+        Block::Done => NextColour::Done,
+        Block::Refused { number, place } => NextColour::Refused { number, place },
     }
 }
 
 // One call from the file's end, which is done, or from past it, which is refused.
-fn ended_at(file: &[u8], at: usize) -> Step
+fn ended_at(file: &[u8], at: usize) -> ColourStep
     requires { ⌜ length (now file) ≤ at ⌝ }
-    ensures { λ r. ⌜ toldStep r ≡ handed (walk (now (file .entry)) at) ⌝ }
+    ensures { λ r. ⌜ toldStep r ≡ callAndPlace (walk (now (file .entry)) at) ⌝ }
 {
     let end = file.len();
     if at == end {
-        return Step {
-            given: Given::Done,
+        return ColourStep {
+            given: NextColour::Done,
             next: at,
         };
     }
-    let given = Given::Refused {
+    let given = NextColour::Refused {
         number: 5,
         place: 0,
     };
-    Step {
+    ColourStep {
         given,
         next: end + 1,
     }
 }
 
 // One call from any place of any file that gives colours, and passes over groups.
-pub fn step_at(file: &[u8], at: usize) -> Step
-    ensures { λ r. ⌜ toldStep r ≡ handed (walk (now (file .entry)) at) ⌝ }
+pub fn step_at(file: &[u8], at: usize) -> ColourStep
+    ensures { λ r. ⌜ toldStep r ≡ callAndPlace (walk (now (file .entry)) at) ⌝ }
 {
     let mut p = at;
     while p < file.len() {
@@ -256,7 +258,7 @@ pub fn step_at(file: &[u8], at: usize) -> Step
         let block = step.block;
         if !is_group(block) {
             let given = given_of(block);
-            return Step { given, next };
+            return ColourStep { given, next };
         }
         p = next;
     }
@@ -277,15 +279,15 @@ pub fn first_at(file: &[u8]) -> usize
 }
 
 // Where a walk starts, which it does only on an accepted file, or the file's refusal.
-pub fn start_at(file: &[u8]) -> Opening
+pub fn start_at(file: &[u8]) -> WalkStart
     ensures { λ r. ⌜ toldStart r ≡ startOf (ase (now (file .entry))) (now (file .entry)) ⌝ }
 {
     match ase_judge::judge(file) {
-        Answer::Refused { number, place } => Opening::Refused { number, place },
+        Answer::Refused { number, place } => WalkStart::Refused { number, place },
         Answer::Accepted {
             blocks: _,
             colours: _,
-        } => Opening::At(first_at(file)),
+        } => WalkStart::At(first_at(file)),
     }
 }
 
@@ -324,17 +326,17 @@ pub fn start<'a>(file: &'a [u8]) -> Walker<'a>
 }
 
 // What a call of `next` hands back: what it gave, and the walker that follows.
-pub struct Turn<'a> {
-    pub step: Step,
+pub struct WalkerStep<'a> {
+    pub step: ColourStep,
     pub walker: Walker<'a>,
 }
 
 // One call: the colour, and the walker that follows.
-pub fn next<'a>(w: Walker<'a>) -> Turn<'a>
-    ensures { λ r. ⌜ toldTurn r ≡ handedOn (w .entry) ⌝ }
+pub fn next<'a>(w: Walker<'a>) -> WalkerStep<'a>
+    ensures { λ r. ⌜ toldTurn r ≡ walkerCall (w .entry) ⌝ }
 {
     let step = step_at(w.file, w.at);
-    Turn {
+    WalkerStep {
         step,
         walker: Walker {
             file: w.file,

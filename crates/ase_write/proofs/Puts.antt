@@ -1,4 +1,5 @@
 -- Stores one after the other, on plain values. Assumes nothing.
+use Rattle.algebra.specs.Chars.{chars}
 use Rattle.algebra.proofs.Counted.{counted-end, counted-start, counted-turn, length-counted}
 use Prim.Native.Nat.{ℕ, zero, suc, _+_, _*_, _-_, _≤_, _<_}
 use mathlib.Core.Path.{_≡_, refl, sym, ap, ap₂, _∙_}
@@ -18,20 +19,20 @@ use Rattle.algebra.proofs.Places.{length-be, length-bes, length-nums, part-nums
 use Rattle.algebra.proofs.Exact.{length-map, length-nameBytes}
 use Rattle.algebra.proofs.Tells.{first-inv}
 use Rattle.colour.specs.Models.{modelOf, isKnown, countIn, isModel, channelsOf}
-use Rattle.colour.specs.declared.model.Known.{Known}
-use Rattle.colour.specs.declared.model.Known.the-variants.{Is, Unknown}
+use Rattle.colour.specs.declared.model.KnownModel.{KnownModel}
+use Rattle.colour.specs.declared.model.KnownModel.the-variants.{Is, Unknown}
 use Rattle.colour.specs.declared.model.Model.the-variants.{Rgb, Cmyk, Lab, Gray}
-use Rattle.ase.specs.Grammar.{Block, start, stop, colour, typeOf, payload, blockBytes, fileBytes}
-use Rattle.ase.specs.Row.{Given, width, taken}
-use Rattle.ase_records.specs.Writing.{unitsIn, channelsIn, blockIn, nameSize, sizeIn, sizes, size}
-use Rattle.ase_records.specs.Parts.{nameFault, shadeBytes, ownFault}
-use Rattle.ase_records.specs.Parts as parts
-use Rattle.ase_records.proofs.Judging.{Sound, is-start, is-stop, is-colour, sound, channels-few, size-start, size-stop, size-colour, name-inside}
+use Rattle.ase.specs.Grammar.{Block, groupStart, groupEnd, colour, typeOf, payload, blockBytes, fileBytes}
+use Rattle.ase.specs.Row.{RecordRow, width, taken}
+use Rattle.ase_write_judge.specs.Writing.{unitsIn, channelsIn, blockIn, nameSize, sizeIn, sizes, size}
+use Rattle.ase_write_judge.specs.scaffold.Parts.{nameFault, afterNameBytes, ownFault}
+use Rattle.ase_write_judge.specs.scaffold.Parts as parts
+use Rattle.ase_write_judge.proofs.Judging.{Sound, is-start, is-stop, is-colour, sound, channels-few, size-start, size-stop, size-colour, name-inside}
 use Rattle.algebra.proofs.Storing.{as-sets, peel, peel-be, length-kept}
 
 -- ---- a name
 
-module _ (names : List ℕ) (b : Bytes names) (g : Given) (k : ℕ) (e : k ≡ 2 * g .units) (f : nameFault names g ≡ 0) where
+module _ (names : List ℕ) (b : Bytes names) (g : RecordRow) (k : ℕ) (e : k ≡ 2 * g .units) (f : nameFault names g ≡ 0) where
   -- the bytes of its units, from where its copy starts
   name-part : part names (parts.start g) k ≡ joined (be 2) (unitsIn names g)
   unfolding nums joined
@@ -47,16 +48,16 @@ module _ (names : List ℕ) (b : Bytes names) (g : Given) (k : ℕ) (e : k ≡ 2
   unfolding countedUnits nameBytes
   name-bytes = ap₂ (λ (x : ℕ) (l : List ℕ). be 2 (x + 1) ++ (l ++ be 2 0)) (sym (length-nums 2 (g .units) names (g .first))) name-part
 
-length-name : (names : List ℕ) (g : Given) → length (nameBytes 2 (unitsIn names g)) ≡ nameSize g
+length-name : (names : List ℕ) (g : RecordRow) → length (nameBytes 2 (unitsIn names g)) ≡ nameSize g
 length-name names g = omega (arith, length-nameBytes 2 (unitsIn names g), length-nums 2 (g .units) names (g .first))
 
-pub put-name : (names : List ℕ) → Bytes names → (g : Given) (k : ℕ) → k ≡ 2 * g .units → nameFault names g ≡ 0 → (out o : List ℕ) (at : ℕ) → at + nameSize g ≤ length out
+pub put-name : (names : List ℕ) → Bytes names → (g : RecordRow) (k : ℕ) → k ≡ 2 * g .units → nameFault names g ≡ 0 → (out o : List ℕ) (at : ℕ) → at + nameSize g ≤ length out
     → o ≡ stored out at (countedUnits 2 (g .units + 1) (part names (parts.start g) k)) → o ≡ sets out at (nameBytes 2 (unitsIn names g))
 put-name names b g k e f out o at h w = as-sets o out at _ (nameSize g) (w ∙ ap (stored out at) (name-bytes names b g k e f)) (length-name names g) h
 
 -- ---- a colour's channels
 
-some : (k : Known) → isKnown k ≡ true → (countIn k ≡ 1 → ⊥) → (countIn k ≡ 3 → ⊥) → countIn k ≡ 4
+some : (k : KnownModel) → isKnown k ≡ true → (countIn k ≡ 1 → ⊥) → (countIn k ≡ 3 → ⊥) → countIn k ≡ 4
 some (Is Rgb) e a b = absurd (b refl)
 some (Is Cmyk) e a b = refl
 some (Is Lab) e a b = absurd (b refl)
@@ -114,19 +115,19 @@ length-take-in zero l h = refl
 length-take-in (suc n) [] h = absurd (omega arith)
 length-take-in (suc n) (x ∷ l) h = ap suc (length-take-in n l (omega arith))
 
-module _ (g : Given) (l : length (g .channels) ≡ 4) where
+module _ (g : RecordRow) (l : length (g .channels) ≡ 4) where
   length-channels : length (joined (be 4) (channelsIn g)) ≡ 4 * channelsOf (g .model)
   length-channels = omega (arith, length-bes 4 (channelsIn g), length-take-in (channelsOf (g .model)) (g .channels) (omega (arith, channels-few (g .model))))
 
-  length-shade : length (shadeBytes g) ≡ 6 + 4 * channelsOf (g .model)
-  length-shade =
+  length-colour-content : length (afterNameBytes g) ≡ 6 + 4 * channelsOf (g .model)
+  length-colour-content =
       let x = length-append (be 4 (g .model)) (joined (be 4) (channelsIn g) ++ be 2 (g .type)) in
       let y = length-append (joined (be 4) (channelsIn g)) (be 2 (g .type)) in
       omega (arith, x, y, length-be 4 (g .model), length-be 2 (g .type), length-channels)
 
-  pub put-shade : (o₀ o₁ o₂ o₃ : List ℕ) (at n : ℕ) → n ≡ channelsOf (g .model) → at + 6 + 4 * channelsOf (g .model) ≤ length o₀ → o₁ ≡ stored o₀ at (be 4 (g .model))
-      → o₂ ≡ sets o₁ (at + 4) (joined (be 4) (channelsIn g)) → length o₂ ≡ length o₁ → o₃ ≡ stored o₂ (at + 4 + 4 * n) (be 2 (g .type)) → o₃ ≡ sets o₀ at (shadeBytes g)
-  put-shade o₀ o₁ o₂ o₃ at n m h e₁ e₂ l₂ e₃ =
+  pub put-after-name : (o₀ o₁ o₂ o₃ : List ℕ) (at n : ℕ) → n ≡ channelsOf (g .model) → at + 6 + 4 * channelsOf (g .model) ≤ length o₀ → o₁ ≡ stored o₀ at (be 4 (g .model))
+      → o₂ ≡ sets o₁ (at + 4) (joined (be 4) (channelsIn g)) → length o₂ ≡ length o₁ → o₃ ≡ stored o₂ (at + 4 + 4 * n) (be 2 (g .type)) → o₃ ≡ sets o₀ at (afterNameBytes g)
+  put-after-name o₀ o₁ o₂ o₃ at n m h e₁ e₂ l₂ e₃ =
       let l₁ = length-kept o₁ o₀ at (be 4 (g .model)) e₁ in
       let p : at + 4 + 4 * channelsOf (g .model) ≡ at + 4 + 4 * n = omega arith in
       sym (
@@ -135,11 +136,11 @@ module _ (g : Given) (l : length (g .channels) ≡ 4) where
 
 -- ---- a record
 
-module _ (names : List ℕ) (g : Given) where
-  block-start : g .block ≡ 0xC001 → blockIn names g ≡ start (unitsIn names g)
+module _ (names : List ℕ) (g : RecordRow) where
+  block-start : g .block ≡ 0xC001 → blockIn names g ≡ groupStart (unitsIn names g)
   block-start e = rw e
 
-  block-stop : g .block ≡ 0xC002 → blockIn names g ≡ stop
+  block-stop : g .block ≡ 0xC002 → blockIn names g ≡ groupEnd
   block-stop e = rw e
 
   block-colour : g .block ≡ 0x0001 → blockIn names g ≡ colour (unitsIn names g) (g .model) (channelsIn g) (g .type)
@@ -167,7 +168,7 @@ module _ (names : List ℕ) (g : Given) where
   sound-name (is-colour e n s) x = n
 
   -- and one that starts none either is a colour
-  pub sound-colour : Sound names 1 g → (g .block ≡ 0xC002 → ⊥) → (g .block ≡ 0xC001 → ⊥) → (g .block ≡ 0x0001) × (parts.shadeFault g ≡ 0)
+  pub sound-colour : Sound names 1 g → (g .block ≡ 0xC002 → ⊥) → (g .block ≡ 0xC001 → ⊥) → (g .block ≡ 0x0001) × (parts.afterNameFault g ≡ 0)
   sound-colour (is-start e k n) x y = absurd (y e)
   sound-colour (is-stop e k) x y = absurd (x e)
   sound-colour (is-colour e n s) x y = (e, s)
@@ -177,8 +178,8 @@ module _ (names : List ℕ) (g : Given) where
     length-payload (is-start e k n) = omega (arith, ap (λ (b : Block). length (payload b)) (block-start e), length-name names g, size-start g e)
     length-payload (is-stop e k) = omega (arith, ap (λ (b : Block). length (payload b)) (block-stop e), size-stop g e)
     length-payload (is-colour e n s) =
-        let a = length-append (nameBytes 2 (unitsIn names g)) (shadeBytes g) in
-        omega (arith, ap (λ (b : Block). length (payload b)) (block-colour e), a, length-name names g, length-shade g l, size-colour g e)
+        let a = length-append (nameBytes 2 (unitsIn names g)) (afterNameBytes g) in
+        omega (arith, ap (λ (b : Block). length (payload b)) (block-colour e), a, length-name names g, length-colour-content g l, size-colour g e)
 
     length-block : Sound names 1 g → length (blockBytes (blockIn names g)) ≡ sizeIn g
     unfolding blockBytes
@@ -208,32 +209,32 @@ module _ (names : List ℕ) (g : Given) where
         pub put-start : g .block ≡ 0xC001 → o₃ ≡ sets o₀ at (blockBytes (blockIn names g))
         put-start e = e₃ ∙ sym (head ∙ ap (λ (b : Block). sets o₂ (at + 6) (payload b)) (block-start e))
 
-        pub put-colour : (g .block ≡ 0xC002 → ⊥) → (g .block ≡ 0xC001 → ⊥) → (o₄ : List ℕ) (k : ℕ) → k ≡ g .units → o₄ ≡ sets o₃ (at + 10 + 2 * k) (shadeBytes g) → o₄ ≡ sets o₀ at (blockBytes (blockIn names g))
+        pub put-colour : (g .block ≡ 0xC002 → ⊥) → (g .block ≡ 0xC001 → ⊥) → (o₄ : List ℕ) (k : ℕ) → k ≡ g .units → o₄ ≡ sets o₃ (at + 10 + 2 * k) (afterNameBytes g) → o₄ ≡ sets o₀ at (blockBytes (blockIn names g))
         put-colour x y o₄ k z e₄ =
             let p : at + 6 + nameSize g ≡ at + 10 + 2 * k = omega arith in
             e₄ ∙ sym (
             head ∙ ap (λ (b : Block). sets o₂ (at + 6) (payload b)) (block-colour (sound-colour s x y .0))
-            ∙ peel o₂ o₃ (nameBytes 2 (unitsIn names g)) (shadeBytes g) (at + 6) (nameSize g) (at + 10 + 2 * k) (length-name names g) p e₃)
+            ∙ peel o₂ o₃ (nameBytes 2 (unitsIn names g)) (afterNameBytes g) (at + 6) (nameSize g) (at + 10 + 2 * k) (length-name names g) p e₃)
 
 -- ---- a loop that stores the records of a run
 
 module _ (run names all out : List ℕ) (n i at : ℕ) where
   pub puts-start : all ≡ sets out at (joined blockBytes (map (blockIn names) (rows width taken run n 0))) → all ≡ sets out at (joined blockBytes (map (blockIn names) (rows width taken run (n - 0) 0)))
-  puts-start e = e ∙ ap (λ (gs : List Given). sets out at (joined blockBytes (map (blockIn names) gs))) (counted-start (λ i. taken (rowAt width run i)) n)
+  puts-start e = e ∙ ap (λ (gs : List RecordRow). sets out at (joined blockBytes (map (blockIn names) gs))) (counted-start (λ i. taken (rowAt width run i)) n)
 
   module _ (inv : all ≡ sets out at (joined blockBytes (map (blockIn names) (rows width taken run (n - i) i)))) where
-    pub puts-turn : i < n → (o : List ℕ) (k : ℕ) → k ≡ sizeIn (taken (rowAt width run i)) → ownFault names (taken (rowAt width run i)) ≡ 0 → (g : Given) → g ≡ taken (rowAt width run i) → o ≡ sets out at (blockBytes (blockIn names g))
+    pub puts-turn : i < n → (o : List ℕ) (k : ℕ) → k ≡ sizeIn (taken (rowAt width run i)) → ownFault names (taken (rowAt width run i)) ≡ 0 → (g : RecordRow) → g ≡ taken (rowAt width run i) → o ≡ sets out at (blockBytes (blockIn names g))
         → all ≡ sets o (at + k) (joined blockBytes (map (blockIn names) (rows width taken run (n - (i + 1)) (i + 1))))
     unfolding joined
     puts-turn h o k w f g z s =
         let b : List ℕ = blockBytes (blockIn names (taken (rowAt width run i))) in
         let l : length b ≡ k = length-block names (taken (rowAt width run i)) refl (sound names 1 (taken (rowAt width run i)) f) ∙ sym w in
-        inv ∙ ap (λ (gs : List Given). sets out at (joined blockBytes (map (blockIn names) gs))) (counted-turn (λ i. taken (rowAt width run i)) n i h)
-        ∙ peel out o b (joined blockBytes (map (blockIn names) (rows width taken run (n - (i + 1)) (i + 1)))) at k (at + k) l refl (s ∙ ap (λ (x : Given). sets out at (blockBytes (blockIn names x))) z)
+        inv ∙ ap (λ (gs : List RecordRow). sets out at (joined blockBytes (map (blockIn names) gs))) (counted-turn (λ i. taken (rowAt width run i)) n i h)
+        ∙ peel out o b (joined blockBytes (map (blockIn names) (rows width taken run (n - (i + 1)) (i + 1)))) at k (at + k) l refl (s ∙ ap (λ (x : RecordRow). sets out at (blockBytes (blockIn names x))) z)
 
     pub puts-end : n ≤ i → out ≡ all
     unfolding joined
-    puts-end h = sym (inv ∙ ap (λ (gs : List Given). sets out at (joined blockBytes (map (blockIn names) gs))) (counted-end (λ i. taken (rowAt width run i)) n i h))
+    puts-end h = sym (inv ∙ ap (λ (gs : List RecordRow). sets out at (joined blockBytes (map (blockIn names) gs))) (counted-end (λ i. taken (rowAt width run i)) n i h))
 
 -- ---- the whole file
 
@@ -242,7 +243,7 @@ module _ (run names : List ℕ) where
   unfolding joined counted sizes faults
   length-blocks zero k e = refl
   length-blocks (suc n) k e =
-      let g : Given = taken (rowAt width run k) in
+      let g : RecordRow = taken (rowAt width run k) in
       let x = first-inv (ownFault names g) (faults (ownFault names) (rows width taken run n (k + 1))) e in
       let a = length-append (blockBytes (blockIn names g)) (joined blockBytes (map (blockIn names) (rows width taken run n (k + 1)))) in
       omega (arith, a, length-block names g refl (sound names 1 g (x .0)), length-blocks n (k + 1) (x .1))
@@ -255,22 +256,22 @@ module _ (run names : List ℕ) where
     unfolding fileBytes
     length-file e =
         let bs : List Block = map (blockIn names) (rows width taken run n 0) in
-        let a = length-append (be 4 0x4153_4546) (be 2 1 ++ (be 2 0 ++ (be 4 (length bs) ++ joined blockBytes bs))) in
+        let a = length-append (be 4 (chars "ASEF")) (be 2 1 ++ (be 2 0 ++ (be 4 (length bs) ++ joined blockBytes bs))) in
         let b = length-append (be 2 1) (be 2 0 ++ (be 4 (length bs) ++ joined blockBytes bs)) in
         let c = length-append (be 2 0) (be 4 (length bs) ++ joined blockBytes bs) in
         let d = length-append (be 4 (length bs)) (joined blockBytes bs) in
-        omega (arith, a, b, c, d, length-be 4 0x4153_4546, length-be 2 1, length-be 2 0, length-be 4 (length bs), length-blocks n 0 e)
+        omega (arith, a, b, c, d, length-be 4 (chars "ASEF"), length-be 2 1, length-be 2 0, length-be 4 (length bs), length-blocks n 0 e)
 
-    pub put-file : (o₀ o₁ o₂ o₃ o₄ o₅ : List ℕ) → 12 ≤ length o₀ → o₁ ≡ stored o₀ 0 (be 4 0x4153_4546) → o₂ ≡ stored o₁ 4 (be 2 1) → o₃ ≡ stored o₂ 6 (be 2 0)
+    pub put-file : (o₀ o₁ o₂ o₃ o₄ o₅ : List ℕ) → 12 ≤ length o₀ → o₁ ≡ stored o₀ 0 (be 4 (chars "ASEF")) → o₂ ≡ stored o₁ 4 (be 2 1) → o₃ ≡ stored o₂ 6 (be 2 0)
         → o₄ ≡ stored o₃ 8 (be 4 n) → o₅ ≡ sets o₄ 12 (joined blockBytes (map (blockIn names) (rows width taken run n 0))) → o₅ ≡ sets o₀ 0 (fileBytes (map (blockIn names) (rows width taken run n 0)))
     unfolding fileBytes
     put-file o₀ o₁ o₂ o₃ o₄ o₅ h e₁ e₂ e₃ e₄ e₅ =
         let bs : List Block = map (blockIn names) (rows width taken run n 0) in
-        let l₁ = length-kept o₁ o₀ 0 (be 4 0x4153_4546) e₁ in
+        let l₁ = length-kept o₁ o₀ 0 (be 4 (chars "ASEF")) e₁ in
         let l₂ = length-kept o₂ o₁ 4 (be 2 1) e₂ in
         let l₃ = length-kept o₃ o₂ 6 (be 2 0) e₃ in
         e₅ ∙ sym (
-        peel-be 4 0x4153_4546 o₀ o₁ _ 0 4 refl (omega arith) e₁
+        peel-be 4 (chars "ASEF") o₀ o₁ _ 0 4 refl (omega arith) e₁
         ∙ peel-be 2 1 o₁ o₂ _ 4 6 refl (omega arith) e₂
         ∙ peel-be 2 0 o₂ o₃ _ 6 8 refl (omega arith) e₃
         ∙ peel-be 4 (length bs) o₃ o₄ _ 8 12 refl (omega arith) (e₄ ∙ ap (λ (k : ℕ). stored o₃ 8 (be 4 k)) (sym length-all)))

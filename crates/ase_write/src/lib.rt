@@ -12,22 +12,22 @@ ghost use Rattle.algebra.specs.Writing.{bytes};
 ghost use Rattle.colour.specs.Models.{isModel, channelsOf};
 ghost use Rattle.ase.specs.Grammar.{blockBytes, fileBytes};
 ghost use Rattle.ase.specs.Row.{width, taken, givenIn};
-ghost use Rattle.ase_records.specs.Writing.{blockIn, unitsIn, channelsIn, nameSize, sizeIn, size, written};
+ghost use Rattle.ase_write_judge.specs.Writing.{blockIn, unitsIn, channelsIn, nameSize, sizeIn, size, written};
 ghost use Rattle.fields.specs.Answer.{toldWritten};
-ghost use Rattle.ase_records.specs.Parts.{nameFault, shadeFault, start, shadeBytes, RecordFits, RecordsFit};
-use ase::Numbers;
+ghost use Rattle.ase_write_judge.specs.scaffold.Parts.{nameFault, afterNameFault, start, afterNameBytes, RecordFits, RecordsFit};
+use ase::RowNumbers;
 use ase::WIDTH;
 use fields::Written;
 
 // The types of a block, as a run has them.
-const START: u32 = ase::START as u32;
+const START: u32 = ase::GROUP_START as u32;
 
-const STOP: u32 = ase::STOP as u32;
+const STOP: u32 = ase::GROUP_END as u32;
 
 // ---- storing
 
 // Where a name begins; 0 for a name of no units, whose place may be any.
-fn name_start(given: Numbers) -> usize
+fn name_start(given: RowNumbers) -> usize
     ensures { λ r. ⌜ r ≡ start (givenIn given) ⌝ }
 {
     if given.units == 0 {
@@ -37,7 +37,7 @@ fn name_start(given: Numbers) -> usize
 }
 
 // The name of a record.
-fn put_name(out: &mut [u8], at: usize, text: &[u8], given: Numbers)
+fn put_name(out: &mut [u8], at: usize, text: &[u8], given: RowNumbers)
     requires { ⌜ (at + nameSize (givenIn given) ≤ length (now out)) × (nameFault (now text) (givenIn given) ≡ 0) ⌝ }
     ensures { λ _. ⌜ now (out .exit) ≡ sets (now (out .entry)) at (nameBytes 2 (unitsIn (now (text .entry)) (givenIn given))) ⌝ }
 {
@@ -48,7 +48,7 @@ fn put_name(out: &mut [u8], at: usize, text: &[u8], given: Numbers)
 }
 
 // The n channels of a model: one, three or four.
-fn put_channels(out: &mut [u8], at: usize, n: usize, given: Numbers)
+fn put_channels(out: &mut [u8], at: usize, n: usize, given: RowNumbers)
     requires { ⌜ (at + 4 * n ≤ length (now out)) × (n ≡ channelsOf (given .model)) × (isModel (given .model) ≡ true) ⌝ }
     ensures { λ _. ⌜ now (out .exit) ≡ sets (now (out .entry)) at (joined (be 4) (channelsIn (givenIn given))) ⌝ }
 {
@@ -65,18 +65,18 @@ fn put_channels(out: &mut [u8], at: usize, n: usize, given: Numbers)
 }
 
 // The model, the channels and the type of a colour.
-fn put_shade(out: &mut [u8], at: usize, given: Numbers)
-    requires { ⌜ (at + 6 + 4 * channelsOf (given .model) ≤ length (now out)) × (shadeFault (givenIn given) ≡ 0) ⌝ }
-    ensures { λ _. ⌜ now (out .exit) ≡ sets (now (out .entry)) at (shadeBytes (givenIn given)) ⌝ }
+fn put_after_name(out: &mut [u8], at: usize, given: RowNumbers)
+    requires { ⌜ (at + 6 + 4 * channelsOf (given .model) ≤ length (now out)) × (afterNameFault (givenIn given) ≡ 0) ⌝ }
+    ensures { λ _. ⌜ now (out .exit) ≡ sets (now (out .entry)) at (afterNameBytes (givenIn given)) ⌝ }
 {
-    let n = ase_records::channels_of(given.model);
+    let n = ase_write_judge::channels_of(given.model);
     fields::put_u32(out, at, given.model);
     put_channels(out, at + 4, n, given);
     fields::put_u16(out, at + 4 + 4 * n, given.kind as u16);
 }
 
 // A record of `size` bytes.
-fn put_block(out: &mut [u8], at: usize, text: &[u8], size: usize, given: Numbers)
+fn put_block(out: &mut [u8], at: usize, text: &[u8], size: usize, given: RowNumbers)
     requires { ⌜ RecordFits (now text) (givenIn given) at (length (now out)) × (size ≡ sizeIn (givenIn given)) ⌝ }
     ensures { λ _. ⌜ now (out .exit) ≡ sets (now (out .entry)) at (blockBytes (blockIn (now (text .entry)) (givenIn given))) ⌝ }
 {
@@ -89,7 +89,7 @@ fn put_block(out: &mut [u8], at: usize, text: &[u8], size: usize, given: Numbers
     if given.block == START {
         return;
     }
-    put_shade(out, at + 10 + 2 * fields::wide(given.units), given);
+    put_after_name(out, at + 10 + 2 * fields::wide(given.units), given);
 }
 
 // The n records.
@@ -100,8 +100,8 @@ fn put_blocks(out: &mut [u8], at: usize, run: &[u32], text: &[u8], n: usize)
     let mut p = at;
     let mut i: usize = 0;
     while i < n {
-        let given = ase_records::record_at(run, i);
-        let size = ase_records::size_in(given);
+        let given = ase_write_judge::record_at(run, i);
+        let size = ase_write_judge::size_in(given);
         put_block(out, p, text, size, given);
         p += size;
         i += 1;
@@ -124,7 +124,7 @@ fn put_file(out: &mut [u8], run: &[u32], text: &[u8], n: usize)
 pub fn write(records: &[u32], text: &[u8], out: &mut [u8]) -> Written
     ensures { λ r. ⌜ (toldWritten r, now (out .exit)) ≡ written (now (text .entry)) (whole width taken (now (records .entry))) (now (out .entry)) ⌝ }
 {
-    match ase_records::write_length(records, text) {
+    match ase_write_judge::write_length(records, text) {
         Written::Refused(x) => Written::Refused(x),
         Written::Bytes(size) => {
             if out.len() < size {

@@ -9,23 +9,24 @@ use lib.Dec.{eqb}
 use lib.Ieee.{binary32, ofBits}
 use lib.Ieee.Scale.{finite}
 use borrow.Author.Tests.{lt-ltb, le-leb, ltb-true, leb-true, eqb-true}
+use Rattle.algebra.specs.Chars.{chars}
 use Rattle.algebra.specs.Reader.{pick}
 use Rattle.algebra.proofs.Floats.{finite-bits}
 use Rattle.colour.specs.declared.model.Model.{Model}
 use Rattle.colour.specs.declared.model.Model.the-variants.{Rgb, Cmyk, Lab, Gray}
-use Rattle.colour.specs.declared.model.Known.{Known}
-use Rattle.colour.specs.declared.model.Known.the-variants.{Is, Unknown}
+use Rattle.colour.specs.declared.model.KnownModel.{KnownModel}
+use Rattle.colour.specs.declared.model.KnownModel.the-variants.{Is, Unknown}
 use Rattle.colour.specs.Models.{traitsOf, modelOf, isKnown, isModel, channelsOf}
 use Rattle.colour.specs.Channels.{inUnit, allows, allowsIn, allowsBits}
 use Rattle.colour.proofs.Unit.{unit-minus, unit-finite, unit-leb}
 
 -- ---- the model with a tag
 
-pub data Tagged (t : ℕ) : Known → Type 0 where
+pub data Tagged (t : ℕ) : KnownModel → Type 0 where
   of : (m : Model) → t ≡ traitsOf m .tag → Tagged t (Is m)
   none : Tagged t Unknown
 
-tag-by : (t : ℕ) (m : Model) (b : Bool) → eqb t (traitsOf m .tag) ≡ b → (rest : Known) → Tagged t rest → Tagged t (pick b (Is m) rest)
+tag-by : (t : ℕ) (m : Model) (b : Bool) → eqb t (traitsOf m .tag) ≡ b → (rest : KnownModel) → Tagged t rest → Tagged t (pick b (Is m) rest)
 tag-by t m true e rest more = of m (eqb-true t (traitsOf m .tag) e)
 tag-by t m false e rest more = more
 
@@ -83,7 +84,7 @@ every Cmyk b e = e
 every Lab b e = unit-finite (ofBits binary32 b) e
 every Gray b e = e
 
-known-allows : (k : Known) (b : ℕ) → isKnown k ≡ true → inUnit (ofBits binary32 b) ≡ true → allowsIn k b ≡ true
+known-allows : (k : KnownModel) (b : ℕ) → isKnown k ≡ true → inUnit (ofBits binary32 b) ≡ true → allowsIn k b ≡ true
 known-allows (Is m) b h e = every m b e
 known-allows Unknown b h e = absurd (true≢false (sym h))
 
@@ -97,7 +98,7 @@ module _ (t : ℕ) where
   allows-minus h = known-allows (modelOf t) 0x8000_0000 h unit-minus
 
 -- in Lab any finite float
-pub allows-lab : (b : ℕ) → b % 0x8000_0000 < 0x7f80_0000 → allowsBits 0x4c41_4220 b ≡ true
+pub allows-lab : (b : ℕ) → b % 0x8000_0000 < 0x7f80_0000 → allowsBits (chars "LAB ") b ≡ true
 unfolding modelOf allowsBits
 allows-lab b h = finite-bits binary32 b ∙ lt-ltb (b % 0x8000_0000) 0x7f80_0000 h
 
@@ -106,7 +107,7 @@ lab-finite b e = ltb-true (b % 0x8000_0000) 0x7f80_0000 (sym (finite-bits binary
 
 -- what is allowed is from 0 to 1, minus zero, or in Lab finite
 abbrev pub ByBits : ℕ → ℕ → Type 0
-ByBits t b = (b ≤ 0x3f80_0000) ⊎ ((b ≡ 0x8000_0000) ⊎ ((t ≡ 0x4c41_4220) × (b % 0x8000_0000 < 0x7f80_0000)))
+ByBits t b = (b ≤ 0x3f80_0000) ⊎ ((b ≡ 0x8000_0000) ⊎ ((t ≡ chars "LAB ") × (b % 0x8000_0000 < 0x7f80_0000)))
 
 pub allows-inv : (t b : ℕ) → b < 2 ^ 32 → allowsBits t b ≡ true → ByBits t b
 unfolding allowsBits
@@ -115,7 +116,7 @@ allows-inv t b h e = go (modelOf t) (model-tagged t) e
     unit : inUnit (ofBits binary32 b) ≡ true → ByBits t b
     unit x = elim (unit-by b h x) [ inl y ↦ inl y | inr y ↦ inr (inl y) ]
 
-    go : (k : Known) → Tagged t k → allowsIn k b ≡ true → ByBits t b
+    go : (k : KnownModel) → Tagged t k → allowsIn k b ≡ true → ByBits t b
     go (Is Rgb) (of Rgb g) x = unit x
     go (Is Cmyk) (of Cmyk g) x = unit x
     go (Is Lab) (of Lab g) x = inr (inr (g, lab-finite b x))

@@ -7,8 +7,8 @@ use lib.Ieee.{Float, fin, binary32, le, ofBits, toBits}
 use lib.Ieee.Scale.{finite}
 use Rattle.algebra.specs.Reader.{pick}
 use Rattle.colour.specs.Models.{modelOf}
-use Rattle.colour.specs.declared.model.Known.{Known}
-use Rattle.colour.specs.declared.model.Known.the-variants.{Is, Unknown}
+use Rattle.colour.specs.declared.model.KnownModel.{KnownModel}
+use Rattle.colour.specs.declared.model.KnownModel.the-variants.{Is, Unknown}
 use Rattle.colour.specs.declared.model.Model.{Model}
 use Rattle.colour.specs.declared.model.Model.the-variants as model
 use Rattle.colour.specs.declared.channel.Channels.{Channels}
@@ -18,9 +18,16 @@ use Rattle.colour.specs.declared.channel.Made.the-variants as vm
 
 -- ---- which channels a model allows
 
+-- `fin` is a float by sign, mantissa and exponent: 0, and 1
+abbrev pub zeroFloat : Float
+zeroFloat = fin false 0 (pos 0)
+
+abbrev pub oneFloat : Float
+oneFloat = fin false 1 (pos 0)
+
 -- from 0 to 1: a NaN and the infinities are not, and minus zero is
 unfoldable pub inUnit : Float → Bool
-inUnit x = le (fin false 0 (pos 0)) x && le x (fin false 1 (pos 0))
+inUnit x = le zeroFloat x && le x oneFloat
 
 -- Lab's channels may be any finite float
 abbrev pub wide : Model → Bool
@@ -33,7 +40,7 @@ wide model.Gray = false
 abbrev pub allows : Model → Float → Bool
 allows m x = pick (wide m) (finite x) (inUnit x)
 
-abbrev pub allowsIn : Known → ℕ → Bool
+abbrev pub allowsIn : KnownModel → ℕ → Bool
 allowsIn (Is m) b = allows m (ofBits binary32 b)
 allowsIn Unknown b = false
 
@@ -69,7 +76,7 @@ abbrev pub made : Model → ℕ → ℕ → ℕ → ℕ → Made
 made m a b c d = pick (allowsAll m a b c d) (vm.Is (colourOf m a b c d)) (vm.Refused 5)
 
 -- the same of the model that a tag has; 4 where there is none
-abbrev pub madeIn : Known → ℕ → ℕ → ℕ → ℕ → Made
+abbrev pub madeIn : KnownModel → ℕ → ℕ → ℕ → ℕ → Made
 madeIn (Is m) a b c d = made m a b c d
 madeIn Unknown a b c d = vm.Refused 4
 

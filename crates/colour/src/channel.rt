@@ -5,7 +5,7 @@ ghost use lib.Ieee.Scale.{finite};
 ghost use Rattle.algebra.specs.Reader.{pick};
 ghost use Rattle.colour.specs.Models.{modelOf};
 ghost use Rattle.colour.specs.Channels.{inUnit, made, madeIn, bitsOf, modelIn};
-use crate::model::Known;
+use crate::model::KnownModel;
 use crate::model::Model;
 
 // The bits of one, of minus zero, of infinity, and of the NaN that is written for any.
@@ -102,8 +102,8 @@ impl Channels {
         ensures { λ r. ⌜ r ≡ madeIn (modelOf tag) a b c d ⌝ }
     {
         match Model::from_tag(tag) {
-            Known::Is(model) => Self::from_bits(model, a, b, c, d),
-            Known::Unknown => Made::Refused(4),
+            KnownModel::Is(model) => Self::from_bits(model, a, b, c, d),
+            KnownModel::Unknown => Made::Refused(4),
         }
     }
 

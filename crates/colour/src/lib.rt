@@ -11,7 +11,7 @@ pub use channel::bits_of;
 pub use channel::is_channel;
 pub use ink::Ink;
 pub use ink::KnownInk;
-pub use model::Known;
+pub use model::KnownModel;
 pub use model::Model;
 pub use model::Traits;
 pub use space::CMYK;

@@ -20,7 +20,7 @@ pub enum Model {
     Gray,
 }
 
-pub enum Known {
+pub enum KnownModel {
     Is(Model),
     Unknown,
 }
@@ -50,22 +50,22 @@ impl Model {
         full: 10000,
     };
 
-    pub fn from_tag(tag: u32) -> Known
+    pub fn from_tag(tag: u32) -> KnownModel
         ensures { λ r. ⌜ r ≡ modelOf tag ⌝ }
     {
         if tag == Self::RGB.tag {
-            return Known::Is(Model::Rgb);
+            return KnownModel::Is(Model::Rgb);
         }
         if tag == Self::CMYK.tag {
-            return Known::Is(Model::Cmyk);
+            return KnownModel::Is(Model::Cmyk);
         }
         if tag == Self::LAB.tag {
-            return Known::Is(Model::Lab);
+            return KnownModel::Is(Model::Lab);
         }
         if tag == Self::GRAY.tag {
-            return Known::Is(Model::Gray);
+            return KnownModel::Is(Model::Gray);
         }
-        Known::Unknown
+        KnownModel::Unknown
     }
 
     pub fn traits(self) -> Traits

@@ -6,13 +6,14 @@ use native.Mathlib.Decide.{ℕ-discrete}
 use native.Mathlib.Nat.{mul-zero}
 use borrow.Author.Tests.{ne-eqb}
 use lib.Ieee.{Float, binary32, ofBits}
+use Rattle.algebra.specs.Chars.{chars}
 use Rattle.colour.specs.Models.{modelOf}
 use Rattle.colour.specs.Spaces.{uses, full, known, ranged, allowed}
 use Rattle.colour.specs.Channels.{inUnit, allows}
 use Rattle.convert.specs.Scale.{channelOf, sampleOf, sampleOfBits}
 use Rattle.convert.specs.Convert.{Converted, gives, refused, unmatched, channelBy, toChannel, sampleOn, sampleBy, sampleIn, sampleFound, toSample}
 use Rattle.colour.specs.declared.model.Model.{Model}
-use Rattle.colour.specs.declared.model.Known.the-variants.{Unknown}
+use Rattle.colour.specs.declared.model.KnownModel.the-variants.{Unknown}
 use Rattle.colour.proofs.Laws.{small-leb}
 use Rattle.colour.proofs.Unit.{unit-leb}
 
@@ -61,9 +62,9 @@ given-in m x s e h = h ∙ ap (λ (t : Bool). sampleBy t m x) (sym e)
 pub same-tag : (t u b : ℕ) (s : Converted ℕ) → t ≡ u → s ≡ toSample u b → s ≡ toSample t b
 same-tag t u b s e h = h ∙ ap (λ (z : ℕ). toSample z b) (sym e)
 
-pub no-tag : (t b : ℕ) → (t ≡ 0x5247_4220 → ⊥) → (t ≡ 0x434d_594b → ⊥) → (t ≡ 0x4c41_4220 → ⊥) → (t ≡ 0x4772_6179 → ⊥) → sampleFound Unknown (ofBits binary32 b) ≡ toSample t b
+pub no-tag : (t b : ℕ) → (t ≡ chars "RGB " → ⊥) → (t ≡ chars "CMYK" → ⊥) → (t ≡ chars "LAB " → ⊥) → (t ≡ chars "Gray" → ⊥) → sampleFound Unknown (ofBits binary32 b) ≡ toSample t b
 unfolding modelOf
-no-tag t b p q r s = rw (ne-eqb t 0x5247_4220 p, ne-eqb t 0x434d_594b q, ne-eqb t 0x4c41_4220 r, ne-eqb t 0x4772_6179 s)
+no-tag t b p q r s = rw (ne-eqb t (chars "RGB ") p, ne-eqb t (chars "CMYK") q, ne-eqb t (chars "LAB ") r, ne-eqb t (chars "Gray") s)
 
 -- a channel from 0 to 1 by its bits: those of 1 or below, or minus zero's
 pub unit-sample : (n b : ℕ) → b < 2 ^ 32 → inUnit (ofBits binary32 b) ≡ true → sampleOfBits n b ≡ sampleOf n (ofBits binary32 b)

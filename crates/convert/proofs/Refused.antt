@@ -9,6 +9,7 @@ use native.Mathlib.Decide.{ℕ-discrete, decLe}
 use native.Mathlib.Nat.{lt-of-not-le}
 use lib.Ieee.{Float, binary32, ofBits}
 use lib.Ieee.Scale.{finite}
+use Rattle.algebra.specs.Chars.{chars}
 use Rattle.algebra.proofs.Floats.{finite-bits}
 use Rattle.colour.specs.declared.model.Model.the-variants as model
 use Rattle.colour.specs.Models.{modelOf}
@@ -62,7 +63,7 @@ tagged-refused rgb b e = ap (λ (z : Bool). sampleBy z model.Rgb (ofBits binary3
 tagged-refused cmyk b e = ap (λ (z : Bool). sampleBy z model.Cmyk (ofBits binary32 b)) e
 tagged-refused gray b e = ap (λ (z : Bool). sampleBy z model.Gray (ofBits binary32 b)) e
 
-lab-by : (b : ℕ) (z : Bool) → finite (ofBits binary32 b) ≡ z → toSample 0x4C41_4220 b ≡ sampleBy z model.Lab (ofBits binary32 b)
+lab-by : (b : ℕ) (z : Bool) → finite (ofBits binary32 b) ≡ z → toSample (chars "LAB ") b ≡ sampleBy z model.Lab (ofBits binary32 b)
 unfolding modelOf
 lab-by b z e = ap (λ (k : Bool). sampleBy k model.Lab (ofBits binary32 b)) e
 
@@ -70,7 +71,7 @@ lab-by b z e = ap (λ (k : Bool). sampleBy k model.Lab (ofBits binary32 b)) e
 pub channel-refused : {t b n : ℕ} → b < 2 ^ 32 → ChannelRefused t b n → toSample t b ≡ refused n 0
 unfolding modelOf
 channel-refused small (unknown {t} {b} u) =
-    rw (ne-eqb t 0x5247_4220 (u .no-rgb), ne-eqb t 0x434D_594B (u .no-cmyk), ne-eqb t 0x4C41_4220 (u .no-lab), ne-eqb t 0x4772_6179 (u .no-gray)) refl
+    rw (ne-eqb t (chars "RGB ") (u .no-rgb), ne-eqb t (chars "CMYK") (u .no-cmyk), ne-eqb t (chars "LAB ") (u .no-lab), ne-eqb t (chars "Gray") (u .no-gray)) refl
 channel-refused small (outside {t} {b} k h other) = tagged-refused k b (unit-no b small h other)
 channel-refused small (endless {b} h) = lab-by b false (finite-bits binary32 b ∙ le-ltb (b % 0x8000_0000) 0x7F80_0000 h)
 channel-refused small (lab {b} h) = lab-by b true (finite-bits binary32 b ∙ lt-ltb (b % 0x8000_0000) 0x7F80_0000 h)
@@ -115,17 +116,17 @@ tagged-said {t} k b = elim (decLe b 0x3F80_0000) [
   ]
 ]
 
-lab-said : (b : ℕ) → Said 0x4C41_4220 b
+lab-said : (b : ℕ) → Said (chars "LAB ") b
 lab-said b = elim (decLe 0x7F80_0000 (b % 0x8000_0000)) [ yes h ↦ inr (5, endless h) | no h ↦ inr (14, lab (lt-of-not-le h)) ]
 
 pub every-channel : (t b : ℕ) → ChannelGiven t b ⊎ ((n : ℕ) × ChannelRefused t b n)
-every-channel t b = elim (ℕ-discrete t 0x5247_4220) [
+every-channel t b = elim (ℕ-discrete t (chars "RGB ")) [
   | yes e ↦ subst (λ (z : ℕ). Said z b) (sym e) (tagged-said rgb b)
-  | no r ↦ elim (ℕ-discrete t 0x434D_594B) [
+  | no r ↦ elim (ℕ-discrete t (chars "CMYK")) [
     | yes e ↦ subst (λ (z : ℕ). Said z b) (sym e) (tagged-said cmyk b)
-    | no c ↦ elim (ℕ-discrete t 0x4C41_4220) [
+    | no c ↦ elim (ℕ-discrete t (chars "LAB ")) [
       | yes e ↦ subst (λ (z : ℕ). Said z b) (sym e) (lab-said b)
-      | no l ↦ elim (ℕ-discrete t 0x4772_6179) [
+      | no l ↦ elim (ℕ-discrete t (chars "Gray")) [
         | yes e ↦ subst (λ (z : ℕ). Said z b) (sym e) (tagged-said gray b)
         | no g ↦ inr (4, unknown (record { no-rgb = r; no-cmyk = c; no-lab = l; no-gray = g }))
       ]

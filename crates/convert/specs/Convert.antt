@@ -16,8 +16,8 @@ use Rattle.colour.specs.declared.channel.Channels.{Channels}
 use Rattle.colour.specs.declared.channel.Channels.the-variants as shade
 use Rattle.colour.specs.declared.channel.Made.{Made}
 use Rattle.colour.specs.declared.channel.Made.the-variants as vm
-use Rattle.colour.specs.declared.model.Known.{Known}
-use Rattle.colour.specs.declared.model.Known.the-variants.{Is, Unknown}
+use Rattle.colour.specs.declared.model.KnownModel.{KnownModel}
+use Rattle.colour.specs.declared.model.KnownModel.the-variants.{Is, Unknown}
 use Rattle.convert.specs.declared.Channel.{Channel}
 use Rattle.convert.specs.declared.Channel.the-variants as vc
 use Rattle.convert.specs.declared.Sample.{Sample}
@@ -59,7 +59,7 @@ abbrev pub sampleIn : Model → Float → Converted ℕ
 sampleIn m x = sampleBy (allows m x) m x
 
 -- before all that, 4 where no model has the tag
-abbrev pub sampleFound : Known → Float → Converted ℕ
+abbrev pub sampleFound : KnownModel → Float → Converted ℕ
 sampleFound (Is m) x = sampleIn m x
 sampleFound Unknown x = refused 4 0
 

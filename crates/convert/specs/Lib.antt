@@ -1,4 +1,4 @@
 pub mod Scale
 pub mod Convert
 pub mod Refusals
-pub mod Parts
+pub mod scaffold

@@ -1,6 +1,7 @@
 -- Which refusal a conversion gives, by spaces, tags and bits alone: nothing here converts, and the tables are its own.
 use Prim.Native.Nat.{ℕ, _%_, _≤_, _<_}
 use mathlib.Core.Path.{_≡_}
+use Rattle.algebra.specs.Chars.{chars}
 
 -- ---- a sample of a space
 
@@ -29,24 +30,24 @@ pub data SampleRefused : ℕ → ℕ → ℕ → Type 0 where
 
 -- the models that have a space: `RGB `, `CMYK`, `Gray`
 pub data Tagged : ℕ → Type 0 where
-  rgb : Tagged 0x5247_4220
-  cmyk : Tagged 0x434D_594B
-  gray : Tagged 0x4772_6179
+  rgb : Tagged (chars "RGB ")
+  cmyk : Tagged (chars "CMYK")
+  gray : Tagged (chars "Gray")
 
 -- a tag that is none of these and not `LAB `
 pub record UnknownModel (t : ℕ) : Type 0 where
-  pub no-rgb : t ≡ 0x5247_4220 → ⊥
-  pub no-cmyk : t ≡ 0x434D_594B → ⊥
-  pub no-lab : t ≡ 0x4C41_4220 → ⊥
-  pub no-gray : t ≡ 0x4772_6179 → ⊥
+  pub no-rgb : t ≡ chars "RGB " → ⊥
+  pub no-cmyk : t ≡ chars "CMYK" → ⊥
+  pub no-lab : t ≡ chars "LAB " → ⊥
+  pub no-gray : t ≡ chars "Gray" → ⊥
 
 -- a tag, the bits of a channel, and its refusal. Above 3F800000, which is 1, stand the floats above 1, the infinities, the NaNs and all that have a sign;
 -- of these only minus zero is from 0 to 1. Without the sign, an infinity and the NaNs stand from 7F800000 on
 pub data ChannelRefused : ℕ → ℕ → ℕ → Type 0 where
   unknown : {t b : ℕ} → UnknownModel t → ChannelRefused t b 4
   outside : {t b : ℕ} → Tagged t → 0x3F80_0000 < b → (b ≡ 0x8000_0000 → ⊥) → ChannelRefused t b 5
-  endless : {b : ℕ} → 0x7F80_0000 ≤ b % 0x8000_0000 → ChannelRefused 0x4C41_4220 b 5
-  lab : {b : ℕ} → b % 0x8000_0000 < 0x7F80_0000 → ChannelRefused 0x4C41_4220 b 14
+  endless : {b : ℕ} → 0x7F80_0000 ≤ b % 0x8000_0000 → ChannelRefused (chars "LAB ") b 5
+  lab : {b : ℕ} → b % 0x8000_0000 < 0x7F80_0000 → ChannelRefused (chars "LAB ") b 14
 
 -- a tag and the bits of a channel that has a sample
 pub data ChannelGiven : ℕ → ℕ → Type 0 where

@@ -2,7 +2,7 @@
 ghost use mathlib.Core.Path.{_≡_};
 ghost use Rattle.colour.specs.Models.{traitsOf};
 ghost use Rattle.colour.specs.declared.model.Model.the-variants.{Rgb, Gray};
-ghost use Rattle.convert.specs.Parts.{Full};
+ghost use Rattle.convert.specs.scaffold.Parts.{Full};
 ghost use Rattle.convert.specs.Scale.{channelOf, sampleOfBits};
 use colour::Model;
 

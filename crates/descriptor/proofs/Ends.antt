@@ -9,7 +9,7 @@ use borrow.Author.Tests.{eqb-false}
 use native.Mathlib.Omega.{arith}
 use Rattle.algebra.specs.Reader.{Res, ok, refuse, Reader, then, pick, field, body, rule, Judged, fine, fault, judged, each, done}
 use Rattle.algebra.proofs.Inverse.{field-inv, body-inv, judged-inv, clash, ok-value, ok-place, each-none, each-inv}
-use Rattle.descriptor.specs.Reading.{is, unknown, beside, skip, id, shut, closing, unicode, class, boolean, flag, bits, double, enumerated, run, unit, arrayUnit, unitDouble, Sort, leaf, list, object, reference, array, types, sortOf, forms, formOf, refValue, doubles, column}
+use Rattle.descriptor.specs.Reading.{is, unknown, beside, skip, id, shut, closing, unicode, class, boolean, flag, bits, double, enumerated, rawBytes, unit, arrayUnit, unitDouble, Sort, leaf, list, object, reference, array, types, sortOf, forms, formOf, refValue, doubles, column}
 
 -- what an answer that accepts says
 pub data Accepts {A : Type 0} (P : A → ℕ → Type 0) : Res A → Type 0 where
@@ -95,8 +95,8 @@ module _ (s : List ℕ) where
   unfolding enumerated
   enum-past at l = accepts-then (id s at) _ (id-past at l) (λ u q h. lower (at + 10) (q + 5) (omega (arith, h .low)) (id-past q (h .high)))
 
-  pub run-past : (at : ℕ) → at ≤ length s → Accepts (Past s (at + 4)) (run s at)
-  unfolding run
+  pub run-past : (at : ℕ) → at ≤ length s → Accepts (Past s (at + 4)) (rawBytes s at)
+  unfolding rawBytes
   run-past at l = accepts-then (field 4 s at) _ (field-past 4 at l) (λ n q h. lower (at + 4) (q + n) (omega (arith, h .low)) (skip-past n q (h .high)))
 
   pub unit-past : (at : ℕ) → at ≤ length s → Accepts (Past s (at + 12)) (unitDouble s at)
@@ -167,11 +167,11 @@ leaf-takes t p e =
             (
               takes-less 10 enumerated (omega arith) enum-past,
               (
-                takes-less 4 run (omega arith) run-past,
+                takes-less 4 rawBytes (omega arith) run-past,
                 (
-                  takes-less 4 run (omega arith) run-past,
+                  takes-less 4 rawBytes (omega arith) run-past,
                   (
-                    takes-less 4 run (omega arith) run-past,
+                    takes-less 4 rawBytes (omega arith) run-past,
                     (
                       takes-less 4 (skip 4) (omega arith) (λ s. skip-past s 4),
                       (

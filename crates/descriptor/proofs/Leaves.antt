@@ -7,10 +7,11 @@ use lib.Dec.{eqb}
 use lib.ListN.{length}
 use borrow.Author.Tests.{eqb-true}
 use native.Mathlib.Omega.{arith}
+use Rattle.algebra.specs.Chars.{chars}
 use Rattle.algebra.specs.Reader.{Res, ok, refuse, Reader, then, pick, field, judged}
 use Rattle.algebra.proofs.Inverse.{then-inv, judged-inv, unless-fine}
 use Rattle.descriptor.specs.Reading.{Known, is, unknown, known, beside, Sort, leaf, list, object, reference, array, sortOf, forms, formOf, id, class, Row, headed, plain, siblings, children, refValue, refItem, column, columnType, arrayPair, arrayOf, keyed, listOf, objectOf, valueOf, item, version, root, descriptor}
-use Rattle.descriptor.specs.Leaves.{Leafed}
+use Rattle.descriptor.specs.scaffold.Leaves.{Leafed}
 use Rattle.descriptor.proofs.Ends.{Accepts, yes, no, accepted, accepts, accepts-then}
 use Rattle.descriptor.proofs.Rows.{of-root}
 
@@ -121,7 +122,7 @@ module _ (s : List ℕ) where
       form t v (is r) x = headed-all t d p at v (plain (refValue r) s v) (λ rs q e. alien s t v (form-type t r x)) (plain-all (refValue r) v)
       form t v unknown x = no
 
-  column-alien : sortOf 0x556e_466c ≡ unknown
+  column-alien : sortOf (chars "UnFl") ≡ unknown
   unfolding sortOf
   column-alien = refl
 
@@ -130,7 +131,7 @@ module _ (s : List ℕ) where
   array-all m zero p k at = no
   array-all m (suc d) p k at =
       accepts-then (id s at) _ (any (id s at))
-      (λ u e h. accepts-then (judged 4 columnType s e) _ (accepts (judged 4 columnType s e) (λ t v x. eqb-true t 0x556e_466c (unless-fine (eqb t 0x556e_466c) _ (judged-inv 4 s e columnType x .3))))
+      (λ u e h. accepts-then (judged 4 columnType s e) _ (accepts (judged 4 columnType s e) (λ t v x. eqb-true t (chars "UnFl") (unless-fine (eqb t (chars "UnFl")) _ (judged-inv 4 s e columnType x .3))))
       (λ t v x. headed-all t d p at v (plain (column m) s v) (λ rs q y. alien s t v (ap sortOf x ∙ column-alien)) (plain-all (column m) v)))
 
   keyed-all : (f : ℕ → ℕ → ℕ → Reader (List Row)) → ((p k first at : ℕ) → Accepts All (f p k first s at)) → (d p k at : ℕ) → Accepts All (keyed f d p k s at)
@@ -166,7 +167,7 @@ module _ (s : List ℕ) where
       sorted ih t v (is x) e = value-all (item d) ih d t p k first v x e
       sorted ih t v unknown e = no
 
-  object-sorted : sortOf 0x4f62_6a63 ≡ is object
+  object-sorted : sortOf (chars "Objc") ≡ is object
   unfolding sortOf
   object-sorted = refl
 
@@ -174,7 +175,7 @@ module _ (s : List ℕ) where
   unfolding root
   root-all =
       accepts-then (judged 4 version s 0) _ (any (judged 4 version s 0))
-      (λ v e h. headed-all 0x4f62_6a63 32 0 0 e (objectOf (item 32) 32 0 s e) (λ rs q x. holder s 0x4f62_6a63 e object object-sorted (λ p. object-leaf)) (object-all (item 32) (item-all 32) 32 0 e))
+      (λ v e h. headed-all (chars "Objc") 32 0 0 e (objectOf (item 32) 32 0 s e) (λ rs q x. holder s (chars "Objc") e object object-sorted (λ p. object-leaf)) (object-all (item 32) (item-all 32) 32 0 e))
 
   pub rows-leafed : (rs : List Row) (q : ℕ) → descriptor s ≡ ok rs q → AllLeafed s rs
   rows-leafed rs q e = accepted root-all rs q (of-root s rs q e .1)

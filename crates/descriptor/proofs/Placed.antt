@@ -7,10 +7,11 @@ use lib.Dec.{leb, eqb}
 use lib.Ieee.{binary64, ofBits}
 use lib.Ieee.Scale.{finite}
 use native.Mathlib.Omega.{arith}
+use Rattle.algebra.specs.Chars.{chars}
 use Rattle.algebra.specs.Reader.{Res, Reader, refuse, pick, field, body, judged, each}
 use Rattle.algebra.specs.Refusal.{Of, among, Placed, ends, fails, Places}
 use Rattle.algebra.proofs.Placed.{unless-numbered, refusal-placed, placed-then, placed-rule, placed-done, field-placed, body-placed, judged-placed, ended-placed, each-placed, limited-placed}
-use Rattle.descriptor.specs.Reading.{Known, is, unknown, known, skip, id, shut, closing, unicode, class, boolean, flag, bits, double, enumerated, run, isUnit, isArrayUnit, unit, arrayUnit, unitDouble, Sort, leaf, list, object, reference, array, types, sortOf, forms, formOf, Row, headed, plain, siblings, children, refValue, refItem, doubles, column, columnType, arrayPair, arrayOf, keyed, objectOf, valueOf, item, version, root, whole, descriptor}
+use Rattle.descriptor.specs.Reading.{Known, is, unknown, known, skip, id, shut, closing, unicode, class, boolean, flag, bits, double, enumerated, rawBytes, isUnit, isArrayUnit, unit, arrayUnit, unitDouble, Sort, leaf, list, object, reference, array, types, sortOf, forms, formOf, Row, headed, plain, siblings, children, refValue, refItem, doubles, column, columnType, arrayPair, arrayOf, keyed, objectOf, valueOf, item, version, root, whole, descriptor}
 use Rattle.descriptor.specs.Refusals.{refusals}
 use Rattle.descriptor.proofs.Ends.{of-table as in-table}
 
@@ -45,8 +46,8 @@ enumerated-placed : Places refusals enumerated
 unfolding enumerated
 enumerated-placed s at l = placed-then (id s at) _ (id-placed s at l) (λ u q h. id-placed s q h)
 
-run-placed : Places refusals run
-unfolding run
+run-placed : Places refusals rawBytes
+unfolding rawBytes
 run-placed s at l = placed-then (field 4 s at) _ (field-placed (among refl) 4 at l) (λ n q h. skip-placed n s q h)
 
 unit-placed : Places refusals unitDouble
@@ -123,7 +124,7 @@ module _ {s : List ℕ} where
   column-pairs m zero p k at l = fails (among refl) l
   column-pairs m (suc d) p k at l =
       placed-then (id s at) _ (id-placed s at l)
-      (λ u e h. placed-then (judged 4 columnType s e) _ (judged-placed (among refl) 4 columnType e (λ t. unless-numbered (eqb t 0x556e_466c) (among refl)) h)
+      (λ u e h. placed-then (judged 4 columnType s e) _ (judged-placed (among refl) 4 columnType e (λ t. unless-numbered (eqb t (chars "UnFl")) (among refl)) h)
       (λ t v g. headed-placed t d p at v (plain (column m) s v) (plain-placed (column m) (column-placed m) v g)))
 
   pub array-placed : (d k at : ℕ) → at ≤ length s → Placed refusals s (arrayOf d k s at)
@@ -162,7 +163,7 @@ module _ {s : List ℕ} where
   whole-placed at l =
       placed-then (root s at) _
       (placed-then (judged 4 version s at) _ (judged-placed (among refl) 4 version at (λ v. unless-numbered (eqb v 16) (among refl)) l)
-      (λ v e h. headed-placed 0x4f62_6a63 32 0 at e (objectOf (item 32) 32 0 s e) (object-placed (item 32) (item-placed 32) 32 0 e h)))
+      (λ v e h. headed-placed (chars "Objc") 32 0 at e (objectOf (item 32) 32 0 s e) (object-placed (item 32) (item-placed 32) 32 0 e h)))
       (λ rs q g. ended-placed (among refl) rs q g)
 
 pub refused-placed : (s : List ℕ) {x p r f : ℕ} → descriptor s ≡ refuse x p r f → Of refusals x × (p ≤ length s)

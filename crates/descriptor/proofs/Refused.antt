@@ -7,6 +7,7 @@ use lib.ListN.{length}
 use lib.Ieee.{binary64}
 use borrow.Author.Tests.{lt-leb, le-ltb, ne-eqb}
 use native.Mathlib.Omega.{arith}
+use Rattle.algebra.specs.Chars.{chars}
 use Rattle.algebra.specs.Numbers.{num, nums, be, At}
 use Rattle.algebra.specs.Reader.{Reader, ok, refuse, field, Judged, fault, unless, judged}
 use Rattle.algebra.proofs.Laws.{field-in, body-in, judged-bad, judged-ok}
@@ -74,9 +75,9 @@ module _ (s : List ℕ) (at : ℕ) where
       rw (judged-ok 4 s at arrayUnit (sym (number-stands s at 4 small h)) (ap (λ (z : Bool). unless z 4) is)) (rw (number-refused s (at + 4) 4 (doubles m) few g (ap (λ (z : Bool). unless z 5) (ne-eqb n m other))))
 
   -- behind the key, which ends at e, a type other than `UnFl`: 4 at the type
-  pub column-type-refused : {t e : ℕ} (m d p k : ℕ) → id s at ≡ ok tt e → t < 256 ^ 4 → (t ≡ 0x556E_466C → ⊥) → At s e (be 4 t) → arrayPair m (suc d) p k s at ≡ refuse 4 e 0 0
+  pub column-type-refused : {t e : ℕ} (m d p k : ℕ) → id s at ≡ ok tt e → t < 256 ^ 4 → (t ≡ chars "UnFl" → ⊥) → At s e (be 4 t) → arrayPair m (suc d) p k s at ≡ refuse 4 e 0 0
   unfolding arrayPair
-  column-type-refused {t} {e} m d p k key small other h = rw key (rw (number-refused s e 4 columnType small h (ap (λ (z : Bool). unless z 4) (ne-eqb t 0x556e_466c other))))
+  column-type-refused {t} {e} m d p k key small other h = rw key (rw (number-refused s e 4 columnType small h (ap (λ (z : Bool). unless z 4) (ne-eqb t (chars "UnFl") other))))
 
   -- ---- a member with no level left: 10 at its first byte, whatever stands there, and where nothing does
 

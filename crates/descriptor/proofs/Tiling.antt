@@ -4,6 +4,7 @@ use mathlib.Core.Path.{_≡_, refl, sym, subst}
 use mathlib.Core.List.{List, [], _∷_, _++_, append-nil, append-assoc}
 use lib.ListN.{length, length-append}
 use native.Mathlib.Omega.{arith}
+use Rattle.algebra.specs.Chars.{chars}
 use Rattle.algebra.specs.Reader.{Res, Reader, field, judged}
 use Rattle.descriptor.specs.Reading.{Known, is, unknown, known, Sort, leaf, list, object, reference, array, sortOf, formOf, id, class, Row, headed, plain, siblings, children, refValue, refItem, referenceOf, column, columnType, arrayPair, arrayOf, keyed, listOf, objectOf, valueOf, item, version, root}
 use Rattle.descriptor.specs.Tiles.{Tiled, none, one, heads, sum, Fives, Ascending}
@@ -238,5 +239,5 @@ module _ (s : List ℕ) where
   unfolding root
   root-rows =
       accepts-then (judged 4 version s 0) _ (judged-past s 4 version 0 (omega arith))
-      (λ v e h. headed-rows 0x4f62_6a63 32 0 0 0 e (e + 13) (objectOf (item 32) 32 0 s e) (omega (arith, h .low)) (h .low) (omega arith)
+      (λ v e h. headed-rows (chars "Objc") 32 0 0 0 e (e + 13) (objectOf (item 32) 32 0 s e) (omega (arith, h .low)) (h .low) (omega arith)
       (object-kids 32 (item 32) (item-rows 32 (omega arith)) 0 e (h .high)))

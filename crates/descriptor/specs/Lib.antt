@@ -1,5 +1,4 @@
 pub mod Reading
-pub mod Answer
 pub mod Tiles
-pub mod Leaves
 pub mod Refusals
+pub mod scaffold

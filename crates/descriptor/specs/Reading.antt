@@ -7,6 +7,7 @@ use lib.Dec.{leb, eqb}
 use lib.ListN.{length}
 use lib.Ieee.{binary64, ofBits}
 use lib.Ieee.Scale.{finite}
+use Rattle.algebra.specs.Chars.{chars}
 use Rattle.algebra.specs.Reader.{Res, ok, refuse, Reader, then, pick, field, body, rule, Judged, unless, judged, give, _>>=_, each, ended, done, limit}
 use Rattle.algebra.specs.Refusal.{oneOf}
 
@@ -83,18 +84,18 @@ enumerated = do
   id
 
 -- a length and that many bytes
-unfoldable pub run : Reader Unit
-run = do
+unfoldable pub rawBytes : Reader Unit
+rawBytes = do
   n ← field 4
   skip n
 
 -- `#Ang`, `#Rsl`, `#Rlt`, `#Nne`, `#Prc`, `#Pxl`, `#Mlm`, `#Pnt`
 abbrev pub units : List ℕ
-units = 0x2341_6e67 ∷ 0x2352_736c ∷ 0x2352_6c74 ∷ 0x234e_6e65 ∷ 0x2350_7263 ∷ 0x2350_786c ∷ 0x234d_6c6d ∷ 0x2350_6e74 ∷ []
+units = chars "#Ang" ∷ chars "#Rsl" ∷ chars "#Rlt" ∷ chars "#Nne" ∷ chars "#Prc" ∷ chars "#Pxl" ∷ chars "#Mlm" ∷ chars "#Pnt" ∷ []
 
 -- those of object arrays: `#Rlt`, `#Prc`, `#Pxl`
 abbrev pub arrayUnits : List ℕ
-arrayUnits = 0x2352_6c74 ∷ 0x2350_7263 ∷ 0x2350_786c ∷ []
+arrayUnits = chars "#Rlt" ∷ chars "#Prc" ∷ chars "#Pxl" ∷ []
 
 unfoldable pub isUnit : ℕ → Bool
 isUnit u = oneOf units u
@@ -126,10 +127,10 @@ pub data Sort : Type 0 where
 -- `bool`, `type`, `GlbC`, `doub`, `enum`, `alis`, `Pth `, `tdta`, `long`, `comp`, `TEXT`, `UntF`; `VlLs`, `Objc`, `GlbO`, `obj `, `ObAr`
 abbrev pub types : List (ℕ × Sort)
 types =
-    (0x626f_6f6c, leaf flag) ∷ (0x7479_7065, leaf class) ∷ (0x476c_6243, leaf class) ∷ (0x646f_7562, leaf double) ∷ (0x656e_756d, leaf enumerated)
-    ∷ (0x616c_6973, leaf run) ∷ (0x5074_6820, leaf run) ∷ (0x7464_7461, leaf run) ∷ (0x6c6f_6e67, leaf (skip 4)) ∷ (0x636f_6d70, leaf (skip 8))
-    ∷ (0x5445_5854, leaf unicode) ∷ (0x556e_7446, leaf unitDouble)
-    ∷ (0x566c_4c73, list) ∷ (0x4f62_6a63, object) ∷ (0x476c_624f, object) ∷ (0x6f62_6a20, reference) ∷ (0x4f62_4172, array) ∷ []
+    (chars "bool", leaf flag) ∷ (chars "type", leaf class) ∷ (chars "GlbC", leaf class) ∷ (chars "doub", leaf double) ∷ (chars "enum", leaf enumerated)
+    ∷ (chars "alis", leaf rawBytes) ∷ (chars "Pth ", leaf rawBytes) ∷ (chars "tdta", leaf rawBytes) ∷ (chars "long", leaf (skip 4)) ∷ (chars "comp", leaf (skip 8))
+    ∷ (chars "TEXT", leaf unicode) ∷ (chars "UntF", leaf unitDouble)
+    ∷ (chars "VlLs", list) ∷ (chars "Objc", object) ∷ (chars "GlbO", object) ∷ (chars "obj ", reference) ∷ (chars "ObAr", array) ∷ []
 
 unfoldable pub sortOf : ℕ → Known Sort
 sortOf t = beside types t
@@ -137,8 +138,8 @@ sortOf t = beside types t
 -- what stands after a reference item's class: `Clss`, `Enmr`, `prop`, `name`, `Idnt`, `indx`, `rele`
 abbrev pub forms : List (ℕ × Reader Unit)
 forms =
-    (0x436c_7373, skip 0) ∷ (0x456e_6d72, enumerated) ∷ (0x7072_6f70, id) ∷ (0x6e61_6d65, unicode) ∷ (0x4964_6e74, skip 4)
-    ∷ (0x696e_6478, skip 4) ∷ (0x7265_6c65, skip 4) ∷ []
+    (chars "Clss", skip 0) ∷ (chars "Enmr", enumerated) ∷ (chars "prop", id) ∷ (chars "name", unicode) ∷ (chars "Idnt", skip 4)
+    ∷ (chars "indx", skip 4) ∷ (chars "rele", skip 4) ∷ []
 
 unfoldable pub formOf : ℕ → Known (Reader Unit)
 formOf t = beside forms t
@@ -207,7 +208,7 @@ column m = do
 
 -- `UnFl`, else 4
 abbrev pub columnType : ℕ → Judged
-columnType t = unless (eqb t 0x556e_466c) 4
+columnType t = unless (eqb t (chars "UnFl")) 4
 
 -- a key, `UnFl`, and its column
 unfoldable pub arrayPair : (objects left parent row : ℕ) → Reader (List Row)
@@ -268,7 +269,7 @@ version v = unless (eqb v 16) 3
 
 -- the version, and an object of which all 32 levels are left
 unfoldable pub root : Reader (List Row)
-root s at = then (judged 4 version s at) (λ v e. headed 0x4f62_6a63 32 0 at e (objectOf (item 32) 32 0 s e))
+root s at = then (judged 4 version s at) (λ v e. headed (chars "Objc") 32 0 at e (objectOf (item 32) 32 0 s e))
 
 unfoldable pub whole : Reader (List Row)
 whole = do

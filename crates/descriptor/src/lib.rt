@@ -9,12 +9,12 @@ ghost use Rattle.fields.specs.Answer.{toldStep};
 ghost use lib.Ieee.{binary64, ofBits};
 ghost use lib.Ieee.Scale.{finite};
 ghost use Rattle.algebra.specs.Reader.{done, each};
-ghost use Rattle.descriptor.specs.Reading.{id, unicode, class, flag, double, enumerated, run, isUnit, isArrayUnit, unitDouble, sortOf, formOf, refValue, column};
-ghost use Rattle.descriptor.specs.Answer.{endOf, begun, known, readerOf, counted};
+ghost use Rattle.descriptor.specs.Reading.{id, unicode, class, flag, double, enumerated, rawBytes, isUnit, isArrayUnit, unitDouble, sortOf, formOf, refValue, column};
+ghost use Rattle.descriptor.specs.scaffold.Answer.{endOf, begun, known, readerOf, counted};
+use fields::FieldEnd;
 use fields::Number8;
 use fields::Number32;
 use fields::Number64;
-use fields::Step;
 
 // The types of an item.
 pub const BOOL: u32 = 0x626f_6f6c;
@@ -117,11 +117,11 @@ const INFINITY: u64 = 0x7ff0_0000_0000_0000;
 const MINUS_ZERO: u64 = 0x8000_0000_0000_0000;
 
 // An ID: a length, and that many bytes, or 4 where it is 0.
-pub fn id_at(file: &[u8], at: usize) -> Step
+pub fn id_at(file: &[u8], at: usize) -> FieldEnd
     ensures { λ r. ⌜ toldStep r ≡ id (now (file .entry)) at ⌝ }
 {
     let Number32::Is(n, body) = fields::u32_at(file, at) else {
-        return Step::Refused(2, at);
+        return FieldEnd::Refused(2, at);
     };
     if n == 0 {
         return fields::run_at(file, body, 4);
@@ -130,51 +130,51 @@ pub fn id_at(file: &[u8], at: usize) -> Step
 }
 
 // A Unicode string: a count and the units, of which only the last is looked at.
-pub fn unicode_at(file: &[u8], at: usize) -> Step
+pub fn unicode_at(file: &[u8], at: usize) -> FieldEnd
     ensures { λ r. ⌜ toldStep r ≡ unicode (now (file .entry)) at ⌝ }
 {
     let Number32::Is(n, first) = fields::u32_at(file, at) else {
-        return Step::Refused(2, at);
+        return FieldEnd::Refused(2, at);
     };
     if n == 0 {
-        return Step::Next(first);
+        return FieldEnd::Next(first);
     }
     let k = 2 * (n as usize);
     if file.len() - first < k {
-        return Step::Refused(2, first);
+        return FieldEnd::Refused(2, first);
     }
     if fields::u16_or_zero(file, first + k - 2) != 0 {
-        return Step::Refused(8, at);
+        return FieldEnd::Refused(8, at);
     }
-    Step::Next(first + k)
+    FieldEnd::Next(first + k)
 }
 
 // A class: a Unicode string and an ID.
-pub fn class_at(file: &[u8], at: usize) -> Step
+pub fn class_at(file: &[u8], at: usize) -> FieldEnd
     ensures { λ r. ⌜ toldStep r ≡ class (now (file .entry)) at ⌝ }
 {
     match unicode_at(file, at) {
-        Step::Refused(x, p) => Step::Refused(x, p),
-        Step::Next(next) => id_at(file, next),
+        FieldEnd::Refused(x, p) => FieldEnd::Refused(x, p),
+        FieldEnd::Next(next) => id_at(file, next),
     }
 }
 
 // Two IDs.
-pub fn enumerated_at(file: &[u8], at: usize) -> Step
+pub fn enumerated_at(file: &[u8], at: usize) -> FieldEnd
     ensures { λ r. ⌜ toldStep r ≡ enumerated (now (file .entry)) at ⌝ }
 {
     match id_at(file, at) {
-        Step::Refused(x, p) => Step::Refused(x, p),
-        Step::Next(next) => id_at(file, next),
+        FieldEnd::Refused(x, p) => FieldEnd::Refused(x, p),
+        FieldEnd::Next(next) => id_at(file, next),
     }
 }
 
 // A length and that many bytes.
-pub fn bytes_at(file: &[u8], at: usize) -> Step
-    ensures { λ r. ⌜ toldStep r ≡ run (now (file .entry)) at ⌝ }
+pub fn bytes_at(file: &[u8], at: usize) -> FieldEnd
+    ensures { λ r. ⌜ toldStep r ≡ rawBytes (now (file .entry)) at ⌝ }
 {
     let Number32::Is(n, body) = fields::u32_at(file, at) else {
-        return Step::Refused(2, at);
+        return FieldEnd::Refused(2, at);
     };
     fields::run_at(file, body, n as usize)
 }
@@ -200,16 +200,16 @@ pub fn is_array_unit(tag: u32) -> bool
 }
 
 // A `bool`: 0 or 1.
-pub fn flag_at(file: &[u8], at: usize) -> Step
+pub fn flag_at(file: &[u8], at: usize) -> FieldEnd
     ensures { λ r. ⌜ toldStep r ≡ flag (now (file .entry)) at ⌝ }
 {
     let Number8::Is(v, next) = fields::u8_at(file, at) else {
-        return Step::Refused(2, at);
+        return FieldEnd::Refused(2, at);
     };
     if 1 < v {
-        return Step::Refused(5, at);
+        return FieldEnd::Refused(5, at);
     }
-    Step::Next(next)
+    FieldEnd::Next(next)
 }
 
 // Whether the double with these bits is finite.
@@ -220,38 +220,38 @@ fn is_finite(bits: u64) -> bool
 }
 
 // A finite double.
-pub fn double_at(file: &[u8], at: usize) -> Step
+pub fn double_at(file: &[u8], at: usize) -> FieldEnd
     ensures { λ r. ⌜ toldStep r ≡ double (now (file .entry)) at ⌝ }
 {
     let Number64::Is(bits, next) = fields::u64_at(file, at) else {
-        return Step::Refused(2, at);
+        return FieldEnd::Refused(2, at);
     };
     if is_finite(bits) {
-        return Step::Next(next);
+        return FieldEnd::Next(next);
     }
-    Step::Refused(5, at)
+    FieldEnd::Refused(5, at)
 }
 
 // A unit and a double.
-pub fn unit_double_at(file: &[u8], at: usize) -> Step
+pub fn unit_double_at(file: &[u8], at: usize) -> FieldEnd
     ensures { λ r. ⌜ toldStep r ≡ unitDouble (now (file .entry)) at ⌝ }
 {
     let Number32::Is(unit, next) = fields::u32_at(file, at) else {
-        return Step::Refused(2, at);
+        return FieldEnd::Refused(2, at);
     };
     if is_unit(unit) {
         return double_at(file, next);
     }
-    Step::Refused(4, at)
+    FieldEnd::Refused(4, at)
 }
 
 // A field's end as the end of a value.
-fn ending(step: Step) -> Value
+fn ending(step: FieldEnd) -> Value
     ensures { λ r. ⌜ r ≡ endOf (toldStep step) ⌝ }
 {
     match step {
-        Step::Next(next) => Value::Ends(next),
-        Step::Refused(x, p) => Value::Refused(x, p),
+        FieldEnd::Next(next) => Value::Ends(next),
+        FieldEnd::Refused(x, p) => Value::Refused(x, p),
     }
 }
 
@@ -293,7 +293,7 @@ pub fn form_of(kind: u32) -> KnownForm
 }
 
 // What stands after a reference item's class.
-fn form_at(file: &[u8], form: Form, at: usize) -> Step
+fn form_at(file: &[u8], form: Form, at: usize) -> FieldEnd
     ensures { λ r. ⌜ toldStep r ≡ readerOf form (now (file .entry)) at ⌝ }
 {
     match form {
@@ -306,59 +306,59 @@ fn form_at(file: &[u8], form: Form, at: usize) -> Step
 }
 
 // What stands after a reference item's form: a class, and what the form says.
-pub fn ref_value_at(file: &[u8], form: Form, at: usize) -> Step
+pub fn ref_value_at(file: &[u8], form: Form, at: usize) -> FieldEnd
     ensures { λ r. ⌜ toldStep r ≡ refValue (readerOf form) (now (file .entry)) at ⌝ }
 {
     match class_at(file, at) {
-        Step::Refused(x, p) => Step::Refused(x, p),
-        Step::Next(next) => form_at(file, form, next),
+        FieldEnd::Refused(x, p) => FieldEnd::Refused(x, p),
+        FieldEnd::Next(next) => form_at(file, form, next),
     }
 }
 
 // ---- object arrays
 
 // n doubles.
-fn doubles_at(file: &[u8], at: usize, n: u32) -> Step
+fn doubles_at(file: &[u8], at: usize, n: u32) -> FieldEnd
     ensures { λ r. ⌜ toldStep r ≡ done (each n 0 (λ i. double) (now (file .entry)) at) ⌝ }
 {
     let mut p = at;
     let mut i: u32 = 0;
     while i < n {
         match double_at(file, p) {
-            Step::Refused(x, q) => {
-                return Step::Refused(x, q);
+            FieldEnd::Refused(x, q) => {
+                return FieldEnd::Refused(x, q);
             }
-            Step::Next(next) => {
+            FieldEnd::Next(next) => {
                 p = next;
             }
         }
         i += 1;
     }
-    Step::Next(p)
+    FieldEnd::Next(p)
 }
 
 // As many doubles as there are objects, after their count.
-fn counted_at(file: &[u8], objects: u32, at: usize) -> Step
+fn counted_at(file: &[u8], objects: u32, at: usize) -> FieldEnd
     ensures { λ r. ⌜ toldStep r ≡ counted objects (now (file .entry)) at ⌝ }
 {
     let Number32::Is(n, next) = fields::u32_at(file, at) else {
-        return Step::Refused(2, at);
+        return FieldEnd::Refused(2, at);
     };
     if n == objects {
         return doubles_at(file, next, n);
     }
-    Step::Refused(5, at)
+    FieldEnd::Refused(5, at)
 }
 
 // What stands after `UnFl`: a unit, and as many doubles as there are objects.
-pub fn column_at(file: &[u8], objects: u32, at: usize) -> Step
+pub fn column_at(file: &[u8], objects: u32, at: usize) -> FieldEnd
     ensures { λ r. ⌜ toldStep r ≡ column objects (now (file .entry)) at ⌝ }
 {
     let Number32::Is(unit, next) = fields::u32_at(file, at) else {
-        return Step::Refused(2, at);
+        return FieldEnd::Refused(2, at);
     };
     if is_array_unit(unit) {
         return counted_at(file, objects, next);
     }
-    Step::Refused(4, at)
+    FieldEnd::Refused(4, at)
 }

@@ -7,7 +7,7 @@ use Rattle.descriptor.specs.Reading.{Row}
 use Rattle.descriptor_heads.specs.Heads.{Head}
 use Rattle.descriptor_heads.specs.Rows.{nowUnder, rowsFrom}
 use Rattle.descriptor_columns.specs.Columns.{nextOf, nextsFrom, depthsOf, columnsOf, valuesOf}
-use Rattle.descriptor_columns.specs.Filling.{Entry, firstIn, lengthIn, nextIn, depthIn, kindIn, valueIn, depths, column}
+use Rattle.descriptor_columns.specs.scaffold.Filling.{Entry, firstIn, lengthIn, nextIn, depthIn, kindIn, valueIn, depths, column}
 
 module _ (e : ℕ) where
   pub count-given : (k : ℕ) (up : ℕ → ℕ) (hs : List Head) → length (rowsFrom e k up hs) ≡ length hs

@@ -5,7 +5,7 @@ use mathlib.Core.List.{List, [], _∷_}
 use lib.ListN.{length, set, getD}
 use lib.Seq.{getD-set-same, getD-set-other}
 use native.Mathlib.Omega.{arith}
-use Rattle.descriptor_columns.specs.Filling.{dues}
+use Rattle.descriptor_columns.specs.scaffold.Filling.{dues}
 use Rattle.descriptor_columns.specs.declared.Level.{Level}
 
 abbrev pub level : ℕ → ℕ → ℕ → ℕ → ℕ → Level

@@ -22,7 +22,7 @@ use Rattle.descriptor_raw.specs.Raw.{dueOf, Sees}
 use Rattle.descriptor_raw.specs.declared.RawHead.{RawHead}
 use Rattle.descriptor_columns.specs.Columns.{columnsOf, valuesOf}
 use Rattle.descriptor_columns.specs.Filled.{fits, answered, onto, filled, Read, valued}
-use Rattle.descriptor_columns.specs.Filling.{Entry, firstIn, lengthIn, nextIn, depthIn, kindIn, valueIn, mark, puts, shuts, whole, column, headsIn, Begun, behind, rest, Done, Rooted, stored, Whole}
+use Rattle.descriptor_columns.specs.scaffold.Filling.{Entry, firstIn, lengthIn, nextIn, depthIn, kindIn, valueIn, mark, puts, shuts, whole, column, headsIn, Begun, behind, rest, Done, Rooted, stored, Whole}
 use Rattle.descriptor_columns.proofs.Stores.{puts-column}
 use Rattle.descriptor_columns.proofs.Given.{count-given, firsts-given, lengths-given, depths-given, kinds-given, values-given, nexts-given}
 

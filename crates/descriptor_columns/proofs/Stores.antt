@@ -7,7 +7,7 @@ use lib.Seq.{sets, sets-eq, set-comm}
 use native.Mathlib.Omega.{arith}
 use Rattle.descriptor_heads.specs.Heads.{Head}
 use Rattle.descriptor_heads.proofs.Tiles.{end-deeper}
-use Rattle.descriptor_columns.specs.Filling.{Entry, lengthIn, nextIn, column, mark, opens, puts, shuts, whole}
+use Rattle.descriptor_columns.specs.scaffold.Filling.{Entry, lengthIn, nextIn, column, mark, opens, puts, shuts, whole}
 use Rattle.descriptor_columns.specs.declared.Level.{Level}
 use Rattle.descriptor_columns.proofs.Walking.{next-deeper}
 

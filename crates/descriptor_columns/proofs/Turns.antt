@@ -12,7 +12,7 @@ use Rattle.descriptor_heads.specs.Rows.{rowEnd}
 use Rattle.descriptor_raw.specs.Raw.{dueOf, Sees}
 use Rattle.descriptor_raw.specs.declared.RawHead.{RawHead}
 use Rattle.descriptor_columns.specs.Columns.{nextOf}
-use Rattle.descriptor_columns.specs.Filling.{firstIn, lengthIn, nextIn, depthIn, kindIn, depths, mark, dues, opens, puts, shuts, whole, Begun, rest, Done}
+use Rattle.descriptor_columns.specs.scaffold.Filling.{firstIn, lengthIn, nextIn, depthIn, kindIn, depths, mark, dues, opens, puts, shuts, whole, Begun, rest, Done}
 use Rattle.descriptor_columns.specs.declared.Level.{Level}
 use Rattle.descriptor_columns.proofs.Levels.{level, nothing, levels, levels-length, levels-push, levels-pop, dues-length}
 use Rattle.descriptor_columns.proofs.Stores.{Before, before-more, length-skips, next-skips, put-head, put-none, put-open, put-shut, shut-none}

@@ -12,7 +12,7 @@ use Rattle.algebra.specs.Reader.{pick}
 use Rattle.descriptor_columns.specs.Columns.{parentOf, parentsFrom, parentsOf}
 use Rattle.descriptor_judge.specs.Answer.{Verdict, accepted, refused}
 use Rattle.descriptor_columns.specs.Filled.{fits, onto, parented}
-use Rattle.descriptor_columns.specs.Parents.{back, parentAt, Parented}
+use Rattle.descriptor_columns.specs.scaffold.Parents.{back, parentAt, Parented}
 use Rattle.descriptor_columns.proofs.Room.{room-no, room-on}
 
 pub back-length : (ds : List ℕ) (i : ℕ) → length (back ds i) ≡ i

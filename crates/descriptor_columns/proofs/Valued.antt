@@ -7,7 +7,7 @@ use native.Mathlib.Omega.{arith}
 use Rattle.descriptor_heads.specs.Heads.{Head, memberHead}
 use Rattle.descriptor_raw.specs.Raw.{dueOf, Sees}
 use Rattle.descriptor_raw.specs.declared.RawHead.{RawHead}
-use Rattle.descriptor_columns.specs.Filling.{valueIn, dues, puts, Begun, rest}
+use Rattle.descriptor_columns.specs.scaffold.Filling.{valueIn, dues, puts, Begun, rest}
 use Rattle.descriptor_columns.specs.declared.Level.{Level}
 use Rattle.descriptor_columns.proofs.Levels.{level, nothing, levels, levels-length, levels-push, levels-pop, dues-length}
 use Rattle.descriptor_columns.proofs.Stores.{put-head, put-none}

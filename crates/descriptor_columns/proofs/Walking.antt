@@ -17,7 +17,7 @@ use Rattle.descriptor_heads.proofs.Tiles.{end-here}
 use Rattle.descriptor_raw.specs.Raw.{dueOf, Sees}
 use Rattle.descriptor_raw.specs.declared.RawHead.{RawHead}
 use Rattle.descriptor_columns.specs.Columns.{nextOf}
-use Rattle.descriptor_columns.specs.Filling.{depths, headsIn, Begun, behind, rest}
+use Rattle.descriptor_columns.specs.scaffold.Filling.{depths, headsIn, Begun, behind, rest}
 
 -- ---- stacks
 

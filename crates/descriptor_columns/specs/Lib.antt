@@ -1,4 +1,3 @@
 pub mod Columns
 pub mod Filled
-pub mod Filling
-pub mod Parents
+pub mod scaffold

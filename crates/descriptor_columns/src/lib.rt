@@ -14,8 +14,8 @@ ghost use Rattle.descriptor.specs.Reading.{descriptor};
 ghost use Rattle.descriptor_judge.specs.Answer.{told};
 ghost use Rattle.descriptor_columns.specs.Columns.{parentsOf};
 ghost use Rattle.descriptor_columns.specs.Filled.{answered, Read, valued, parented, fits, onto};
-ghost use Rattle.descriptor_columns.specs.Filling.{Begun, Done, Rooted, Whole, rest, puts, valueIn};
-ghost use Rattle.descriptor_columns.specs.Parents.{Parented, parentAt};
+ghost use Rattle.descriptor_columns.specs.scaffold.Filling.{Begun, Done, Rooted, Whole, rest, puts, valueIn};
+ghost use Rattle.descriptor_columns.specs.scaffold.Parents.{Parented, parentAt};
 use descriptor_judge::Answer;
 
 // A level that is open: what its members are and how many are left, the row in which they stand, and

@@ -2,6 +2,7 @@
 use Prim.Native.Nat.{ℕ}
 use mathlib.Core.Path.{_≡_, refl}
 use mathlib.Core.List.{List, [], _∷_}
+use Rattle.algebra.specs.Chars.{chars}
 use Rattle.algebra.specs.Numbers.{num, nums}
 use Rattle.algebra.specs.Reader.{ok, field, body, until, ended}
 use Rattle.descriptor.specs.Reading.{id, shut, unicode, class, flag, sortOf, Row}
@@ -16,9 +17,9 @@ p12 =
 
 abbrev four : List Opened
 four =
-    record { head = record { kind = 0x4f62_6a63; first = 0; depth = 0; value = 4 }; below = pairs; count = 1 }
-    ∷ record { head = record { kind = 0x566c_4c73; first = 17; depth = 1; value = 26 }; below = items; count = 2 }
-    ∷ bare 0x626f_6f6c 30 2 34 ∷ bare 0x626f_6f6c 35 2 39 ∷ []
+    record { head = record { kind = chars "Objc"; first = 0; depth = 0; value = 4 }; below = pairs; count = 1 }
+    ∷ record { head = record { kind = chars "VlLs"; first = 17; depth = 1; value = 26 }; below = items; count = 2 }
+    ∷ bare (chars "bool") 30 2 34 ∷ bare (chars "bool") 35 2 39 ∷ []
 
 pub four-heads : fileHeads p12 ≡ ok four 40
 unfolding fileHeads wholeHeads rootHead until headAt memberHead itemHead id unicode class flag sortOf field body num nums shut ended
@@ -37,8 +38,8 @@ turned-heads = refl
 
 abbrev four-rows : List Row
 four-rows =
-    record { kind = 0x4f62_6a63; parent = 0; first = 0; size = 40; depth = 0; value = 4 } ∷ record { kind = 0x566c_4c73; parent = 0; first = 17; size = 23; depth = 1; value = 26 }
-    ∷ record { kind = 0x626f_6f6c; parent = 1; first = 30; size = 5; depth = 2; value = 34 } ∷ record { kind = 0x626f_6f6c; parent = 1; first = 35; size = 5; depth = 2; value = 39 } ∷ []
+    record { kind = chars "Objc"; parent = 0; first = 0; size = 40; depth = 0; value = 4 } ∷ record { kind = chars "VlLs"; parent = 0; first = 17; size = 23; depth = 1; value = 26 }
+    ∷ record { kind = chars "bool"; parent = 1; first = 30; size = 5; depth = 2; value = 34 } ∷ record { kind = chars "bool"; parent = 1; first = 35; size = 5; depth = 2; value = 39 } ∷ []
 
 pub rows-of-four : rowsOf 40 four ≡ four-rows
 unfolding rowEnd rowsFrom

@@ -5,11 +5,12 @@ use mathlib.Core.List.{List, [], _∷_}
 use mathlib.Core.Bool.{Bool, true, false}
 use lib.Dec.{leb, eqb}
 use lib.ListN.{length}
+use Rattle.algebra.specs.Chars.{chars}
 use Rattle.algebra.specs.Reader.{Res, ok, refuse, Reader, then, pick, field, body, rule, Judged, fine, fault, judged, give, _>>=_, each, done}
 use Rattle.algebra.specs.Algebra.{Same, Lawful}
 use Rattle.algebra.proofs.Inverse.{clash, then-inv, done-inv, ok-place}
 use Rattle.algebra.proofs.Lawful.{judged-lawful, body-lawful, give-lawful, bind-lawful, each-lawful}
-use Rattle.descriptor.specs.Reading.{Known, is, unknown, known, passing, skip, id, shut, closing, unicode, class, boolean, flag, bits, double, enumerated, run, unit, arrayUnit, unitDouble, Sort, leaf, list, object, reference, array, types, sortOf, forms, formOf, refValue, doubles, column, columnType, version}
+use Rattle.descriptor.specs.Reading.{Known, is, unknown, known, passing, skip, id, shut, closing, unicode, class, boolean, flag, bits, double, enumerated, rawBytes, unit, arrayUnit, unitDouble, Sort, leaf, list, object, reference, array, types, sortOf, forms, formOf, refValue, doubles, column, columnType, version}
 use Rattle.descriptor.proofs.Ends.{of-table}
 use Rattle.descriptor_heads.specs.Heads.{Due, items, pairs, forms as formsDue, columns, Opened, bare, opens, itemHead, memberHead, deepest, headAt, Stack, over, nextHead, after, rootHead}
 
@@ -91,8 +92,8 @@ enum-lawful : Lawful enumerated
 unfolding enumerated
 enum-lawful = bind-lawful id _ id-lawful (λ u. id-lawful)
 
-run-lawful : Lawful run
-unfolding run
+run-lawful : Lawful rawBytes
+unfolding rawBytes
 run-lawful = bind-lawful (field 4) _ (field-lawful 4) skip-lawful
 
 unit-lawful : Lawful unitDouble
@@ -181,12 +182,12 @@ next-lawful [] = record { moves = λ s at le b q e. clash e; local = λ s at le 
 next-lawful (x ∷ st) = head-lawful (suc (length st)) (x .0)
 
 abbrev rooted : (first v : ℕ) → Reader Opened
-rooted first v s at = then (class s at) (λ c p. then (field 4 s p) (λ n q. ok (opened 0x4f62_6a63 first 0 v (pairs, n)) q))
+rooted first v s at = then (class s at) (λ c p. then (field 4 s p) (λ n q. ok (opened (chars "Objc") first 0 v (pairs, n)) q))
 
 rooted-lawful : (first v : ℕ) → Lawful (rooted first v)
 rooted-lawful first v =
-    bind-lawful class (λ c s p. then (field 4 s p) (λ n q. ok (opened 0x4f62_6a63 first 0 v (pairs, n)) q)) class-lawful
-    (λ c. bind-lawful (field 4) (λ n. give (opened 0x4f62_6a63 first 0 v (pairs, n))) (field-lawful 4) (λ n. give-lawful (opened 0x4f62_6a63 first 0 v (pairs, n))))
+    bind-lawful class (λ c s p. then (field 4 s p) (λ n q. ok (opened (chars "Objc") first 0 v (pairs, n)) q)) class-lawful
+    (λ c. bind-lawful (field 4) (λ n. give (opened (chars "Objc") first 0 v (pairs, n))) (field-lawful 4) (λ n. give-lawful (opened (chars "Objc") first 0 v (pairs, n))))
 
 pub root-lawful : Lawful rootHead
 unfolding rootHead

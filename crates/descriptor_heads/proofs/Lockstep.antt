@@ -7,6 +7,7 @@ use lib.Dec.{leb}
 use lib.ListN.{length, getD}
 use borrow.Author.Tests.{le-leb}
 use native.Mathlib.Omega.{arith}
+use Rattle.algebra.specs.Chars.{chars}
 use Rattle.algebra.specs.Reader.{Res, ok, refuse, then, pick, field, judged, until, many, mapRes, limit}
 use Rattle.algebra.specs.Algebra.{Same}
 use Rattle.algebra.specs.Refusal.{Of, among}
@@ -182,7 +183,7 @@ file-inv f os q e =
     let c = ended-inv (a .0 ∷ b .0) f (b .1) (b .3) in
     record { o = a .0; r = a .1; more = b .0; head = a .2; rest = b .2 ∙ ap (λ (k : ℕ). ok (b .0) k) (c .0); all = c .1 }
 
-root-kind : (f : List ℕ) (o : Opened) (r : ℕ) → rootHead f 0 ≡ ok o r → o .head .kind ≡ 0x4f62_6a63
+root-kind : (f : List ℕ) (o : Opened) (r : ℕ) → rootHead f 0 ≡ ok o r → o .head .kind ≡ chars "Objc"
 unfolding rootHead
 root-kind f o r e =
     let a = then-inv (judged 4 version f 0) _ e in
@@ -190,7 +191,7 @@ root-kind f o r e =
     let c = then-inv (field 4 f (b .1)) _ (b .3) in
     ap (λ (y : Opened). y .head .kind) (sym (ok-value (c .3)))
 
-no-root : Of scalars 0x4f62_6a63 → ⊥
+no-root : Of scalars (chars "Objc") → ⊥
 no-root (among e) = let z : _≡_ {A = ℕ} 0 1 = cc in omega arith
 
 -- two accepted files that differ in the value of one such row have the same heads

@@ -7,6 +7,7 @@ use lib.Dec.{leb, eqb}
 use lib.ListN.{length}
 use borrow.Author.Tests.{eqb-true}
 use native.Mathlib.Omega.{arith}
+use Rattle.algebra.specs.Chars.{chars}
 use Rattle.algebra.specs.Reader.{Res, ok, refuse, Reader, then, pick, field, body, Judged, fine, fault, unless, judged}
 use Rattle.algebra.specs.Algebra.{Same}
 use Rattle.algebra.specs.Refusal.{Of}
@@ -50,7 +51,7 @@ pub record Scalar (t : ℕ) : Type 0 where
   pub type : sortOf t ≡ is (leaf value)
   pub wide : Wide width value
   pub form : formOf t ≡ unknown
-  pub other : eqb t 0x556e_466c ≡ false
+  pub other : eqb t (chars "UnFl") ≡ false
 
 pub scalar : {t : ℕ} → Of scalars t → Scalar t
 unfolding sortOf formOf
@@ -158,7 +159,7 @@ member-agrees s u d (columns m) at o o′ q q′ le e f k same =
     let y = then-inv (judged 4 columnType s (x .1)) _ (x .3) in
     let z = then-inv (column m s (y .1)) _ (y .3) in
     let t : o .head .kind ≡ y .0 = ap (λ (w : Opened). w .head .kind) (sym (ok-value (z .3))) in
-    absurd (not-column (eqb (y .0) 0x556e_466c) (judged-inv 4 s (x .1) columnType (y .2) .3) (ap (λ (w : ℕ). eqb w 0x556e_466c) (sym t) ∙ scalar k .other))
+    absurd (not-column (eqb (y .0) (chars "UnFl")) (judged-inv 4 s (x .1) columnType (y .2) .3) (ap (λ (w : ℕ). eqb w (chars "UnFl")) (sym t) ∙ scalar k .other))
   where
     not-column : (b : Bool) → unless b 4 ≡ fine → b ≡ false → ⊥
     not-column true h g = let z : _≡_ {A = ℕ} 0 1 = cc in omega arith

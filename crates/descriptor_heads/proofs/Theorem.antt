@@ -6,6 +6,7 @@ use mathlib.Core.Bool.{Bool, true, false}
 use lib.Dec.{leb, eqb}
 use lib.ListN.{length}
 use native.Mathlib.Omega.{arith}
+use Rattle.algebra.specs.Chars.{chars}
 use Rattle.algebra.specs.Reader.{Res, ok, refuse, Reader, then, pick, field, judged, many, ended, mapRes, limit}
 use Rattle.descriptor.specs.Reading.{Row, class, siblings, children, keyed, item, objectOf, headed, version, root, whole, descriptor}
 use Rattle.descriptor.proofs.Ends.{Accepts, yes, no, Past}
@@ -19,7 +20,7 @@ use Rattle.descriptor_heads.proofs.Under.{headOf, marks, under, heads-u
 
 -- the root's head
 abbrev opening : ℕ → ℕ → ℕ → Res Opened
-opening v n q = ok (record { head = record { kind = 0x4f62_6a63; first = 0; depth = 0; value = v }; below = pairs; count = n }) q
+opening v n q = ok (record { head = record { kind = chars "Objc"; first = 0; depth = 0; value = v }; below = pairs; count = n }) q
 
 module _ (s : List ℕ) where
   -- the root: its head, and its pairs under a stack of one level
@@ -27,17 +28,17 @@ module _ (s : List ℕ) where
   unfolding root rootHead objectOf children
   rooted = go (judged 4 version s 0)
     where
-      counted : (v : ℕ) (m : Res ℕ) → headed 0x4f62_6a63 32 0 0 v (then m (λ n q. siblings (keyed (item 32) 32 0) n (0 + 1) s q))
+      counted : (v : ℕ) (m : Res ℕ) → headed (chars "Objc") 32 0 0 v (then m (λ n q. siblings (keyed (item 32) 32 0) n (0 + 1) s q))
           ≡ then (then m (λ n q. opening v n q)) (λ h q. then (siblings (member (h .below) 32 0) (h .count) 1 s q) (λ rs e. ok (rowAt (h .head) 0 e ∷ rs) e))
       counted v (ok n q) = refl
       counted v (refuse x y r f) = refl
 
-      classed : (v : ℕ) (m : Res Unit) → headed 0x4f62_6a63 32 0 0 v (then m (λ u c. then (field 4 s c) (λ n q. siblings (keyed (item 32) 32 0) n (0 + 1) s q)))
+      classed : (v : ℕ) (m : Res Unit) → headed (chars "Objc") 32 0 0 v (then m (λ u c. then (field 4 s c) (λ n q. siblings (keyed (item 32) 32 0) n (0 + 1) s q)))
           ≡ then (then m (λ u c. then (field 4 s c) (λ n q. opening v n q))) (λ h q. then (siblings (member (h .below) 32 0) (h .count) 1 s q) (λ rs e. ok (rowAt (h .head) 0 e ∷ rs) e))
       classed v (ok u c) = counted v (field 4 s c)
       classed v (refuse x y r f) = refl
 
-      go : (m : Res ℕ) → then m (λ v e. headed 0x4f62_6a63 32 0 0 e (objectOf (item 32) 32 0 s e))
+      go : (m : Res ℕ) → then m (λ v e. headed (chars "Objc") 32 0 0 e (objectOf (item 32) 32 0 s e))
           ≡ then (then m (λ v e. then (class s e) (λ u c. then (field 4 s c) (λ n q. opening e n q)))) (λ h q. then (siblings (member (h .below) 32 0) (h .count) 1 s q) (λ rs e. ok (rowAt (h .head) 0 e ∷ rs) e))
       go (ok v e) = classed e (class s e)
       go (refuse x y r f) = refl

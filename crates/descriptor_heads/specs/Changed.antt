@@ -3,12 +3,13 @@ use Prim.Native.Nat.{ℕ, _+_, _≤_, _<_}
 use mathlib.Core.Path.{_≡_}
 use mathlib.Core.List.{List, [], _∷_}
 use lib.ListN.{length, getD}
+use Rattle.algebra.specs.Chars.{chars}
 use Rattle.algebra.specs.Refusal.{Of}
 use Rattle.descriptor.specs.Reading.{Row}
 
 -- the kinds whose value has one length, whatever it is: `bool`, `long`, `comp`, `doub`, `UntF`
 abbrev pub scalars : List ℕ
-scalars = 0x626f_6f6c ∷ 0x6c6f_6e67 ∷ 0x636f_6d70 ∷ 0x646f_7562 ∷ 0x556e_7446 ∷ []
+scalars = chars "bool" ∷ chars "long" ∷ chars "comp" ∷ chars "doub" ∷ chars "UntF" ∷ []
 
 -- a row, and rows among which it is
 pub data OneOf (r : Row) : List Row → Type 0 where

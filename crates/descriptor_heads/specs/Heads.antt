@@ -5,6 +5,7 @@ use mathlib.Core.List.{List, [], _∷_}
 use mathlib.Core.Bool.{true, false}
 use lib.Dec.{leb}
 use lib.ListN.{length}
+use Rattle.algebra.specs.Chars.{chars}
 use Rattle.algebra.specs.Reader.{Res, ok, refuse, Reader, then, pick, field, judged, give, _>>=_, Test, many, ended, limit}
 use Rattle.descriptor.specs.Reading.{known, id, class, Sort, leaf, list, object, reference, array, sortOf, formOf, refValue, column, columnType, version}
 
@@ -114,7 +115,7 @@ rootHead s at =
     then (judged 4 version s at) (λ u e.
     then (class s e) (λ c p.
     then (field 4 s p) (λ n q.
-    ok (record { head = record { kind = 0x4f62_6a63; first = at; depth = 0; value = e }; below = pairs; count = n }) q)))
+    ok (record { head = record { kind = chars "Objc"; first = at; depth = 0; value = e }; below = pairs; count = n }) q)))
 
 -- the root's head, and heads until no member is due, to the file's end
 unfoldable pub wholeHeads : Reader (List Opened)

@@ -7,10 +7,10 @@ use native.Mathlib.Omega.{arith}
 use lib.ListN.{length, length-append}
 use Rattle.algebra.specs.Reader.{Res, ok, refuse, Reader, then, field, judged}
 use Rattle.descriptor.specs.Reading.{Known, is, unknown, known, Sort, leaf, list, object, reference, array, sortOf, formOf, id, class, Row, headed, plain, siblings, children, refValue, refItem, column, columnType, arrayPair, arrayOf, Items, keyed, objectOf, valueOf, item}
-use Rattle.descriptor_judge.specs.Cycle.{memberOf}
-use Rattle.descriptor_judge.specs.Counting.{walked}
-use Rattle.descriptor_judge.specs.declared.Walk.{Walk}
-use Rattle.descriptor_judge.specs.declared.Walk.the-variants as vw
+use Rattle.descriptor_judge.specs.scaffold.Cycle.{memberOf}
+use Rattle.descriptor_judge.specs.scaffold.Counting.{walked}
+use Rattle.descriptor_judge.specs.declared.RowsEnd.{RowsEnd}
+use Rattle.descriptor_judge.specs.declared.RowsEnd.the-variants as vw
 
 -- as many rows up to the same place, or the same refusal
 pub data Alike : Res (List Row) → Res (List Row) → Type 0 where

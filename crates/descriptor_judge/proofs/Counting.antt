@@ -15,10 +15,10 @@ use Rattle.descriptor.specs.Refusals.{refusals}
 use Rattle.descriptor.proofs.Ends.{Accepts, yes, accepted}
 use Rattle.descriptor.proofs.Tiling.{Reach, list-reach, object-reach, reference-reach, array-reach}
 use Rattle.descriptor.proofs.Placed.{children-placed, ref-placed, array-placed, object-placed, item-placed}
-use Rattle.descriptor_judge.specs.declared.Walk.{Walk}
-use Rattle.descriptor_judge.specs.declared.Walk.the-variants as vw
-use Rattle.descriptor_judge.specs.Cycle.{holderOf, heldOf}
-use Rattle.descriptor_judge.specs.Counting.{walked, single, ownToo, Small, packed, carried, Within}
+use Rattle.descriptor_judge.specs.declared.RowsEnd.{RowsEnd}
+use Rattle.descriptor_judge.specs.declared.RowsEnd.the-variants as vw
+use Rattle.descriptor_judge.specs.scaffold.Cycle.{holderOf, heldOf}
+use Rattle.descriptor_judge.specs.scaffold.Counting.{walked, single, ownToo, Small, packed, carried, Within}
 use Rattle.descriptor_judge.proofs.Alike.{Alike, alike-walked, Free, alike-siblings}
 
 -- ---- answers
@@ -74,7 +74,7 @@ walked-small : (s : List ℕ) (lo : ℕ) (m : Res (List Row)) → length s ≤ 1
 walked-small s lo (ok rs q) l (ends a) (yes b r w) = (omega arith, omega (arith, w .low))
 walked-small s lo (refuse x p r f) l (fails t a) w = (omega arith, omega (arith, few x t))
 
-module _ {s : List ℕ} {d at : ℕ} (here : Within s d at at) {w : Walk} where
+module _ {s : List ℕ} {d at : ℕ} (here : Within s d at at) {w : RowsEnd} where
   pub holder-small : (b : Bool) → w ≡ walked (holderOf b d 0 s at) → Small w
   holder-small true e =
       subst Small (sym e) (walked-small s at _ (here .size) (object-placed (item d) (item-placed d) d 0 at (here .inside)) (object-reach s d 0 at (here .levels) (here .inside)))
@@ -88,15 +88,15 @@ module _ {s : List ℕ} {d at : ℕ} (here : Within s d at at) {w : Walk} where
 -- ---- siblings
 
 -- rows, and those of an answer
-abbrev pub add : ℕ → Walk → Walk
+abbrev pub add : ℕ → RowsEnd → RowsEnd
 add n (vw.Next q k) = vw.Next q (n + k)
 add n (vw.Refused x p) = vw.Refused x p
 
-add-none : (w : Walk) → w ≡ add 0 w
+add-none : (w : RowsEnd) → w ≡ add 0 w
 add-none (vw.Next q k) = let z : k ≡ 0 + k = omega arith in ap (λ (n : ℕ). vw.Next q n) z
 add-none (vw.Refused x p) = refl
 
-add-add : (n m : ℕ) (w : Walk) → add n (add m w) ≡ add (n + m) w
+add-add : (n m : ℕ) (w : RowsEnd) → add n (add m w) ≡ add (n + m) w
 add-add n m (vw.Next q k) = let z : n + (m + k) ≡ n + m + k = omega arith in ap (λ (n : ℕ). vw.Next q n) z
 add-add n m (vw.Refused x p) = refl
 
@@ -133,7 +133,7 @@ module _ (f : ℕ → Reader (List Row)) (s : List ℕ) (n at₀ : ℕ) where
     pub all-read : n ≤ i → vw.Next next rows ≡ walked (siblings f n 1 s at₀)
     all-read h = sym (g .rest ∙ ap (λ (m : Res (List Row)). add rows (walked m)) (no-more i next h) ∙ ap (λ (k : ℕ). vw.Next next k) (add-zero rows))
 
-    module _ (free : Free s f f) (h : i < n) {w : Walk} (e : w ≡ walked (f 0 s next)) where
+    module _ (free : Free s f f) (h : i < n) {w : RowsEnd} (e : w ≡ walked (f 0 s next)) where
       -- what the sibling is, by any row number
       sibling : walked (f 1 s next) ≡ w
       sibling = alike-walked (free 1 0 next) ∙ sym e

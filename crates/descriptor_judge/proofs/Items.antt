@@ -6,18 +6,18 @@ use mathlib.Core.Bool.{Bool}
 use Rattle.algebra.specs.Reader.{ok, refuse, field}
 use Rattle.descriptor.specs.declared.Value.the-variants as vv
 use Rattle.descriptor.specs.Reading.{is, unknown, class, Sort, leaf, sortOf, siblings, valueOf, item}
-use Rattle.descriptor.specs.Answer.{begun}
+use Rattle.descriptor.specs.scaffold.Answer.{begun}
 use Rattle.descriptor.proofs.Fields.{then-no, then-to}
-use Rattle.descriptor_judge.specs.declared.Walk.{Walk}
-use Rattle.descriptor_judge.specs.declared.Walk.the-variants as vw
-use Rattle.descriptor_judge.specs.Cycle.{optional, memberOf, holderOf}
-use Rattle.descriptor_judge.specs.Counting.{walked, ownToo}
+use Rattle.descriptor_judge.specs.declared.RowsEnd.{RowsEnd}
+use Rattle.descriptor_judge.specs.declared.RowsEnd.the-variants as vw
+use Rattle.descriptor_judge.specs.scaffold.Cycle.{optional, memberOf, holderOf}
+use Rattle.descriptor_judge.specs.scaffold.Counting.{walked, ownToo}
 use Rattle.descriptor_judge.proofs.Steps.{NonZero, begun-ends, begun-no, begun-unknown, item-sort, children-short, children-is, holder-is}
 use Rattle.descriptor_judge.proofs.Counting.{walked-no, walked-headed}
 
 module _ (first : ℕ) (s : List ℕ) (at left : ℕ) {t v : ℕ} (z : NonZero left) (e : ok t v ≡ field 4 s at) where
   -- members below the item, counted by w
-  pub item-holds : (sort : Sort) → sortOf t ≡ is sort → {w : Walk} → w ≡ walked (valueOf (item (left - 1)) (left - 1) 0 sort s v) → ownToo w ≡ walked (item left 0 0 first s at)
+  pub item-holds : (sort : Sort) → sortOf t ≡ is sort → {w : RowsEnd} → w ≡ walked (valueOf (item (left - 1)) (left - 1) 0 sort s v) → ownToo w ≡ walked (item left 0 0 first s at)
   item-holds sort h x =
       ap ownToo x ∙ walked-headed t (left - 1) 0 first v (valueOf (item (left - 1)) (left - 1) 0 sort s v) ∙ sym (ap walked (item-sort 0 0 first s at left t v z e (is sort) h))
 
@@ -34,5 +34,5 @@ module _ (b : Bool) (d : ℕ) (s : List ℕ) (at : ℕ) {q : ℕ} (e : optional 
   pub holder-short : refuse 2 q 0 0 ≡ field 4 s q → vw.Refused 2 q ≡ walked (holderOf b d 0 s at)
   holder-short x = walked-no (holder-is d 0 s at b e ∙ children-short (memberOf b d 0) 0 s q x)
 
-  pub holder-counts : {n r : ℕ} → ok n r ≡ field 4 s q → {w : Walk} → w ≡ walked (siblings (memberOf b d 0) n 1 s r) → w ≡ walked (holderOf b d 0 s at)
+  pub holder-counts : {n r : ℕ} → ok n r ≡ field 4 s q → {w : RowsEnd} → w ≡ walked (siblings (memberOf b d 0) n 1 s r) → w ≡ walked (holderOf b d 0 s at)
   holder-counts x h = h ∙ sym (ap walked (holder-is d 0 s at b e ∙ children-is (memberOf b d 0) 0 s q _ _ x))

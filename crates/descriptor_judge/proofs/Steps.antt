@@ -6,17 +6,18 @@ use mathlib.Core.Bool.{Bool, true, false}
 use lib.ListN.{length}
 use borrow.Author.Tests.{eq-eqb, ne-eqb}
 use native.Mathlib.Omega.{arith}
+use Rattle.algebra.specs.Chars.{chars}
 use Rattle.algebra.specs.Reader.{Res, ok, refuse, Reader, then, field, unless, judged}
 use Rattle.algebra.proofs.Laws.{judged-short, judged-bad, judged-ok}
 use Rattle.algebra.proofs.Inverse.{clash}
 use Rattle.descriptor.specs.declared.Value.{Value}
 use Rattle.descriptor.specs.declared.Value.the-variants as vv
 use Rattle.descriptor.specs.Reading.{Known, is, unknown, known, Sort, leaf, list, object, reference, array, sortOf, formOf, id, class, Row, headed, plain, siblings, children, refValue, refItem, column, columnType, arrayPair, arrayOf, keyed, objectOf, valueOf, item, pair, version, root}
-use Rattle.descriptor.specs.Answer.{endOf, begun}
+use Rattle.descriptor.specs.scaffold.Answer.{endOf, begun}
 use Rattle.descriptor.proofs.Fields.{then-no, then-to}
 use Rattle.descriptor.proofs.Ends.{Accepts, yes, Past, lower, id-past, class-past}
 use Rattle.descriptor.proofs.Tiling.{Rows, keyed-rows, item-rows}
-use Rattle.descriptor_judge.specs.Cycle.{optional, memberOf, holderOf}
+use Rattle.descriptor_judge.specs.scaffold.Cycle.{optional, memberOf, holderOf}
 
 -- a place or a number that cannot be another
 abbrev pub NonZero : ℕ → Type 0
@@ -162,15 +163,15 @@ module _ (p k : ℕ) (s : List ℕ) (at : ℕ) where
     pub array-short : (left e : ℕ) → NonZero left → id s at ≡ ok tt e → refuse 2 e 0 0 ≡ field 4 s e → arrayPair m left p k s at ≡ refuse 2 e 0 0
     array-short left e z h x = array-typed left e z h ∙ then-no (judged 4 columnType s e) _ (judged-short 4 s e columnType x)
 
-    pub array-other : (left e t v : ℕ) → NonZero left → id s at ≡ ok tt e → ok t v ≡ field 4 s e → (t ≡ 0x556e_466c → ⊥) → arrayPair m left p k s at ≡ refuse 4 e 0 0
+    pub array-other : (left e t v : ℕ) → NonZero left → id s at ≡ ok tt e → ok t v ≡ field 4 s e → (t ≡ chars "UnFl" → ⊥) → arrayPair m left p k s at ≡ refuse 4 e 0 0
     array-other left e t v z h x y =
         array-typed left e z h
-        ∙ then-no (judged 4 columnType s e) _ (judged-bad 4 s e columnType 4 0 0 x (ap (λ (b : Bool). unless b 4) (ne-eqb t 0x556e_466c y)))
+        ∙ then-no (judged 4 columnType s e) _ (judged-bad 4 s e columnType 4 0 0 x (ap (λ (b : Bool). unless b 4) (ne-eqb t (chars "UnFl") y)))
 
-    pub array-is : (left e t v : ℕ) → NonZero left → id s at ≡ ok tt e → ok t v ≡ field 4 s e → t ≡ 0x556e_466c → arrayPair m left p k s at ≡ headed t (left - 1) p at v (plain (column m) s v)
+    pub array-is : (left e t v : ℕ) → NonZero left → id s at ≡ ok tt e → ok t v ≡ field 4 s e → t ≡ chars "UnFl" → arrayPair m left p k s at ≡ headed t (left - 1) p at v (plain (column m) s v)
     array-is left e t v z h x y =
         array-typed left e z h
-        ∙ then-to (judged 4 columnType s e) _ (judged-ok 4 s e columnType x (ap (λ (b : Bool). unless b 4) (eq-eqb t 0x556e_466c y)))
+        ∙ then-to (judged 4 columnType s e) _ (judged-ok 4 s e columnType x (ap (λ (b : Bool). unless b 4) (eq-eqb t (chars "UnFl") y)))
 
   pub pair-deep : (left : ℕ) → left ≡ 0 → pair left p k s at ≡ refuse 10 at 0 0
   unfolding keyed
@@ -281,6 +282,6 @@ module _ (s : List ℕ) (at : ℕ) where
   unfolding root
   root-other {v} e h = then-no (judged 4 version s at) _ (judged-bad 4 s at version 3 0 0 e (ap (λ (b : Bool). unless b 3) (ne-eqb v 16 h)))
 
-  pub root-is : {v q : ℕ} → ok v q ≡ field 4 s at → v ≡ 16 → root s at ≡ headed 0x4f62_6a63 32 0 at q (objectOf (item 32) 32 0 s q)
+  pub root-is : {v q : ℕ} → ok v q ≡ field 4 s at → v ≡ 16 → root s at ≡ headed (chars "Objc") 32 0 at q (objectOf (item 32) 32 0 s q)
   unfolding root
   root-is {v} e h = then-to (judged 4 version s at) _ (judged-ok 4 s at version e (ap (λ (b : Bool). unless b 3) (eq-eqb v 16 h)))

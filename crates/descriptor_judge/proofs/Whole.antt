@@ -8,9 +8,10 @@ use lib.ListN.{length}
 use borrow.Author.Tests.{le-leb, lt-leb}
 use Rattle.algebra.specs.Reader.{Res, ok, refuse, then, pick, ended, limit}
 use Rattle.descriptor.specs.Reading.{Row, root, whole, descriptor}
-use Rattle.descriptor_judge.specs.declared.Walk.{Walk}
-use Rattle.descriptor_judge.specs.Counting.{walked}
-use Rattle.descriptor_judge.specs.Answer.{accepted, refused, verdict, closing}
+use Rattle.descriptor_judge.specs.declared.RowsEnd.{RowsEnd}
+use Rattle.descriptor_judge.specs.scaffold.Counting.{walked}
+use Rattle.descriptor_judge.specs.Answer.{accepted, refused, verdict}
+use Rattle.descriptor_judge.specs.scaffold.Answer.{closing}
 
 pub too-long : (s : List ℕ) → limit < length s → descriptor s ≡ refuse 1 0 0 0
 unfolding descriptor
@@ -25,6 +26,6 @@ closing-whole s (ok rs q) = go (eqb q (length s))
     go false = refl
 closing-whole s (refuse x p r f) = refl
 
-pub of-walk : (s : List ℕ) (w : Walk) → length s ≤ limit → w ≡ walked (root s 0) → closing (length s) w ≡ verdict (descriptor s)
+pub of-walk : (s : List ℕ) (w : RowsEnd) → length s ≤ limit → w ≡ walked (root s 0) → closing (length s) w ≡ verdict (descriptor s)
 unfolding descriptor whole
 of-walk s w h e = ap (closing (length s)) e ∙ closing-whole s (root s 0) ∙ rw (le-leb _ _ h)

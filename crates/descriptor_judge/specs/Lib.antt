@@ -1,3 +1,2 @@
 pub mod Answer
-pub mod Cycle
-pub mod Counting
+pub mod scaffold

@@ -12,13 +12,14 @@ ghost use Prim.Native.Nat.{_≤_, _<_};
 ghost use lib.ListN.{length};
 ghost use Rattle.fields.specs.Answer.{toldStep};
 ghost use Rattle.descriptor.specs.Reading.{id, class, children, refItem, referenceOf, arrayPair, arrayOf, item, objectOf, root, descriptor};
-ghost use Rattle.descriptor_judge.specs.Answer.{verdict, told, closing};
-ghost use Rattle.descriptor_judge.specs.Cycle.{optional, memberOf, holderOf, heldOf};
-ghost use Rattle.descriptor_judge.specs.Counting.{walked, single, carried, ownToo, Small, Within};
+ghost use Rattle.descriptor_judge.specs.Answer.{verdict, told};
+ghost use Rattle.descriptor_judge.specs.scaffold.Answer.{closing};
+ghost use Rattle.descriptor_judge.specs.scaffold.Cycle.{optional, memberOf, holderOf, heldOf};
+ghost use Rattle.descriptor_judge.specs.scaffold.Counting.{walked, single, carried, ownToo, Small, Within};
 use descriptor::KnownForm;
 use descriptor::Value;
+use fields::FieldEnd;
 use fields::Number32;
-use fields::Step;
 
 // The longest file that is read.
 pub const LIMIT: usize = 16777216;
@@ -30,7 +31,7 @@ pub enum Answer {
 }
 
 // The next place and how many rows were read; or a refusal.
-enum Walk {
+enum RowsEnd {
     Next(usize, usize),
     Refused(u32, usize),
 }
@@ -40,72 +41,72 @@ enum Walk {
 
 fn next_in(place: usize, rows: usize) -> u64
     requires { ⌜ (place < 0x1_0000_0000) × (rows < 0x8000_0000) ⌝ }
-    ensures { λ r. ⌜ carried r ≡ Walk.Next place rows ⌝ }
+    ensures { λ r. ⌜ carried r ≡ RowsEnd.Next place rows ⌝ }
 {
     (rows as u64) * 0x1_0000_0000 + (place as u64)
 }
 
 fn refused_in(number: u32, place: usize) -> u64
     requires { ⌜ (place < 0x1_0000_0000) × (number < 0x8000_0000) ⌝ }
-    ensures { λ r. ⌜ carried r ≡ Walk.Refused number place ⌝ }
+    ensures { λ r. ⌜ carried r ≡ RowsEnd.Refused number place ⌝ }
 {
     0x8000_0000_0000_0000 + (number as u64) * 0x1_0000_0000 + (place as u64)
 }
 
-fn carry(walk: Walk) -> u64
+fn carry(walk: RowsEnd) -> u64
     requires { ⌜ Small walk ⌝ }
     ensures { λ r. ⌜ carried r ≡ walk ⌝ }
 {
     match walk {
-        Walk::Next(place, rows) => next_in(place, rows),
-        Walk::Refused(number, place) => refused_in(number, place),
+        RowsEnd::Next(place, rows) => next_in(place, rows),
+        RowsEnd::Refused(number, place) => refused_in(number, place),
     }
 }
 
 // The answer that a number carries, of the rows below a row: with that row.
-fn with_own(n: u64) -> Walk
+fn with_own(n: u64) -> RowsEnd
     ensures { λ r. ⌜ r ≡ ownToo (carried n) ⌝ }
 {
     let low = (n % 0x1_0000_0000) as usize;
     if 0x8000_0000_0000_0000 <= n {
-        return Walk::Refused(((n - 0x8000_0000_0000_0000) / 0x1_0000_0000) as u32, low);
+        return RowsEnd::Refused(((n - 0x8000_0000_0000_0000) / 0x1_0000_0000) as u32, low);
     }
-    Walk::Next(low, (n / 0x1_0000_0000) as usize + 1)
+    RowsEnd::Next(low, (n / 0x1_0000_0000) as usize + 1)
 }
 
 // ---- members that hold no items
 
 // The reference item at `at`: one row.
-fn ref_item(file: &[u8], left: usize, at: usize) -> Step
+fn ref_item(file: &[u8], left: usize, at: usize) -> FieldEnd
     ensures { λ r. ⌜ single (toldStep r) ≡ walked (refItem left 0 0 (now (file .entry)) at) ⌝ }
 {
     if left == 0 {
-        return Step::Refused(10, at);
+        return FieldEnd::Refused(10, at);
     }
     let Number32::Is(kind, value) = fields::u32_at(file, at) else {
-        return Step::Refused(2, at);
+        return FieldEnd::Refused(2, at);
     };
     let KnownForm::Is(form) = descriptor::form_of(kind) else {
-        return Step::Refused(4, at);
+        return FieldEnd::Refused(4, at);
     };
     descriptor::ref_value_at(file, form, value)
 }
 
 // The pair of an object array at `at`: one row.
-fn array_pair(file: &[u8], objects: u32, left: usize, at: usize) -> Step
+fn array_pair(file: &[u8], objects: u32, left: usize, at: usize) -> FieldEnd
     ensures { λ r. ⌜ single (toldStep r) ≡ walked (arrayPair objects left 0 0 (now (file .entry)) at) ⌝ }
 {
     if left == 0 {
-        return Step::Refused(10, at);
+        return FieldEnd::Refused(10, at);
     }
     match descriptor::id_at(file, at) {
-        Step::Refused(x, p) => Step::Refused(x, p),
-        Step::Next(key) => {
+        FieldEnd::Refused(x, p) => FieldEnd::Refused(x, p),
+        FieldEnd::Next(key) => {
             let Number32::Is(kind, value) = fields::u32_at(file, key) else {
-                return Step::Refused(2, key);
+                return FieldEnd::Refused(2, key);
             };
             if kind != descriptor::COLUMN {
-                return Step::Refused(4, key);
+                return FieldEnd::Refused(4, key);
             }
             descriptor::column_at(file, objects, value)
         }
@@ -115,64 +116,64 @@ fn array_pair(file: &[u8], objects: u32, left: usize, at: usize) -> Step
 // ---- members of a row with `left` levels below it
 
 // The items of a reference, from their count on.
-fn reference(file: &[u8], left: usize, at: usize) -> Walk
+fn reference(file: &[u8], left: usize, at: usize) -> RowsEnd
     requires { ⌜ Within (now file) left at at ⌝ }
     ensures { λ r. ⌜ r ≡ walked (referenceOf left 0 (now (file .entry)) at) ⌝ }
 {
     let Number32::Is(n, from) = fields::u32_at(file, at) else {
-        return Walk::Refused(2, at);
+        return RowsEnd::Refused(2, at);
     };
     let mut next = from;
     let mut i: u32 = 0;
     while i < n {
         match ref_item(file, left, next) {
-            Step::Refused(x, p) => {
-                return Walk::Refused(x, p);
+            FieldEnd::Refused(x, p) => {
+                return RowsEnd::Refused(x, p);
             }
-            Step::Next(q) => {
+            FieldEnd::Next(q) => {
                 next = q;
             }
         }
         i += 1;
     }
-    Walk::Next(next, n as usize)
+    RowsEnd::Next(next, n as usize)
 }
 
 // The pairs of an object array, from their count on.
-fn array_pairs(file: &[u8], objects: u32, left: usize, at: usize) -> Walk
+fn array_pairs(file: &[u8], objects: u32, left: usize, at: usize) -> RowsEnd
     requires { ⌜ Within (now file) left at at ⌝ }
     ensures { λ r. ⌜ r ≡ walked (children (arrayPair objects left 0) 0 (now (file .entry)) at) ⌝ }
 {
     let Number32::Is(n, from) = fields::u32_at(file, at) else {
-        return Walk::Refused(2, at);
+        return RowsEnd::Refused(2, at);
     };
     let mut next = from;
     let mut i: u32 = 0;
     while i < n {
         match array_pair(file, objects, left, next) {
-            Step::Refused(x, p) => {
-                return Walk::Refused(x, p);
+            FieldEnd::Refused(x, p) => {
+                return RowsEnd::Refused(x, p);
             }
-            Step::Next(q) => {
+            FieldEnd::Next(q) => {
                 next = q;
             }
         }
         i += 1;
     }
-    Walk::Next(next, n as usize)
+    RowsEnd::Next(next, n as usize)
 }
 
 // An object array, from its number of objects on.
-fn array(file: &[u8], left: usize, at: usize) -> Walk
+fn array(file: &[u8], left: usize, at: usize) -> RowsEnd
     requires { ⌜ Within (now file) left at at ⌝ }
     ensures { λ r. ⌜ r ≡ walked (arrayOf left 0 (now (file .entry)) at) ⌝ }
 {
     let Number32::Is(objects, class) = fields::u32_at(file, at) else {
-        return Walk::Refused(2, at);
+        return RowsEnd::Refused(2, at);
     };
     match descriptor::class_at(file, class) {
-        Step::Refused(x, p) => Walk::Refused(x, p),
-        Step::Next(pairs) => array_pairs(file, objects, left, pairs),
+        FieldEnd::Refused(x, p) => RowsEnd::Refused(x, p),
+        FieldEnd::Next(pairs) => array_pairs(file, objects, left, pairs),
     }
 }
 
@@ -191,44 +192,44 @@ fn held(file: &[u8], columns: bool, left: usize, at: usize) -> u64
 // ---- the cycle
 
 // A class, where there is one.
-fn class_if(file: &[u8], there: bool, at: usize) -> Step
+fn class_if(file: &[u8], there: bool, at: usize) -> FieldEnd
     ensures { λ r. ⌜ toldStep r ≡ optional there class (now (file .entry)) at ⌝ }
 {
     if there {
         return descriptor::class_at(file, at);
     }
-    Step::Next(at)
+    FieldEnd::Next(at)
 }
 
 // A key, where there is one.
-fn key_if(file: &[u8], there: bool, at: usize) -> Step
+fn key_if(file: &[u8], there: bool, at: usize) -> FieldEnd
     ensures { λ r. ⌜ toldStep r ≡ optional there id (now (file .entry)) at ⌝ }
 {
     if there {
         return descriptor::id_at(file, at);
     }
-    Step::Next(at)
+    FieldEnd::Next(at)
 }
 
 // The item at `at`, whose row starts at `first`: at its key in a pair, else at its own first byte.
-fn item(file: &[u8], left: usize, first: usize, at: usize) -> Walk
+fn item(file: &[u8], left: usize, first: usize, at: usize) -> RowsEnd
     requires { ⌜ Within (now file) left first at ⌝ }
     ensures { λ r. ⌜ r ≡ walked (item left 0 0 first (now (file .entry)) at) ⌝ }
 {
     if left == 0 {
-        return Walk::Refused(10, first);
+        return RowsEnd::Refused(10, first);
     }
     let Number32::Is(kind, value) = fields::u32_at(file, at) else {
-        return Walk::Refused(2, at);
+        return RowsEnd::Refused(2, at);
     };
     match descriptor::begin(file, kind, value) {
-        Value::Ends(end) => Walk::Next(end, 1),
+        Value::Ends(end) => RowsEnd::Next(end, 1),
         Value::List => with_own(list(file, false, left - 1, value)),
         Value::Object => with_own(object(file, left - 1, value)),
         Value::Reference => with_own(held(file, false, left - 1, value)),
         Value::Array => with_own(held(file, true, left - 1, value)),
-        Value::Unknown => Walk::Refused(4, at),
-        Value::Refused(x, p) => Walk::Refused(x, p),
+        Value::Unknown => RowsEnd::Refused(4, at),
+        Value::Refused(x, p) => RowsEnd::Refused(x, p),
     }
 }
 
@@ -238,8 +239,8 @@ fn list(file: &[u8], keyed: bool, left: usize, at: usize) -> u64
     ensures { λ r. ⌜ carried r ≡ walked (holderOf keyed left 0 (now (file .entry)) at) ⌝ }
 {
     match class_if(file, keyed, at) {
-        Step::Refused(x, p) => refused_in(x, p),
-        Step::Next(count) => {
+        FieldEnd::Refused(x, p) => refused_in(x, p),
+        FieldEnd::Next(count) => {
             let Number32::Is(n, from) = fields::u32_at(file, count) else {
                 return refused_in(2, count);
             };
@@ -248,10 +249,10 @@ fn list(file: &[u8], keyed: bool, left: usize, at: usize) -> u64
             let mut i: u32 = 0;
             while i < n {
                 match pair(file, keyed, left, next) {
-                    Walk::Refused(x, p) => {
+                    RowsEnd::Refused(x, p) => {
                         return refused_in(x, p);
                     }
-                    Walk::Next(q, k) => {
+                    RowsEnd::Next(q, k) => {
                         next = q;
                         rows += k;
                     }
@@ -272,42 +273,42 @@ fn object(file: &[u8], left: usize, at: usize) -> u64
 }
 
 // A key and an item; in a list, where there is no key, an item.
-fn pair(file: &[u8], keyed: bool, left: usize, at: usize) -> Walk
+fn pair(file: &[u8], keyed: bool, left: usize, at: usize) -> RowsEnd
     requires { ⌜ Within (now file) left at at ⌝ }
     ensures { λ r. ⌜ r ≡ walked (memberOf keyed left 0 0 (now (file .entry)) at) ⌝ }
 {
     if left == 0 {
-        return Walk::Refused(10, at);
+        return RowsEnd::Refused(10, at);
     }
     match key_if(file, keyed, at) {
-        Step::Refused(x, p) => Walk::Refused(x, p),
-        Step::Next(next) => item(file, left, at, next),
+        FieldEnd::Refused(x, p) => RowsEnd::Refused(x, p),
+        FieldEnd::Next(next) => item(file, left, at, next),
     }
 }
 
 // ---- the file
 
 // Version 16, and the root object.
-fn root(file: &[u8]) -> Walk
+fn root(file: &[u8]) -> RowsEnd
     requires { ⌜ length (now file) ≤ 16777216 ⌝ }
     ensures { λ r. ⌜ r ≡ walked (root (now (file .entry)) 0) ⌝ }
 {
     let Number32::Is(version, value) = fields::u32_at(file, 0) else {
-        return Walk::Refused(2, 0);
+        return RowsEnd::Refused(2, 0);
     };
     if version != 16 {
-        return Walk::Refused(3, 0);
+        return RowsEnd::Refused(3, 0);
     }
     with_own(object(file, 32, value))
 }
 
 // What is answered of a file of `length` bytes.
-fn ended(walk: Walk, length: usize) -> Answer
+fn ended(walk: RowsEnd, length: usize) -> Answer
     ensures { λ r. ⌜ told r ≡ closing length walk ⌝ }
 {
     match walk {
-        Walk::Refused(number, place) => Answer::Refused { number, place },
-        Walk::Next(end, rows) => {
+        RowsEnd::Refused(number, place) => Answer::Refused { number, place },
+        RowsEnd::Next(end, rows) => {
             if end != length {
                 return Answer::Refused {
                     number: 6,

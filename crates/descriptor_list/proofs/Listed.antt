@@ -21,7 +21,7 @@ use Rattle.descriptor_columns.proofs.Theorem.{getD-map, map-length, parents-are
 use Rattle.listing.specs.Buffer.{Buffer, putAll}
 use Rattle.listing.specs.Text.{ascii, decimal, word, lines, refusal}
 use Rattle.listing.proofs.Putting.{items-turn, items-end, lines-turn, lines-none}
-use Rattle.descriptor_list.specs.Held.{spare, Given, Held}
+use Rattle.descriptor_list.specs.scaffold.Held.{spare, Given, Held}
 use Rattle.descriptor_list.specs.Listing.{kept, kind, line, heading, listing}
 
 -- ---- a kind

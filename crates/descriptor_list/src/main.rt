@@ -7,7 +7,7 @@ ghost use Rattle.algebra.specs.Numbers.{joined};
 ghost use Rattle.descriptor.specs.Reading.{Row, descriptor};
 ghost use Rattle.listing.specs.Buffer.{putAll};
 ghost use Rattle.listing.specs.Text.{ascii, word, lines, taken};
-ghost use Rattle.descriptor_list.specs.Held.{Given, Held};
+ghost use Rattle.descriptor_list.specs.scaffold.Held.{Given, Held};
 ghost use Rattle.descriptor_list.specs.Listing.{heading, line, listing};
 ghost use Rattle.descriptor_list.specs.Listing.{kind as Listing·kind};
 use descriptor_judge::Answer;

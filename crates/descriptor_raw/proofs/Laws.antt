@@ -8,16 +8,18 @@ use native.Mathlib.Omega.{arith}
 use borrow.Author.Tests.{eq-eqb, ne-eqb, eqb-true, eqb-false}
 use lib.Ieee.{binary64, ofBits}
 use lib.Ieee.Scale.{finite}
+use Rattle.algebra.specs.Chars.{chars}
 use Rattle.algebra.specs.Reader.{Res, Reader, ok, refuse, then, pick, field, body, rule, Judged, fine, fault, unless, judged, each, done, orZero}
 use Rattle.algebra.proofs.Inverse.{field-inv, body-inv, judged-inv, done-inv, clash, then-inv, ok-value, ok-place, each-none, each-inv}
-use Rattle.descriptor.specs.Reading.{Known, is, unknown, known, Sort, leaf, list, object, reference, array, sortOf, id, skip, shut, unicode, class, run, flag, double, isUnit, isArrayUnit, unitDouble, formOf, refValue, column}
-use Rattle.descriptor.specs.Answer.{readerOf}
-use Rattle.descriptor.specs.Answer as DA
+use Rattle.descriptor.specs.Reading.{Known, is, unknown, known, Sort, leaf, list, object, reference, array, sortOf, id, skip, shut, unicode, class, rawBytes, flag, double, isUnit, isArrayUnit, unitDouble, formOf, refValue, column}
+use Rattle.descriptor.specs.scaffold.Answer.{readerOf}
+use Rattle.descriptor.specs.scaffold.Answer as DA
 use Rattle.descriptor.specs.declared.Form.{Form}
 use Rattle.descriptor.specs.declared.KnownForm.{KnownForm}
 use Rattle.descriptor.specs.declared.KnownForm.the-variants as vk
-use Rattle.descriptor_judge.specs.Cycle.{optional}
-use Rattle.descriptor_raw.specs.Raw.{dueOf, Ends, Sees, Values, Items}
+use Rattle.descriptor_judge.specs.scaffold.Cycle.{optional}
+use Rattle.descriptor_raw.specs.Raw.{dueOf, Sees}
+use Rattle.descriptor_raw.specs.scaffold.Raw.{Ends, Values, Items}
 use Rattle.descriptor_raw.specs.declared.RawHead.{RawHead}
 use Rattle.descriptor_heads.specs.Heads.{Due, items, pairs, forms, columns, Opened, opens, itemHead, bare, memberHead, rootHead}
 
@@ -70,8 +72,8 @@ both-end m k a b x y f g = record { ends = λ q e. let t = then-inv m _ e in g .
 pub further : {m : Res Unit} {x : ℕ} (a b : ℕ) → a ≤ b → Ends m a x → Ends m b x
 further a b l f = record { ends = f .ends; near = omega (arith, l, f .near) }
 
-pub run-ends : (s : List ℕ) (at n : ℕ) → n ≡ orZero (field 4 s at) → n < 4294967296 → Ends (run s at) (at + 8589934592) (at + 4 + n)
-unfolding run
+pub run-ends : (s : List ℕ) (at n : ℕ) → n ≡ orZero (field 4 s at) → n < 4294967296 → Ends (rawBytes s at) (at + 8589934592) (at + 4 + n)
+unfolding rawBytes
 run-ends s at n h l = record {
   ends = λ q e.
       let t = then-inv (field 4 s at) _ e in
@@ -244,24 +246,24 @@ column-ends s m v q e =
         go true x y = eqb-true n m x
         go false x y = let z : _≡_ {A = ℕ} 0 1 = cc in absurd (omega (arith, z))
 
-pub as-column : (s : List ℕ) (m at a e x : ℕ) (r : RawHead) → Ends (id s at) a e → x ≡ m → r ≡ bareHead 0x556e_466c (e + 4) (e + 4 + 8 + 8 * x) → Sees (λ d. memberHead d (columns m) s at) r
+pub as-column : (s : List ℕ) (m at a e x : ℕ) (r : RawHead) → Ends (id s at) a e → x ≡ m → r ≡ bareHead (chars "UnFl") (e + 4) (e + 4 + 8 + 8 * x) → Sees (λ d. memberHead d (columns m) s at) r
 unfolding memberHead
 as-column s m at a e x r f xm y = subst (Sees (λ d. memberHead d (columns m) s at)) (sym y) (record {
   sees = λ d o q g.
       let i = then-inv (id s at) _ g in
-      let t = then-inv (judged 4 (λ t. unless (eqb t 0x556e_466c) 4) s (i .1)) _ (i .3) in
-      let j = judged-inv 4 s (i .1) (λ t. unless (eqb t 0x556e_466c) 4) (t .2) in
+      let t = then-inv (judged 4 (λ t. unless (eqb t (chars "UnFl")) 4) s (i .1)) _ (i .3) in
+      let j = judged-inv 4 s (i .1) (λ t. unless (eqb t (chars "UnFl")) 4) (t .2) in
       let b = bare-inv (column m s (t .1)) (t .0) at d (t .1) o q (t .3) in
       let n = column-ends s m (t .1) q (b .0) in
       let v = f .ends (i .1) (i .2) in
       (sym (tagged (t .0) (j .3)) ∙ b .1, b .2, b .3, omega (arith, n, v, j .2, xm), omega (arith, v, j .2, b .4));
 })
   where
-    tagged : (n : ℕ) → unless (eqb n 0x556e_466c) 4 ≡ fine → n ≡ 0x556e_466c
-    tagged n e = go (eqb n 0x556e_466c) refl e
+    tagged : (n : ℕ) → unless (eqb n (chars "UnFl")) 4 ≡ fine → n ≡ chars "UnFl"
+    tagged n e = go (eqb n (chars "UnFl")) refl e
       where
-        go : (b : Bool) → eqb n 0x556e_466c ≡ b → unless b 4 ≡ fine → n ≡ 0x556e_466c
-        go true x y = eqb-true n 0x556e_466c x
+        go : (b : Bool) → eqb n (chars "UnFl") ≡ b → unless b 4 ≡ fine → n ≡ chars "UnFl"
+        go true x y = eqb-true n (chars "UnFl") x
         go false x y = let z : _≡_ {A = ℕ} 0 1 = cc in absurd (omega (arith, z))
 
 -- ---- items and pairs
@@ -296,7 +298,7 @@ sees-due s at c k r e g = subst (λ (x : Due). Sees (λ d. memberHead d x s at) 
 
 -- ---- the root
 
-pub root-sees : (s : List ℕ) (a e : ℕ) (r : RawHead) → Ends (class s 4) a e → r ≡ record { kind = 0x4f62_6a63; what = 1; objects = 0; count = orZero (field 4 s e); value = 4; end = e + 4 } → Sees (λ d. rootHead s 0) r
+pub root-sees : (s : List ℕ) (a e : ℕ) (r : RawHead) → Ends (class s 4) a e → r ≡ record { kind = chars "Objc"; what = 1; objects = 0; count = orZero (field 4 s e); value = 4; end = e + 4 } → Sees (λ d. rootHead s 0) r
 unfolding rootHead
 root-sees s a e r f y = subst (Sees (λ d. rootHead s 0)) (sym y) (record {
   sees = λ d o q g.

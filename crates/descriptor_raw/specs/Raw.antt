@@ -1,10 +1,8 @@
 -- Scaffolding: fields and heads of a file that is accepted, found without judging: where the reading accepts, its end is the answer.
-use Prim.Native.Nat.{ℕ, zero, suc, _≤_}
+use Prim.Native.Nat.{ℕ, zero, suc}
 use mathlib.Core.Path.{_≡_}
-use mathlib.Core.List.{List}
 use Rattle.algebra.specs.Reader.{Res, ok}
-use Rattle.descriptor.specs.Reading.{Sort, is, sortOf}
-use Rattle.descriptor_heads.specs.Heads.{Due, items, pairs, forms, columns, Opened, opens, itemHead}
+use Rattle.descriptor_heads.specs.Heads.{Due, items, pairs, forms, columns, Opened}
 use Rattle.descriptor_raw.specs.declared.RawHead.{RawHead}
 
 -- what is due, by a number: items, pairs, reference items, the pairs of an object array of m objects
@@ -14,21 +12,6 @@ dueOf (suc zero) m = pairs
 dueOf (suc (suc zero)) m = forms
 dueOf (suc (suc (suc n))) m = columns m
 
--- where m accepts, it ends at r; and r is no further than `most`
-pub record Ends (m : Res Unit) (most r : ℕ) : Type 0 where
-  pub ends : (q : ℕ) → m ≡ ok tt q → r ≡ q
-  pub near : r ≤ most
-
 -- where m accepts, at some depth, r is what it saw
 pub record Sees (m : ℕ → Res Opened) (r : RawHead) : Type 0 where
   pub sees : (d : ℕ) (o : Opened) (q : ℕ) → m d ≡ ok o q → (r .kind ≡ o .head .kind) × (dueOf (r .what) (r .objects) ≡ o .below) × (r .count ≡ o .count) × (r .end ≡ q) × (r .value ≡ o .head .value)
-
--- where the value at v of an item of type t is accepted up to its first child, r is what it says
-pub record Values (s : List ℕ) (t v : ℕ) (r : RawHead) : Type 0 where
-  pub kind : r .kind ≡ t
-  pub value : r .value ≡ v
-  pub opened : (sort : Sort) → sortOf t ≡ is sort → (x : Due × ℕ) (q : ℕ) → opens sort s v ≡ ok x q → (dueOf (r .what) (r .objects) ≡ x .0) × (r .count ≡ x .1) × (r .end ≡ q)
-
--- the same of an item's head, from its type on, whatever its row's first byte is
-pub record Items (s : List ℕ) (at : ℕ) (r : RawHead) : Type 0 where
-  pub any : (first : ℕ) → Sees (λ d. itemHead d first s at) r

@@ -7,11 +7,12 @@ ghost use mathlib.Core.Path.{_≡_};
 ghost use Prim.Native.Nat.{_+_, _≤_, _<_};
 ghost use lib.Dec.{eqb};
 ghost use Rattle.algebra.specs.Reader.{field, orZero};
-ghost use Rattle.descriptor.specs.Reading.{id, unicode, class, enumerated, run};
-ghost use Rattle.descriptor.specs.Answer.{readerOf};
+ghost use Rattle.descriptor.specs.Reading.{id, unicode, class, enumerated, rawBytes};
+ghost use Rattle.descriptor.specs.scaffold.Answer.{readerOf};
 ghost use Rattle.descriptor_heads.specs.Heads.{forms, columns, itemHead, memberHead, rootHead};
-ghost use Rattle.descriptor_judge.specs.Cycle.{optional};
-ghost use Rattle.descriptor_raw.specs.Raw.{dueOf, Ends, Sees, Values, Items};
+ghost use Rattle.descriptor_judge.specs.scaffold.Cycle.{optional};
+ghost use Rattle.descriptor_raw.specs.Raw.{dueOf, Sees};
+ghost use Rattle.descriptor_raw.specs.scaffold.Raw.{Ends, Values, Items};
 use descriptor::ALIAS;
 use descriptor::ARRAY;
 use descriptor::BOOL;
@@ -90,7 +91,7 @@ fn enumerated_end(file: &[u8], at: usize) -> usize
 // Behind a length and that many bytes.
 fn run_end(file: &[u8], at: usize) -> usize
     requires { ⌜ at < 1152921504606846976 ⌝ }
-    ensures { λ r. ⌜ Ends (run (now (file .entry)) at) (at + 8589934592) r ⌝ }
+    ensures { λ r. ⌜ Ends (rawBytes (now (file .entry)) at) (at + 8589934592) r ⌝ }
 {
     at + 4 + count_at(file, at)
 }

@@ -7,6 +7,7 @@ use mathlib.Core.Bool.{Bool, true, false, true≢false}
 use lib.Dec.{eqb}
 use lib.Ieee.{binary64, ofBits}
 use native.Mathlib.Omega.{arith}
+use Rattle.algebra.specs.Chars.{chars}
 use Rattle.algebra.specs.Numbers.{num, be, At}
 use Rattle.algebra.specs.Reader.{pick}
 use Rattle.algebra.specs.Refusal.{oneOf}
@@ -33,9 +34,9 @@ typed-said s v (Says.unitDouble u n few small) h =
     ap₂ (λ (k m : ℕ). vt.UnitDouble k (ofBits binary64 m)) (num-be s 4 v u few (at-left s v (be 4 u) (be 8 n) h))
     (num-be s 8 (v + 4) n small (at-after s v (be 4 u) (be 8 n) (v + 4) (ap (λ (k : ℕ). v + k) (length-be 4 u)) h))
 typed-said s v (Says.other {kind} none) h =
-    let a = neither (eqb kind 0x626F_6F6C) (oneOf (0x6C6F_6E67 ∷ 0x636F_6D70 ∷ 0x646F_7562 ∷ 0x556E_7446 ∷ []) kind) none in
-    let b = neither (eqb kind 0x6C6F_6E67) (oneOf (0x636F_6D70 ∷ 0x646F_7562 ∷ 0x556E_7446 ∷ []) kind) (a .1) in
-    let c = neither (eqb kind 0x636F_6D70) (oneOf (0x646F_7562 ∷ 0x556E_7446 ∷ []) kind) (b .1) in
-    let d = neither (eqb kind 0x646F_7562) (oneOf (0x556E_7446 ∷ []) kind) (c .1) in
-    let e = neither (eqb kind 0x556E_7446) false (d .1) in
+    let a = neither (eqb kind (chars "bool")) (oneOf (chars "long" ∷ chars "comp" ∷ chars "doub" ∷ chars "UntF" ∷ []) kind) none in
+    let b = neither (eqb kind (chars "long")) (oneOf (chars "comp" ∷ chars "doub" ∷ chars "UntF" ∷ []) kind) (a .1) in
+    let c = neither (eqb kind (chars "comp")) (oneOf (chars "doub" ∷ chars "UntF" ∷ []) kind) (b .1) in
+    let d = neither (eqb kind (chars "doub")) (oneOf (chars "UntF" ∷ []) kind) (c .1) in
+    let e = neither (eqb kind (chars "UntF")) false (d .1) in
     rw (a .0) (rw (b .0) (rw (c .0) (rw (d .0) (rw (e .0)))))

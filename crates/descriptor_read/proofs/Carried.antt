@@ -14,17 +14,17 @@ use Rattle.descriptor.proofs.Ends.{Accepts, yes}
 use Rattle.descriptor.proofs.Tiling.{Reach, list-reach, object-reach, reference-reach, array-reach}
 use Rattle.descriptor.proofs.Placed.{children-placed, ref-placed, array-placed, object-placed, item-placed}
 use Rattle.descriptor_judge.proofs.Counting.{few}
-use Rattle.descriptor_read.specs.declared.Walk.{Walk}
-use Rattle.descriptor_read.specs.declared.Walk.the-variants as vw
-use Rattle.descriptor_read.specs.Table.{walked, Done, Below}
-use Rattle.descriptor_judge.specs.Cycle.{holderOf, heldOf}
-use Rattle.descriptor_read.specs.Carried.{Small, carried}
+use Rattle.descriptor_read.specs.declared.NextRow.{NextRow}
+use Rattle.descriptor_read.specs.declared.NextRow.the-variants as vw
+use Rattle.descriptor_read.specs.scaffold.Table.{walked, Done, Below}
+use Rattle.descriptor_judge.specs.scaffold.Cycle.{holderOf, heldOf}
+use Rattle.descriptor_read.specs.scaffold.Carried.{Small, carried}
 
 -- what was done by an answer was done by the number that carries it
-pub carry : (n : ℕ) {from : ℕ} {w : Walk} {t u : List ℕ} {k : ℕ} {m : Res (List Row)} → carried n ≡ w → Done w from t u k m → Done (carried n) from t u k m
+pub carry : (n : ℕ) {from : ℕ} {w : NextRow} {t u : List ℕ} {k : ℕ} {m : Res (List Row)} → carried n ≡ w → Done w from t u k m → Done (carried n) from t u k m
 carry n e d = record { answer = e ∙ d .answer; rows = d .rows }
 
-pub taken : (n : ℕ) {from : ℕ} {w : Walk} {t u : List ℕ} {k : ℕ} {m : Res (List Row)} → w ≡ carried n → Done (carried n) from t u k m → Done w from t u k m
+pub taken : (n : ℕ) {from : ℕ} {w : NextRow} {t u : List ℕ} {k : ℕ} {m : Res (List Row)} → w ≡ carried n → Done (carried n) from t u k m → Done w from t u k m
 taken n e d = record { answer = e ∙ d .answer; rows = d .rows }
 
 -- places and row numbers in a file within the limit are small
@@ -52,7 +52,7 @@ module _ {s : List ℕ} {d k at : ℕ} (below : Below s d k at) where
   pub holder-cut : (b : Bool) {x p r f : ℕ} → holderOf b d k s at ≡ refuse x p r f → Small (vw.Refused x p)
   holder-cut b e = let i = refusal-placed (holder-placed b) e in (omega (arith, i .1, below .size), omega (arith, few _ (i .0)))
 
-  module _ {from : ℕ} {t u : List ℕ} {w : Walk} (b : Bool) where
+  module _ {from : ℕ} {t u : List ℕ} {w : NextRow} (b : Bool) where
     pub holder-small : Done w from t u (k + 1) (holderOf b d k s at) → Small w
     holder-small h = subst Small (sym (h .answer)) (walked-small s at (k + 1) (holderOf b d k s at) (below .size) (omega (arith, below .row)) (holder-placed b) (holder-reach b))
 

@@ -12,8 +12,9 @@ use Rattle.algebra.specs.Numbers.{joined}
 use Rattle.algebra.specs.Reader.{Res}
 use Rattle.descriptor.specs.Reading.{Row, root, descriptor}
 use Rattle.descriptor.proofs.Rows.{of-root, rows-laid}
-use Rattle.descriptor_read.specs.declared.Walk.{Walk}
-use Rattle.descriptor_read.specs.Table.{numbers, putRow, putRows, Done}
+use Rattle.descriptor_read.specs.declared.NextRow.{NextRow}
+use Rattle.descriptor_read.specs.Table.{numbers}
+use Rattle.descriptor_read.specs.scaffold.Table.{putRow, putRows, Done}
 use Rattle.descriptor_judge.specs.Answer.{accepted, refused, verdict}
 use Rattle.descriptor_read.specs.Filled.{filled}
 use Rattle.descriptor_read.proofs.Table.{length-putRow, room}
@@ -60,7 +61,7 @@ module _ (s t : List ℕ) where
         let f : leb (5 * length (m .0)) (length t) ≡ false = lt-leb (5 * length (m .0)) (length t) (omega (arith, m .3)) in
         sym (ap (λ (m : Res (List Row)). filled m t) (m .2) ∙ rw f)
 
-    pub filled-is : 5 * n ≤ length t → (w : Walk) (u : List ℕ) → Done w 0 t u 0 (root s 0) → (accepted n, u) ≡ filled (descriptor s) t
+    pub filled-is : 5 * n ≤ length t → (w : NextRow) (u : List ℕ) → Done w 0 t u 0 (root s 0) → (accepted n, u) ≡ filled (descriptor s) t
     filled-is h w u d =
         let m = accepted-rows (descriptor s) n e in
         let o = of-root s (m .0) (m .1) (m .2) in

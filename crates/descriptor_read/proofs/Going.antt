@@ -10,9 +10,9 @@ use Rattle.algebra.proofs.Inverse.{clash, ok-value}
 use Rattle.descriptor.specs.Reading.{Row, headed, siblings}
 use Rattle.descriptor.proofs.Ends.{Accepts, accepted, Past}
 use Rattle.descriptor.proofs.Tiling.{Reach}
-use Rattle.descriptor_read.specs.declared.Walk.{Walk}
-use Rattle.descriptor_read.specs.declared.Walk.the-variants as vw
-use Rattle.descriptor_read.specs.Table.{putRow, putRows, walked, Done}
+use Rattle.descriptor_read.specs.declared.NextRow.{NextRow}
+use Rattle.descriptor_read.specs.declared.NextRow.the-variants as vw
+use Rattle.descriptor_read.specs.scaffold.Table.{putRow, putRows, walked, Done}
 use Rattle.descriptor_read.proofs.Table.{length-putRows, own-row, putRows-append}
 
 -- ---- answers
@@ -30,10 +30,10 @@ walked-no k (refuse y q r f) x p h = let a : y ≡ x = cc in let b : q ≡ p = c
 pub done-no : {from : ℕ} {t u : List ℕ} {k : ℕ} {m : Res (List Row)} {x p r f : ℕ} → m ≡ refuse x p r f → Done (vw.Refused x p) from t u k m
 done-no {k = k} e = record { answer = sym (ap (walked k) e); rows = λ rs q h. clash (sym e ∙ h) }
 
-pub done-eq : {w : Walk} {from : ℕ} {t u : List ℕ} {k : ℕ} {m n : Res (List Row)} → m ≡ n → Done w from t u k n → Done w from t u k m
+pub done-eq : {w : NextRow} {from : ℕ} {t u : List ℕ} {k : ℕ} {m n : Res (List Row)} → m ≡ n → Done w from t u k n → Done w from t u k m
 done-eq {k = k} e d = record { answer = d .answer ∙ ap (walked k) (sym e); rows = λ rs q h. d .rows rs q (sym e ∙ h) }
 
-pub done-table : {w : Walk} {from : ℕ} {t v u : List ℕ} {k : ℕ} {m : Res (List Row)} → t ≡ v → Done w from t u k m → Done w from v u k m
+pub done-table : {w : NextRow} {from : ℕ} {t v u : List ℕ} {k : ℕ} {m : Res (List Row)} → t ≡ v → Done w from t u k m → Done w from v u k m
 done-table {from = from} {k = k} e d = record { answer = d .answer; rows = λ rs q h. d .rows rs q h ∙ ap (λ (l : List ℕ). putRows from l k rs) e }
 
 -- fields with no member among them: no row is written
@@ -63,21 +63,21 @@ closed {from} {t} {b} {u} {k} {m} kind d p first v q j rs e n x y = record {
     h = ap (headed kind d p first v) e
 
 -- the same from what the reader of the rows below answered
-pub row-done : {from : ℕ} {t b u : List ℕ} {k : ℕ} {m : Res (List Row)} {w : Walk} (kind d p first v q j : ℕ) → Done w from t b (k + 1) m → w ≡ vw.Next q j
+pub row-done : {from : ℕ} {t b u : List ℕ} {k : ℕ} {m : Res (List Row)} {w : NextRow} (kind d p first v q j : ℕ) → Done w from t b (k + 1) m → w ≡ vw.Next q j
     → u ≡ putRow from b k (rowOf kind d p first v q) → Done (vw.Next q j) from t u k (headed kind d p first v m)
 row-done {k = k} {m = m} kind d p first v q j h e y =
     let x = walked-next (k + 1) m q j (sym e ∙ h .answer) in
     closed kind d p first v q j (x .0) (x .1) (x .2) (h .rows (x .0) q (x .1)) y
 
 -- where it refused, so is the member
-pub row-no : {from : ℕ} {t b u : List ℕ} {k j : ℕ} {m : Res (List Row)} {w : Walk} {x y : ℕ} (kind d p first v : ℕ) → Done w from t b j m → w ≡ vw.Refused x y
+pub row-no : {from : ℕ} {t b u : List ℕ} {k j : ℕ} {m : Res (List Row)} {w : NextRow} {x y : ℕ} (kind d p first v : ℕ) → Done w from t b j m → w ≡ vw.Refused x y
     → Done (vw.Refused x y) from t u k (headed kind d p first v m)
 row-no {j = j} {m = m} {x = x} {y = y} kind d p first v h e =
     let z = walked-no j m x y (sym e ∙ h .answer) in
     done-no (headed-no kind d p first v (z .2))
 
 -- the end of what was read, by what the reader of it answered
-pub done-past : {from : ℕ} {t u : List ℕ} {k lo : ℕ} {s : List ℕ} {m : Res (List Row)} {w : Walk} {q j : ℕ} → Accepts (Past s lo) m → Done w from t u k m → w ≡ vw.Next q j → (lo ≤ q) × (q ≤ length s)
+pub done-past : {from : ℕ} {t u : List ℕ} {k lo : ℕ} {s : List ℕ} {m : Res (List Row)} {w : NextRow} {q j : ℕ} → Accepts (Past s lo) m → Done w from t u k m → w ≡ vw.Next q j → (lo ≤ q) × (q ≤ length s)
 done-past {k = k} {m = m} {q = q} {j = j} a h e =
     let x = walked-next k m q j (sym e ∙ h .answer) in
     let z = accepted a (x .0) q (x .1) in
@@ -131,7 +131,7 @@ module _ (f : ℕ → Reader (List Row)) (s : List ℕ) (from : ℕ) (t₀ : Lis
     going-length = ap length (g .table) ∙ length-putRows from t₀ k₀ (g .rs)
 
     -- a turn whose sibling was read
-    pub turn : (a : Walk) (u : List ℕ) (q j : ℕ) → i < n → Accepts (Reach s next) (f row s next) → Done a from t u row (f row s next) → a ≡ vw.Next q j → Going u q j (i + 1)
+    pub turn : (a : NextRow) (u : List ℕ) (q j : ℕ) → i < n → Accepts (Reach s next) (f row s next) → Done a from t u row (f row s next) → a ≡ vw.Next q j → Going u q j (i + 1)
     turn a u q j h b d e =
         let x = walked-next row (f row s next) q j (sym e ∙ d .answer) in
         let w = accepted b (x .0) q (x .1) in record {
@@ -147,7 +147,7 @@ module _ (f : ℕ → Reader (List Row)) (s : List ℕ) (from : ℕ) (t₀ : Lis
         }
 
     -- a turn whose sibling is refused: so is all
-    pub turn-no : (a : Walk) (u : List ℕ) (x p : ℕ) → i < n → Done a from t u row (f row s next) → a ≡ vw.Refused x p → (r : ℕ) × (y : ℕ) × (siblings f n k₀ s at₀ ≡ refuse x p r y)
+    pub turn-no : (a : NextRow) (u : List ℕ) (x p : ℕ) → i < n → Done a from t u row (f row s next) → a ≡ vw.Refused x p → (r : ℕ) × (y : ℕ) × (siblings f n k₀ s at₀ ≡ refuse x p r y)
     turn-no a u x p h d e =
         let w = walked-no row (f row s next) x p (sym e ∙ d .answer) in
         (w .0, w .1, g .rest ∙ ap (more (g .rs)) (one-more i row next h ∙ ap (λ (m : Res (List Row)). then m (λ rs q. more rs (siblings f (n - (i + 1)) (row + length rs) s q))) (w .2)))

@@ -7,7 +7,7 @@ use Rattle.algebra.specs.Reader.{ok, refuse, field}
 use Rattle.descriptor.specs.Reading.{Known, is, unknown, known, Sort, sortOf, headed, valueOf, item}
 use Rattle.descriptor.proofs.Fields.{then-to}
 use Rattle.descriptor_judge.proofs.Steps.{NonZero}
-use Rattle.descriptor_read.specs.Cycle.{valued}
+use Rattle.descriptor_read.specs.scaffold.Cycle.{valued}
 
 module _ (p k first : ℕ) (s : List ℕ) (at : ℕ) where
   pub item-value : (left t v : ℕ) → NonZero left → ok t v ≡ field 4 s at → at ≡ v - 4 → item left p k first s at ≡ headed t (left - 1) p first v (valued (left - 1) k t s v)

@@ -12,7 +12,8 @@ use lib.Seq.{sets, length-sets, set-comm}
 use lib.Dec.{leb, ltb, eqb}
 use Rattle.algebra.specs.Reader.{pick}
 use Rattle.descriptor.specs.Reading.{Row}
-use Rattle.descriptor_read.specs.Table.{numbers, extent, putRow, putRows}
+use Rattle.descriptor_read.specs.Table.{numbers}
+use Rattle.descriptor_read.specs.scaffold.Table.{extent, putRow, putRows}
 
 pub length-putRow : (from : ℕ) (t : List ℕ) (k : ℕ) (r : Row) → length (putRow from t k r) ≡ length t
 unfolding putRow

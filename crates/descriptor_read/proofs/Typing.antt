@@ -9,15 +9,17 @@ use lib.Ieee.{Float, binary64, ofBits}
 use lib.Ieee.Scale.{finite}
 use native.Mathlib.Omega.{arith}
 use borrow.Author.Tests.{ne-eqb}
+use Rattle.algebra.specs.Chars.{chars}
 use Rattle.algebra.specs.Numbers.{num}
 use Rattle.algebra.specs.Reader.{Res, ok, refuse, Reader, field, body, judged, orZero, limit}
 use Rattle.algebra.proofs.Laws.{field-in}
 use Rattle.algebra.proofs.Inverse.{then-inv, judged-inv, body-inv, done-inv, unless-fine}
 use Rattle.descriptor.specs.Reading.{Row, is, leaf, sortOf, skip, boolean, flag, bits, double, unit, unitDouble, descriptor}
-use Rattle.descriptor.specs.Leaves.{Leafed}
+use Rattle.descriptor.specs.scaffold.Leaves.{Leafed}
 use Rattle.descriptor.proofs.Leaves.{AllLeafed, rows-leafed}
-use Rattle.descriptor_read.specs.Values.{found, rowAt, rowIn, extentOf}
-use Rattle.descriptor_read.specs.Values as values
+use Rattle.descriptor_read.specs.Values.{found, rowAt, rowIn}
+use Rattle.descriptor_read.specs.scaffold.Values.{extentOf}
+use Rattle.descriptor_read.specs.scaffold.Values as values
 use Rattle.descriptor_read.specs.declared.Typed.the-variants as vt
 use Rattle.descriptor_read.specs.Typed.{typedIn, typedOf}
 use Rattle.descriptor_read.proofs.Values.{extent-is, extent-no, part-small}
@@ -27,23 +29,23 @@ use Rattle.descriptor_read.proofs.Values.{extent-is, extent-no, part-sm
 load : (w : ℕ) (s : List ℕ) (v : ℕ) → w ≤ length s - v → orZero (field w s v) ≡ num w s v
 load w s v h = ap orZero (field-in w s v h)
 
-flag-sort : sortOf 0x626f_6f6c ≡ is (leaf flag)
+flag-sort : sortOf (chars "bool") ≡ is (leaf flag)
 unfolding sortOf
 flag-sort = refl
 
-long-sort : sortOf 0x6c6f_6e67 ≡ is (leaf (skip 4))
+long-sort : sortOf (chars "long") ≡ is (leaf (skip 4))
 unfolding sortOf
 long-sort = refl
 
-comp-sort : sortOf 0x636f_6d70 ≡ is (leaf (skip 8))
+comp-sort : sortOf (chars "comp") ≡ is (leaf (skip 8))
 unfolding sortOf
 comp-sort = refl
 
-double-sort : sortOf 0x646f_7562 ≡ is (leaf double)
+double-sort : sortOf (chars "doub") ≡ is (leaf double)
 unfolding sortOf
 double-sort = refl
 
-unit-sort : sortOf 0x556e_7446 ≡ is (leaf unitDouble)
+unit-sort : sortOf (chars "UntF") ≡ is (leaf unitDouble)
 unfolding sortOf
 unit-sort = refl
 
@@ -81,49 +83,49 @@ module _ (s : List ℕ) (t v : ℕ) (h : Leafed s t v) where
   read-as : (p : Reader Unit) (k : ℕ) → sortOf k ≡ is (leaf p) → t ≡ k → (q : ℕ) × (p s v ≡ ok tt q)
   read-as p k e z = h .reads p (ap sortOf z ∙ e)
 
-  pub typed-bool : t ≡ 0x626f_6f6c → (b : Bool) → b ≡ eqb (orZero (field 1 s v)) 1 → vt.Bool b ≡ typedIn s t v
+  pub typed-bool : t ≡ chars "bool" → (b : Bool) → b ≡ eqb (orZero (field 1 s v)) 1 → vt.Bool b ≡ typedIn s t v
   unfolding typedIn
   typed-bool z b e =
-      let r = read-as flag 0x626f_6f6c flag-sort z in
+      let r = read-as flag (chars "bool") flag-sort z in
       let x : b ≡ eqb (num 1 s v) 1 = e ∙ ap (λ (n : ℕ). eqb n 1) (load 1 s v (flag-room s v (r .0) (r .1))) in
       rw z (ap (λ (c : Bool). vt.Bool c) x)
 
-  pub typed-long : t ≡ 0x6c6f_6e67 → (n : ℕ) → n ≡ orZero (field 4 s v) → vt.Long n ≡ typedIn s t v
+  pub typed-long : t ≡ chars "long" → (n : ℕ) → n ≡ orZero (field 4 s v) → vt.Long n ≡ typedIn s t v
   unfolding typedIn
   typed-long z n e =
-      let r = read-as (skip 4) 0x6c6f_6e67 long-sort z in
+      let r = read-as (skip 4) (chars "long") long-sort z in
       let x : n ≡ num 4 s v = e ∙ load 4 s v (skip-room 4 s v (r .0) (r .1)) in
       rw z (ap (λ (c : ℕ). vt.Long c) x)
 
-  pub typed-comp : t ≡ 0x636f_6d70 → (n : ℕ) → n ≡ orZero (field 8 s v) → vt.Comp n ≡ typedIn s t v
+  pub typed-comp : t ≡ chars "comp" → (n : ℕ) → n ≡ orZero (field 8 s v) → vt.Comp n ≡ typedIn s t v
   unfolding typedIn
   typed-comp z n e =
-      let r = read-as (skip 8) 0x636f_6d70 comp-sort z in
+      let r = read-as (skip 8) (chars "comp") comp-sort z in
       let x : n ≡ num 8 s v = e ∙ load 8 s v (skip-room 8 s v (r .0) (r .1)) in
       rw z (ap (λ (c : ℕ). vt.Comp c) x)
 
-  pub double-ready : t ≡ 0x646f_7562 → (8 ≤ length s - v) × (finite (ofBits binary64 (num 8 s v)) ≡ true)
-  double-ready z = let r = read-as double 0x646f_7562 double-sort z in double-room s v (r .0) (r .1)
+  pub double-ready : t ≡ chars "doub" → (8 ≤ length s - v) × (finite (ofBits binary64 (num 8 s v)) ≡ true)
+  double-ready z = let r = read-as double (chars "doub") double-sort z in double-room s v (r .0) (r .1)
 
-  pub unit-ready : t ≡ 0x556e_7446 → (4 ≤ length s - v) × (8 ≤ length s - (v + 4)) × (finite (ofBits binary64 (num 8 s (v + 4))) ≡ true)
-  unit-ready z = let r = read-as unitDouble 0x556e_7446 unit-sort z in unit-room s v (r .0) (r .1)
+  pub unit-ready : t ≡ chars "UntF" → (4 ≤ length s - v) × (8 ≤ length s - (v + 4)) × (finite (ofBits binary64 (num 8 s (v + 4))) ≡ true)
+  unit-ready z = let r = read-as unitDouble (chars "UntF") unit-sort z in unit-room s v (r .0) (r .1)
 
-  pub unit-loaded : t ≡ 0x556e_7446 → (n : ℕ) → n ≡ orZero (field 4 s v) → n ≡ num 4 s v
+  pub unit-loaded : t ≡ chars "UntF" → (n : ℕ) → n ≡ orZero (field 4 s v) → n ≡ num 4 s v
   unit-loaded z n e = e ∙ load 4 s v (unit-ready z .0)
 
-  pub typed-double : t ≡ 0x646f_7562 → (x : Float) → x ≡ ofBits binary64 (num 8 s v) → vt.Double x ≡ typedIn s t v
+  pub typed-double : t ≡ chars "doub" → (x : Float) → x ≡ ofBits binary64 (num 8 s v) → vt.Double x ≡ typedIn s t v
   unfolding typedIn
   typed-double z x e = rw z (ap (λ (c : Float). vt.Double c) e)
 
-  pub typed-unit : t ≡ 0x556e_7446 → (n : ℕ) → n ≡ orZero (field 4 s v) → (x : Float) → x ≡ ofBits binary64 (num 8 s (v + 4)) → vt.UnitDouble n x ≡ typedIn s t v
+  pub typed-unit : t ≡ chars "UntF" → (n : ℕ) → n ≡ orZero (field 4 s v) → (x : Float) → x ≡ ofBits binary64 (num 8 s (v + 4)) → vt.UnitDouble n x ≡ typedIn s t v
   unfolding typedIn
   typed-unit z n g x e =
       let m : n ≡ num 4 s v = unit-loaded z n g in
       rw z (ap (λ (c : Float). vt.UnitDouble n c) e ∙ ap (λ (c : ℕ). vt.UnitDouble c (ofBits binary64 (num 8 s (v + 4)))) m)
 
-pub typed-other : (s : List ℕ) (t v : ℕ) → (t ≡ 0x626f_6f6c → ⊥) → (t ≡ 0x6c6f_6e67 → ⊥) → (t ≡ 0x636f_6d70 → ⊥) → (t ≡ 0x646f_7562 → ⊥) → (t ≡ 0x556e_7446 → ⊥) → vt.Other ≡ typedIn s t v
+pub typed-other : (s : List ℕ) (t v : ℕ) → (t ≡ chars "bool" → ⊥) → (t ≡ chars "long" → ⊥) → (t ≡ chars "comp" → ⊥) → (t ≡ chars "doub" → ⊥) → (t ≡ chars "UntF" → ⊥) → vt.Other ≡ typedIn s t v
 unfolding typedIn
-typed-other s t v a b c d e = rw (ne-eqb t 0x626f_6f6c a, ne-eqb t 0x6c6f_6e67 b, ne-eqb t 0x636f_6d70 c, ne-eqb t 0x646f_7562 d, ne-eqb t 0x556e_7446 e)
+typed-other s t v a b c d e = rw (ne-eqb t (chars "bool") a, ne-eqb t (chars "long") b, ne-eqb t (chars "comp") c, ne-eqb t (chars "doub") d, ne-eqb t (chars "UntF") e)
 
 -- the bits of a double that is there
 pub double-loaded : (s : List ℕ) (v n : ℕ) → 8 ≤ length s - v → n ≡ orZero (field 8 s v) → n ≡ num 8 s v

@@ -10,10 +10,11 @@ use Rattle.descriptor.specs.Reading.{Row, root, descriptor}
 use Rattle.descriptor.specs.Tiles.{Tiled, none, one}
 use Rattle.descriptor.proofs.Tiling.{five-each}
 use Rattle.descriptor.proofs.Rows.{of-root, rows-laid}
-use Rattle.descriptor_read.specs.declared.Walk.{Walk}
-use Rattle.descriptor_read.specs.Table.{extent, putRow, putRows, Done}
+use Rattle.descriptor_read.specs.declared.NextRow.{NextRow}
+use Rattle.descriptor_read.specs.scaffold.Table.{extent, putRow, putRows, Done}
 use Rattle.descriptor_judge.specs.Answer.{accepted, refused as refusedIn, verdict}
-use Rattle.descriptor_read.specs.Values.{Found, found, missing, rowAt, rowIn, valueSize, is, refused, extentOf, lies, refusal, placeOf, valueIn}
+use Rattle.descriptor_read.specs.Values.{RowAnswer, found, missing, rowAt, rowIn, valueSize, lies, refusal, placeOf, valueIn}
+use Rattle.descriptor_read.specs.scaffold.Values.{is, refused, extentOf}
 use Rattle.descriptor_read.proofs.Table.{length-putRow, three, not-yet, no-room}
 
 -- ---- the verdict's case
@@ -72,7 +73,7 @@ module _ (s : List ℕ) (k : ℕ) where
         let b : 0 + 5 * length (m .0) ≤ length s = five-each (rows-laid s (m .0) (m .1) (m .2) .tiled) in
         omega (arith, m .3)
 
-    pub row-found : k < n → (w : Walk) (u : List ℕ) → Done w k (0 ∷ 0 ∷ 0 ∷ []) u 0 (root s 0)
+    pub row-found : k < n → (w : NextRow) (u : List ℕ) → Done w k (0 ∷ 0 ∷ 0 ∷ []) u 0 (root s 0)
         → (a b : ℕ) → a ≡ getD u 1 0 → b ≡ getD u 2 0 → is (getD u 0 0) a b ≡ extentOf (rowIn k (descriptor s))
     row-found h w u d a b x y =
         let m = accepted-rows (descriptor s) n e in
@@ -119,11 +120,11 @@ within-row s k (ok rs q) d r e = of-root s rs q d .0
 within-row s k (refuse x p y f) d r e = let z : _≡_ {A = ℕ} 0 1 = cc in absurd (omega arith)
 
 -- an extent that was told, as a part of the file
-pub extent-is : (f : Found) (t v n : ℕ) → is t v n ≡ extentOf f → (r : Row) × (f ≡ found r) × (t ≡ r .kind) × (v ≡ r .value) × (n ≡ valueSize r)
+pub extent-is : (f : RowAnswer) (t v n : ℕ) → is t v n ≡ extentOf f → (r : Row) × (f ≡ found r) × (t ≡ r .kind) × (v ≡ r .value) × (n ≡ valueSize r)
 extent-is (found r) t v n e = (r, refl, cc, cc, cc)
 extent-is (missing x p) t v n e = let z : _≡_ {A = ℕ} 0 1 = cc in absurd (omega arith)
 
-pub extent-no : (f : Found) (x p : ℕ) → refused x p ≡ extentOf f → f ≡ missing x p
+pub extent-no : (f : RowAnswer) (x p : ℕ) → refused x p ≡ extentOf f → f ≡ missing x p
 extent-no (found r) x p e = let z : _≡_ {A = ℕ} 0 1 = cc in absurd (omega arith)
 extent-no (missing y q) x p e = let a : y ≡ x = cc in let b : q ≡ p = cc in cc
 

@@ -18,16 +18,17 @@ ghost use mathlib.Core.Bool.{true};
 ghost use Rattle.algebra.specs.Numbers.{num};
 ghost use Rattle.algebra.specs.Reader.{field, orZero};
 ghost use Rattle.fields.specs.Answer.{toldStep};
-ghost use Rattle.descriptor.specs.Answer.{endOf, begun};
-ghost use Rattle.descriptor.specs.Leaves.{Leafed};
+ghost use Rattle.descriptor.specs.scaffold.Answer.{endOf, begun};
+ghost use Rattle.descriptor.specs.scaffold.Leaves.{Leafed};
 ghost use Rattle.descriptor.specs.Reading.{id, class, sortOf, children, refItem, referenceOf, arrayPair, arrayOf, item, objectOf, root, descriptor};
-ghost use Rattle.descriptor_read.specs.Table.{putRow, Done, Within, Below};
+ghost use Rattle.descriptor_read.specs.scaffold.Table.{putRow, Done, Within, Below};
 ghost use Rattle.descriptor_judge.specs.Answer.{told};
-ghost use Rattle.descriptor_judge.specs.Cycle.{optional, memberOf, holderOf, heldOf};
-ghost use Rattle.descriptor_read.specs.Cycle.{valued};
-ghost use Rattle.descriptor_read.specs.Carried.{Small, carried};
+ghost use Rattle.descriptor_judge.specs.scaffold.Cycle.{optional, memberOf, holderOf, heldOf};
+ghost use Rattle.descriptor_read.specs.scaffold.Cycle.{valued};
+ghost use Rattle.descriptor_read.specs.scaffold.Carried.{Small, carried};
 ghost use Rattle.descriptor_read.specs.Filled.{filled, rowsIn};
-ghost use Rattle.descriptor_read.specs.Values.{rowIn, extentOf, toldExtent, placeOf, toldValue, valueIn};
+ghost use Rattle.descriptor_read.specs.Values.{rowIn, placeOf, toldValue, valueIn};
+ghost use Rattle.descriptor_read.specs.scaffold.Values.{extentOf, toldExtent};
 ghost use Rattle.descriptor_read.specs.Typed.{typedIn, typedOf};
 use descriptor::ALIAS;
 use descriptor::ARRAY;
@@ -49,9 +50,9 @@ use descriptor::TEXT;
 use descriptor::UNIT_DOUBLE;
 use descriptor::Value;
 use descriptor_judge::Answer;
+use fields::FieldEnd;
 use fields::Number8;
 use fields::Number32;
-use fields::Step;
 
 // How many numbers a row has in a table: kind, parent, first byte, length, depth.
 pub const WIDTH: usize = 5;
@@ -81,7 +82,7 @@ enum Extent {
 }
 
 // The next place and the next row's number; or a refusal.
-enum Walk {
+enum NextRow {
     Next(usize, usize),
     Refused(u32, usize),
 }
@@ -91,37 +92,37 @@ enum Walk {
 
 fn next_in(place: usize, row: usize) -> u64
     requires { ⌜ (place < 0x1_0000_0000) × (row < 0x8000_0000) ⌝ }
-    ensures { λ r. ⌜ carried r ≡ Walk.Next place row ⌝ }
+    ensures { λ r. ⌜ carried r ≡ NextRow.Next place row ⌝ }
 {
     (row as u64) * 0x1_0000_0000 + (place as u64)
 }
 
 fn refused_in(number: u32, place: usize) -> u64
     requires { ⌜ (place < 0x1_0000_0000) × (number < 0x8000_0000) ⌝ }
-    ensures { λ r. ⌜ carried r ≡ Walk.Refused number place ⌝ }
+    ensures { λ r. ⌜ carried r ≡ NextRow.Refused number place ⌝ }
 {
     0x8000_0000_0000_0000 + (number as u64) * 0x1_0000_0000 + (place as u64)
 }
 
-fn carry(walk: Walk) -> u64
+fn carry(walk: NextRow) -> u64
     requires { ⌜ Small walk ⌝ }
     ensures { λ r. ⌜ carried r ≡ walk ⌝ }
 {
     match walk {
-        Walk::Next(place, row) => next_in(place, row),
-        Walk::Refused(number, place) => refused_in(number, place),
+        NextRow::Next(place, row) => next_in(place, row),
+        NextRow::Refused(number, place) => refused_in(number, place),
     }
 }
 
 // The answer that a number carries.
-fn unpack(n: u64) -> Walk
+fn unpack(n: u64) -> NextRow
     ensures { λ r. ⌜ r ≡ carried n ⌝ }
 {
     let low = (n % 0x1_0000_0000) as usize;
     if 0x8000_0000_0000_0000 <= n {
-        return Walk::Refused(((n - 0x8000_0000_0000_0000) / 0x1_0000_0000) as u32, low);
+        return NextRow::Refused(((n - 0x8000_0000_0000_0000) / 0x1_0000_0000) as u32, low);
     }
-    Walk::Next(low, (n / 0x1_0000_0000) as usize)
+    NextRow::Next(low, (n / 0x1_0000_0000) as usize)
 }
 
 // The row of a member that ends at `end`, with `left` levels below it, in a table of the rows from
@@ -171,24 +172,24 @@ fn ref_item(
     parent: usize,
     row: usize,
     at: usize,
-) -> Walk
+) -> NextRow
     requires { ⌜ Within (now file) left parent row at at ⌝ }
     ensures { λ r. ⌜ Done r base (now (table .entry)) (now (table .exit)) row (refItem left parent row (now (file .entry)) at) ⌝ }
 {
     if left == 0 {
-        return Walk::Refused(10, at);
+        return NextRow::Refused(10, at);
     }
     let Number32::Is(kind, value) = fields::u32_at(file, at) else {
-        return Walk::Refused(2, at);
+        return NextRow::Refused(2, at);
     };
     let KnownForm::Is(form) = descriptor::form_of(kind) else {
-        return Walk::Refused(4, at);
+        return NextRow::Refused(4, at);
     };
     match descriptor::ref_value_at(file, form, value) {
-        Step::Refused(x, p) => Walk::Refused(x, p),
-        Step::Next(end) => {
+        FieldEnd::Refused(x, p) => NextRow::Refused(x, p),
+        FieldEnd::Next(end) => {
             put_row(table, base, row, kind, parent, at, end, left - 1, value);
-            Walk::Next(end, row + 1)
+            NextRow::Next(end, row + 1)
         }
     }
 }
@@ -203,27 +204,27 @@ fn array_pair(
     parent: usize,
     row: usize,
     at: usize,
-) -> Walk
+) -> NextRow
     requires { ⌜ Within (now file) left parent row at at ⌝ }
     ensures { λ r. ⌜ Done r base (now (table .entry)) (now (table .exit)) row (arrayPair objects left parent row (now (file .entry)) at) ⌝ }
 {
     if left == 0 {
-        return Walk::Refused(10, at);
+        return NextRow::Refused(10, at);
     }
     match descriptor::id_at(file, at) {
-        Step::Refused(x, p) => Walk::Refused(x, p),
-        Step::Next(key) => {
+        FieldEnd::Refused(x, p) => NextRow::Refused(x, p),
+        FieldEnd::Next(key) => {
             let Number32::Is(kind, value) = fields::u32_at(file, key) else {
-                return Walk::Refused(2, key);
+                return NextRow::Refused(2, key);
             };
             if kind != descriptor::COLUMN {
-                return Walk::Refused(4, key);
+                return NextRow::Refused(4, key);
             }
             match descriptor::column_at(file, objects, value) {
-                Step::Refused(x, p) => Walk::Refused(x, p),
-                Step::Next(end) => {
+                FieldEnd::Refused(x, p) => NextRow::Refused(x, p),
+                FieldEnd::Next(end) => {
                     put_row(table, base, row, kind, parent, at, end, left - 1, value);
-                    Walk::Next(end, row + 1)
+                    NextRow::Next(end, row + 1)
                 }
             }
         }
@@ -240,29 +241,29 @@ fn reference(
     left: usize,
     row: usize,
     at: usize,
-) -> Walk
+) -> NextRow
     requires { ⌜ Below (now file) left row at ⌝ }
     ensures { λ r. ⌜ Done r base (now (table .entry)) (now (table .exit)) (row + 1) (referenceOf left row (now (file .entry)) at) ⌝ }
 {
     let Number32::Is(n, from) = fields::u32_at(file, at) else {
-        return Walk::Refused(2, at);
+        return NextRow::Refused(2, at);
     };
     let mut next = from;
     let mut child = row + 1;
     let mut i: u32 = 0;
     while i < n {
         match ref_item(file, table, base, left, row, child, next) {
-            Walk::Refused(x, p) => {
-                return Walk::Refused(x, p);
+            NextRow::Refused(x, p) => {
+                return NextRow::Refused(x, p);
             }
-            Walk::Next(q, k) => {
+            NextRow::Next(q, k) => {
                 next = q;
                 child = k;
             }
         }
         i += 1;
     }
-    Walk::Next(next, child)
+    NextRow::Next(next, child)
 }
 
 // The pairs of an object array, from their count on.
@@ -274,42 +275,42 @@ fn array_pairs(
     left: usize,
     row: usize,
     at: usize,
-) -> Walk
+) -> NextRow
     requires { ⌜ Below (now file) left row at ⌝ }
     ensures { λ r. ⌜ Done r base (now (table .entry)) (now (table .exit)) (row + 1) (children (arrayPair objects left row) row (now (file .entry)) at) ⌝ }
 {
     let Number32::Is(n, from) = fields::u32_at(file, at) else {
-        return Walk::Refused(2, at);
+        return NextRow::Refused(2, at);
     };
     let mut next = from;
     let mut child = row + 1;
     let mut i: u32 = 0;
     while i < n {
         match array_pair(file, table, base, objects, left, row, child, next) {
-            Walk::Refused(x, p) => {
-                return Walk::Refused(x, p);
+            NextRow::Refused(x, p) => {
+                return NextRow::Refused(x, p);
             }
-            Walk::Next(q, k) => {
+            NextRow::Next(q, k) => {
                 next = q;
                 child = k;
             }
         }
         i += 1;
     }
-    Walk::Next(next, child)
+    NextRow::Next(next, child)
 }
 
 // An object array, from its number of objects on.
-fn array(file: &[u8], table: &mut [u32], base: usize, left: usize, row: usize, at: usize) -> Walk
+fn array(file: &[u8], table: &mut [u32], base: usize, left: usize, row: usize, at: usize) -> NextRow
     requires { ⌜ Below (now file) left row at ⌝ }
     ensures { λ r. ⌜ Done r base (now (table .entry)) (now (table .exit)) (row + 1) (arrayOf left row (now (file .entry)) at) ⌝ }
 {
     let Number32::Is(objects, class) = fields::u32_at(file, at) else {
-        return Walk::Refused(2, at);
+        return NextRow::Refused(2, at);
     };
     match descriptor::class_at(file, class) {
-        Step::Refused(x, p) => Walk::Refused(x, p),
-        Step::Next(pairs) => array_pairs(file, table, base, objects, left, row, pairs),
+        FieldEnd::Refused(x, p) => NextRow::Refused(x, p),
+        FieldEnd::Next(pairs) => array_pairs(file, table, base, objects, left, row, pairs),
     }
 }
 
@@ -336,12 +337,12 @@ fn held(
 }
 
 // A field's end as the end of a value.
-fn ending(step: Step) -> Value
+fn ending(step: FieldEnd) -> Value
     ensures { λ r. ⌜ r ≡ endOf (toldStep step) ⌝ }
 {
     match step {
-        Step::Next(next) => Value::Ends(next),
-        Step::Refused(x, p) => Value::Refused(x, p),
+        FieldEnd::Next(next) => Value::Ends(next),
+        FieldEnd::Refused(x, p) => Value::Refused(x, p),
     }
 }
 
@@ -370,23 +371,23 @@ fn begin(file: &[u8], kind: u32, at: usize) -> Value
 }
 
 // A class, where there is one.
-fn class_if(file: &[u8], there: bool, at: usize) -> Step
+fn class_if(file: &[u8], there: bool, at: usize) -> FieldEnd
     ensures { λ r. ⌜ toldStep r ≡ optional there class (now (file .entry)) at ⌝ }
 {
     if there {
         return descriptor::class_at(file, at);
     }
-    Step::Next(at)
+    FieldEnd::Next(at)
 }
 
 // A key, where there is one.
-fn key_if(file: &[u8], there: bool, at: usize) -> Step
+fn key_if(file: &[u8], there: bool, at: usize) -> FieldEnd
     ensures { λ r. ⌜ toldStep r ≡ optional there id (now (file .entry)) at ⌝ }
 {
     if there {
         return descriptor::id_at(file, at);
     }
-    Step::Next(at)
+    FieldEnd::Next(at)
 }
 
 // The item at `at`, whose row starts at `first`: at its key in a pair, else at its own first byte.
@@ -399,21 +400,21 @@ fn item(
     row: usize,
     first: usize,
     at: usize,
-) -> Walk
+) -> NextRow
     requires { ⌜ Within (now file) left parent row first at ⌝ }
     ensures { λ r. ⌜ Done r base (now (table .entry)) (now (table .exit)) row (item left parent row first (now (file .entry)) at) ⌝ }
 {
     if left == 0 {
-        return Walk::Refused(10, first);
+        return NextRow::Refused(10, first);
     }
     let Number32::Is(kind, value) = fields::u32_at(file, at) else {
-        return Walk::Refused(2, at);
+        return NextRow::Refused(2, at);
     };
     match value_of(file, table, base, kind, left - 1, row, value) {
-        Walk::Refused(x, p) => Walk::Refused(x, p),
-        Walk::Next(end, k) => {
+        NextRow::Refused(x, p) => NextRow::Refused(x, p),
+        NextRow::Next(end, k) => {
             put_row(table, base, row, kind, parent, first, end, left - 1, value);
-            Walk::Next(end, k)
+            NextRow::Next(end, k)
         }
     }
 }
@@ -427,18 +428,18 @@ fn value_of(
     left: usize,
     row: usize,
     at: usize,
-) -> Walk
+) -> NextRow
     requires { ⌜ Below (now file) left row at ⌝ }
     ensures { λ r. ⌜ Done r base (now (table .entry)) (now (table .exit)) (row + 1) (valued left row kind (now (file .entry)) at) ⌝ }
 {
     match begin(file, kind, at) {
-        Value::Ends(end) => Walk::Next(end, row + 1),
+        Value::Ends(end) => NextRow::Next(end, row + 1),
         Value::List => unpack(list(file, table, base, false, left, row, at)),
         Value::Object => unpack(object(file, table, base, left, row, at)),
         Value::Reference => unpack(held(file, table, base, false, left, row, at)),
         Value::Array => unpack(held(file, table, base, true, left, row, at)),
-        Value::Unknown => Walk::Refused(4, at - 4),
-        Value::Refused(x, p) => Walk::Refused(x, p),
+        Value::Unknown => NextRow::Refused(4, at - 4),
+        Value::Refused(x, p) => NextRow::Refused(x, p),
     }
 }
 
@@ -456,8 +457,8 @@ fn list(
     ensures { λ r. ⌜ Done (carried r) base (now (table .entry)) (now (table .exit)) (row + 1) (holderOf keyed left row (now (file .entry)) at) ⌝ }
 {
     match class_if(file, keyed, at) {
-        Step::Refused(x, p) => refused_in(x, p),
-        Step::Next(count) => {
+        FieldEnd::Refused(x, p) => refused_in(x, p),
+        FieldEnd::Next(count) => {
             let Number32::Is(n, from) = fields::u32_at(file, count) else {
                 return refused_in(2, count);
             };
@@ -466,10 +467,10 @@ fn list(
             let mut i: u32 = 0;
             while i < n {
                 match pair(file, table, base, keyed, left, row, child, next) {
-                    Walk::Refused(x, p) => {
+                    NextRow::Refused(x, p) => {
                         return refused_in(x, p);
                     }
-                    Walk::Next(q, k) => {
+                    NextRow::Next(q, k) => {
                         next = q;
                         child = k;
                     }
@@ -499,37 +500,37 @@ fn pair(
     parent: usize,
     row: usize,
     at: usize,
-) -> Walk
+) -> NextRow
     requires { ⌜ Within (now file) left parent row at at ⌝ }
     ensures { λ r. ⌜ Done r base (now (table .entry)) (now (table .exit)) row (memberOf keyed left parent row (now (file .entry)) at) ⌝ }
 {
     if left == 0 {
-        return Walk::Refused(10, at);
+        return NextRow::Refused(10, at);
     }
     match key_if(file, keyed, at) {
-        Step::Refused(x, p) => Walk::Refused(x, p),
-        Step::Next(next) => item(file, table, base, left, parent, row, at, next),
+        FieldEnd::Refused(x, p) => NextRow::Refused(x, p),
+        FieldEnd::Next(next) => item(file, table, base, left, parent, row, at, next),
     }
 }
 
 // ---- the file
 
 // Version 16, and the root object.
-fn root(file: &[u8], table: &mut [u32], base: usize) -> Walk
+fn root(file: &[u8], table: &mut [u32], base: usize) -> NextRow
     requires { ⌜ length (now file) ≤ 16777216 ⌝ }
     ensures { λ r. ⌜ Done r base (now (table .entry)) (now (table .exit)) 0 (root (now (file .entry)) 0) ⌝ }
 {
     let Number32::Is(version, value) = fields::u32_at(file, 0) else {
-        return Walk::Refused(2, 0);
+        return NextRow::Refused(2, 0);
     };
     if version != 16 {
-        return Walk::Refused(3, 0);
+        return NextRow::Refused(3, 0);
     }
     match unpack(object(file, table, base, 32, 0, value)) {
-        Walk::Refused(x, p) => Walk::Refused(x, p),
-        Walk::Next(end, rows) => {
+        NextRow::Refused(x, p) => NextRow::Refused(x, p),
+        NextRow::Next(end, rows) => {
             put_row(table, base, 0, descriptor::OBJECT, 0, 0, end, 32, value);
-            Walk::Next(end, rows)
+            NextRow::Next(end, rows)
         }
     }
 }

@@ -11,6 +11,7 @@ use lib.Ieee.Scale.{finite}
 use borrow.Author.Tests.{leb-false, le-leb, lt-ltb, eq-eqb, eqb-false, ne-eqb}
 use native.Mathlib.Omega.{arith}
 use native.Mathlib.Nat.{add-zero, mul-one}
+use Rattle.algebra.specs.Chars.{chars}
 use Rattle.algebra.specs.Numbers.{num, nums, be, At, Bytes}
 use Rattle.algebra.specs.Reader.{Res, Reader, ok, refuse, then, pick, field, body, rule, unless, judged, _>>=_, each, done}
 use Rattle.algebra.specs.Store.{part}
@@ -19,7 +20,7 @@ use Rattle.algebra.proofs.Places.{length-be, at-in, at-next, at-part, length-pa
 use Rattle.algebra.proofs.Floats.{finite-bits}
 use Rattle.algebra.proofs.Inverse.{clash, body-inv}
 use Rattle.algebra.proofs.Sets.{Reads, Stands, field-numbers, number-sound}
-use Rattle.descriptor.specs.Reading.{passing, skip, id, shut, closing, unicode, class, boolean, flag, bits, double, enumerated, run, isUnit, isArrayUnit, unit, arrayUnit, unitDouble, is, Sort, leaf, list, object, reference, array, types, sortOf, forms, formOf, doubles, column}
+use Rattle.descriptor.specs.Reading.{passing, skip, id, shut, closing, unicode, class, boolean, flag, bits, double, enumerated, rawBytes, isUnit, isArrayUnit, unit, arrayUnit, unitDouble, is, Sort, leaf, list, object, reference, array, types, sortOf, forms, formOf, doubles, column}
 use Rattle.descriptor.proofs.Fields.{shut-nums}
 use Rattle.descriptor_tree.specs.Grammar.{Boolean, Double, Measure, ArrayMeasure}
 use Rattle.descriptor_tree.specs.Damaged.{Cut, cut, Wrong, WrongId, WrongText, WrongClass, WrongEnumerated, WrongRaw, WrongLeaf, WrongForm, WrongDoubles}
@@ -247,8 +248,8 @@ module _ (s : List ℕ) (bytes : Bytes s) where
   unfolding enumerated
   enumerated-cause = two-cause id (id-reads s bytes) id-cause id-cause (λ b y o w. WrongEnumerated.type w) (λ a t b y o w. WrongEnumerated.value t w)
 
-  raw-cause : Causes WrongRaw run
-  unfolding run
+  raw-cause : Causes WrongRaw rawBytes
+  unfolding rawBytes
   raw-cause at le x q r f e = go (why (field 4 s at) _ e)
     where
       go : Why (field 4 s at) (λ n q. skip n s q) x q r f → Cause WrongRaw at x q
@@ -269,11 +270,11 @@ module _ (s : List ℕ) (bytes : Bytes s) where
   double-cause = passed-cause (judged 8 bits) (wrong-cause 8 (λ b. finite (ofBits binary64 b)) 5 (λ n. n % 0x8000_0000_0000_0000 < 0x7FF0_0000_0000_0000)
       (λ v p. finite-bits binary64 v ∙ lt-ltb (v % 0x8000_0000_0000_0000) 0x7FF0_0000_0000_0000 p) (λ e. omega arith))
 
-  unit-cause : Causes (WrongLeaf 0x556E_7446) unitDouble
+  unit-cause : Causes (WrongLeaf (chars "UntF")) unitDouble
   unfolding unitDouble
   unit-cause at le x q r f e = go (why (judged 4 unit s at) _ e)
     where
-      go : Why (judged 4 unit s at) (λ u n. double s n) x q r f → Cause (WrongLeaf 0x556E_7446) at x q
+      go : Why (judged 4 unit s at) (λ u n. double s n) x q r f → Cause (WrongLeaf (chars "UntF")) at x q
       go (first g) = also (wrong-cause 4 isUnit 4 Measure (λ v p. measure-known p) (λ e. omega arith) at le x q r f g) (λ b y o w. WrongLeaf.unit w)
       go (later u n g h) =
           let z = number-sound 4 (unit-number s bytes) at u n le g in
@@ -284,7 +285,7 @@ module _ (s : List ℕ) (bytes : Bytes s) where
     pub before : ℕ
     pub span : List ℕ
     pub less : before < n
-    pub run : Run Double before span
+    pub rawBytes : Run Double before span
     pub stands : At s at span
     pub cause : Cause (Wrong 8 Double 5) (at + length span) x q
 
@@ -303,7 +304,7 @@ module _ (s : List ℕ) (bytes : Bytes s) where
             before = suc (c .before);
             span = z .0 ++ c .span;
             less = omega (arith, c .less);
-            run = seq (z .1) (c .run);
+            rawBytes = seq (z .1) (c .rawBytes);
             stands = at-next s at (z .0) (c .span) m (z .3) (z .2) (c .stands);
             cause = subst (λ (p : ℕ). Cause (Wrong 8 Double 5) p x q) k (c .cause);
           }
@@ -313,7 +314,7 @@ module _ (s : List ℕ) (bytes : Bytes s) where
         before = 0;
         span = [];
         less = omega arith;
-        run = refl;
+        rawBytes = refl;
         stands = le;
         cause = subst (λ (p : ℕ). Cause (Wrong 8 Double 5) p x q) (sym (add-zero at)) (double-cause at le x q r f g);
       }
@@ -334,7 +335,7 @@ module _ (s : List ℕ) (bytes : Bytes s) where
           after a (8 + length (d .span)) (e + length (d .span)) size st (omega (arith, z .next, y .next)) (d .cause) (λ b y′ o w.
           subst (λ (l : List ℕ). WrongDoubles m l y′ (8 + length (d .span) + o)) (sym (append-assoc (be 4 u) (be 4 m ++ d .span) b) ∙ refl)
           (subst (λ (l : List ℕ). WrongDoubles m (be 4 u ++ l) y′ (8 + length (d .span) + o)) (sym (append-assoc (be 4 m) (d .span) b))
-          (WrongDoubles.double (d .before) (d .span) (number u (z .small) (z .holds)) few (omega (arith, d .less, y .holds)) (d .run) w)))
+          (WrongDoubles.double (d .before) (d .span) (number u (z .small) (z .holds)) few (omega (arith, d .less, y .holds)) (d .rawBytes) w)))
 
       second : (u n : ℕ) → Stands s 4 ArrayMeasure at u n → Why (judged 4 (doubles m) s n) (λ c e. done (each c 0 (λ i. double) s e)) x q r f → Cause (WrongDoubles m) at x q
       second u n z (first g) =
@@ -350,10 +351,10 @@ module _ (s : List ℕ) (bytes : Bytes s) where
 
   abbrev pub Sorts : ℕ → Sort → Type 0
   Sorts t (leaf p) = Causes (WrongLeaf t) p
-  Sorts t list = t ≡ 0x566C_4C73
-  Sorts t object = (t ≡ 0x4F62_6A63) ⊎ (t ≡ 0x476C_624F)
-  Sorts t reference = t ≡ 0x6F62_6A20
-  Sorts t array = t ≡ 0x4F62_4172
+  Sorts t list = t ≡ chars "VlLs"
+  Sorts t object = (t ≡ chars "Objc") ⊎ (t ≡ chars "GlbO")
+  Sorts t reference = t ≡ chars "obj "
+  Sorts t array = t ≡ chars "ObAr"
 
   within : {U W : List ℕ → ℕ → ℕ → Type 0} (p : Reader Unit) → Causes U p → ((b : List ℕ) (y o : ℕ) → U b y o → W b y o) → Causes W p
   within p c to at le x q r f e = also (c at le x q r f e) to
@@ -371,11 +372,11 @@ module _ (s : List ℕ) (bytes : Bytes s) where
           (
             within enumerated enumerated-cause (λ b y o w. WrongLeaf.enumerated w),
             (
-              within run raw-cause (λ b y o w. WrongLeaf.alias w),
+              within rawBytes raw-cause (λ b y o w. WrongLeaf.alias w),
               (
-                within run raw-cause (λ b y o w. WrongLeaf.path w),
+                within rawBytes raw-cause (λ b y o w. WrongLeaf.path w),
                 (
-                  within run raw-cause (λ b y o w. WrongLeaf.raw w),
+                  within rawBytes raw-cause (λ b y o w. WrongLeaf.raw w),
                   (
                     within (skip 4) (skip-cause 4) (λ b y o w. WrongLeaf.integer w),
                     (
@@ -396,7 +397,7 @@ module _ (s : List ℕ) (bytes : Bytes s) where
   )
 
   -- no bytes are never refused
-  nothing-cause : Causes (WrongForm 0x436C_7373) (skip 0)
+  nothing-cause : Causes (WrongForm (chars "Clss")) (skip 0)
   nothing-cause at le x q r f e = let z = body-why 1 0 at (done-why (body 1 0 s at) e) in absurd (omega (arith, z .2))
 
   pub form-cause : (t : ℕ) (p : Reader Unit) → formOf t ≡ is p → Causes (WrongForm t) p

@@ -9,6 +9,7 @@ use lib.ListN.{length, length-append}
 use borrow.Author.Tests.{eq-eqb}
 use native.Mathlib.Omega.{arith}
 use native.Mathlib.Nat.{add-zero}
+use Rattle.algebra.specs.Chars.{chars}
 use Rattle.algebra.specs.Numbers.{be, At, Bytes}
 use Rattle.algebra.specs.Reader.{Res, Reader, ok, refuse, then, field, judged, _>>=_}
 use Rattle.algebra.specs.Sets.{Number}
@@ -145,7 +146,7 @@ module _ (s : List ℕ) (bytes : Bytes s) where
     classed-cause may to (wrong w) = wrong (behind-count s bytes z w to)
     classed-cause may to (counted b n c small h u) = typed Place.pairs n (b ++ be 4 n) (may b n small c) h u
 
-    array-cause : kind ≡ 0x4F62_4172 → arrayOf d k s v ≡ refuse x q r g → ItemCause d k at x q r g
+    array-cause : kind ≡ chars "ObAr" → arrayOf d k s v ≡ refuse x q r g → ItemCause d k at x q r g
     unfolding arrayOf
     array-cause t e = go (why (field 4 s v) _ e)
       where
@@ -297,14 +298,14 @@ module _ (s : List ℕ) (bytes : Bytes s) where
       where
         more : (key : List ℕ) (n : ℕ) → Id key → At s lo key → lo + length key ≡ n → n ≤ length s → Why (judged 4 columnType s n) (λ t v. headed t d p lo v (plain (column m) s v)) x q r g → MemberCause (Place.columns m) d k lo x q r g
         more key n y h z inside (first u) =
-            wrong (after s bytes key (length key) n refl h z (wrong-cause s bytes 4 (λ t. eqb t 0x556e_466c) 4 (λ t. t ≡ 0x556E_466C) (λ v p. eq-eqb v 0x556e_466c p) (λ e. omega arith) n inside x q r g u) (λ b i o w. WrongMember.columnType y w))
+            wrong (after s bytes key (length key) n refl h z (wrong-cause s bytes 4 (λ t. eqb t (chars "UnFl")) 4 (λ t. t ≡ chars "UnFl") (λ v p. eq-eqb v (chars "UnFl") p) (λ e. omega arith) n inside x q r g u) (λ b i o w. WrongMember.columnType y w))
         more key n y h z inside (later t v u w) =
             let c = number-sound 4 (column-number s bytes) n t v inside u in
-            let a : List ℕ = key ++ be 4 0x556E_466C in
-            let size : length a ≡ length key + 4 = omega (arith, length-append key (be 4 0x556E_466C), length-be 4 0x556E_466C) in
-            let st : At s lo a = at-next s lo key (be 4 0x556E_466C) n z h (subst (λ (j : ℕ). At s n (be 4 j)) (c .holds) (c .stands)) in
+            let a : List ℕ = key ++ be 4 (chars "UnFl") in
+            let size : length a ≡ length key + 4 = omega (arith, length-append key (be 4 (chars "UnFl")), length-be 4 (chars "UnFl")) in
+            let st : At s lo a = at-next s lo key (be 4 (chars "UnFl")) n z h (subst (λ (j : ℕ). At s n (be 4 j)) (c .holds) (c .stands)) in
             wrong (after s bytes a (length key + 4) v size st (omega (arith, c .next)) (column-cause s bytes m few v (c .inside) x q r g (plain-why (column m s v) (headed-why t d p lo v (plain (column m) s v) w)))
-            (λ b i o j. subst (λ (l : List ℕ). WrongMember (Place.columns m) l i (length key + 4 + o)) (sym (append-assoc key (be 4 0x556E_466C) b)) (WrongMember.column y j)))
+            (λ b i o j. subst (λ (l : List ℕ). WrongMember (Place.columns m) l i (length key + 4 + o)) (sym (append-assoc key (be 4 (chars "UnFl")) b)) (WrongMember.column y j)))
 
         go : Why (id s lo) (λ u e. then (judged 4 columnType s e) (λ t v. headed t d p lo v (plain (column m) s v))) x q r g → MemberCause (Place.columns m) d k lo x q r g
         go (first h) = wrong (also s bytes (id-cause s bytes lo le x q r g h) (λ b y o u. WrongMember.columnKey u))
@@ -414,8 +415,8 @@ module _ (s : List ℕ) (bytes : Bytes s) where
           after s bytes a (8 + length c) (n + length hd) size sa (omega (arith, z .next, length-append c (be 4 i), length-be 4 i)) y (λ b j o w.
           subst (λ (l : List ℕ). DamagedFile l j (8 + length c + o)) (ap (λ (l : List ℕ). be 4 16 ++ l) (sym (append-assoc c (be 4 i) b)) ∙ sym (append-assoc (be 4 16) hd b)) (DamagedFile.pairs i of few w))
 
-      go : Why (judged 4 version s 0) (λ v n. headed 0x4f62_6a63 32 0 0 n (objectOf (item 32) 32 0 s n)) x q r g → Cause s bytes DamagedFile 0 x q
+      go : Why (judged 4 version s 0) (λ v n. headed (chars "Objc") 32 0 0 n (objectOf (item 32) 32 0 s n)) x q r g → Cause s bytes DamagedFile 0 x q
       go (Why.first h) = also s bytes (wrong-cause s bytes 4 (λ v. eqb v 16) 3 (λ v. v ≡ 16) (λ v p. eq-eqb v 16 p) (λ e. omega arith) 0 le x q r g h) (λ b y o w. DamagedFile.version w)
       go (Why.later v n h u) =
           let z = number-sound 4 (version-number s bytes) 0 v n le h in
-          more v n h (object-cause (reader Place.pairs 32 0) 0 n (z .inside) x q r g (headed-why 0x4f62_6a63 32 0 0 n (objectOf (item 32) 32 0 s n) u))
+          more v n h (object-cause (reader Place.pairs 32 0) 0 n (z .inside) x q r g (headed-why (chars "Objc") 32 0 0 n (objectOf (item 32) 32 0 s n) u))

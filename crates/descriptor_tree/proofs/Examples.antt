@@ -3,6 +3,7 @@ use Prim.Native.Nat.{ℕ, zero, suc, _<_}
 use mathlib.Core.Path.{_≡_, refl}
 use mathlib.Core.List.{List, [], _∷_, _++_}
 use native.Mathlib.Omega.{arith}
+use Rattle.algebra.specs.Chars.{chars}
 use Rattle.algebra.specs.Numbers.{be, Bytes}
 use Rattle.algebra.specs.Refusal.{among}
 use Rattle.algebra.specs.Sets.{Number, Seq, Counted}
@@ -28,13 +29,13 @@ pub p11-bytes : fileBytes p11 ≡ 0 ∷ 0 ∷ 0 ∷ 16 ∷ 0 ∷ 0 ∷ 0 ∷ 0 �
 unfolding fileBytes rootHead bytes be
 p11-bytes = refl
 
-pub p11-rows : fileRows p11 ≡ row 0x4F62_6A63 0 0 17 0 4 ∷ []
+pub p11-rows : fileRows p11 ≡ row (chars "Objc") 0 0 17 0 4 ∷ []
 unfolding fileRows rows fileBytes rootHead bytes be
 p11-rows = refl
 
 -- `VlLs` of two `bool`
 abbrev pub p12 : Descriptor
-p12 = record { class = class; pairs = one key 0x566C_4C73 (be 4 2) (one [] 0x626F_6F6C (1 ∷ []) none (one [] 0x626F_6F6C (1 ∷ []) none none)) none }
+p12 = record { class = class; pairs = one key (chars "VlLs") (be 4 2) (one [] (chars "bool") (1 ∷ []) none (one [] (chars "bool") (1 ∷ []) none none)) none }
 
 pub p12-bytes : fileBytes p12
     ≡ 0 ∷ 0 ∷ 0 ∷ 16 ∷ 0 ∷ 0 ∷ 0 ∷ 0 ∷ 0 ∷ 0 ∷ 0 ∷ 1 ∷ 0x61 ∷ 0 ∷ 0 ∷ 0 ∷ 1 ∷ 0 ∷ 0 ∷ 0 ∷ 1 ∷ 0x61 ∷ 0x56 ∷ 0x6C ∷ 0x4C ∷ 0x73
@@ -42,7 +43,7 @@ pub p12-bytes : fileBytes p12
 unfolding fileBytes rootHead bytes be
 p12-bytes = refl
 
-pub p12-rows : fileRows p12 ≡ row 0x4F62_6A63 0 0 40 0 4 ∷ row 0x566C_4C73 0 17 23 1 26 ∷ row 0x626F_6F6C 1 30 5 2 34 ∷ row 0x626F_6F6C 1 35 5 2 39 ∷ []
+pub p12-rows : fileRows p12 ≡ row (chars "Objc") 0 0 40 0 4 ∷ row (chars "VlLs") 0 17 23 1 26 ∷ row (chars "bool") 1 30 5 2 34 ∷ row (chars "bool") 1 35 5 2 39 ∷ []
 unfolding fileRows rows fileBytes rootHead bytes be
 p12-rows = refl
 
@@ -60,28 +61,28 @@ abbrev four : ℕ → List ℕ
 four t = be 4 0 ++ be 4 t
 
 abbrev column : List ℕ
-column = be 4 0x2350_786C ++ (be 4 2 ++ (be 8 0x3FF0_0000_0000_0000 ++ (be 8 0xC000_0000_0000_0000 ++ [])))
+column = be 4 (chars "#Pxl") ++ (be 4 2 ++ (be 8 0x3FF0_0000_0000_0000 ++ (be 8 0xC000_0000_0000_0000 ++ [])))
 
 abbrev percents : List ℕ
-percents = be 4 0x2350_7263 ++ be 8 0x4059_0000_0000_0000
+percents = be 4 (chars "#Prc") ++ be 8 0x4059_0000_0000_0000
 
 abbrev references : Members
-references = one [] 0x456E_6D72 (class ++ (letter 0x74 ++ four 0x7661_6C75)) none none
+references = one [] (chars "Enmr") (class ++ (letter 0x74 ++ four (chars "valu"))) none none
 
 abbrev inner : Members
-inner = one (four 0x6C69_7374) 0x566C_4C73 (be 4 2) (one [] 0x6F62_6A20 (be 4 1) references (one [] 0x626F_6F6C (1 ∷ []) none none)) (one (letter 0x6E) 0x6C6F_6E67 (be 4 7) none none)
+inner = one (four (chars "list")) (chars "VlLs") (be 4 2) (one [] (chars "obj ") (be 4 1) references (one [] (chars "bool") (1 ∷ []) none none)) (one (letter 0x6E) (chars "long") (be 4 7) none none)
 
 abbrev nested : Descriptor
 nested = record {
   class = class;
-  pairs = one (letter 0x6F) 0x4F62_6A63 (class ++ be 4 2) inner
-      (one (letter 0x70) 0x4F62_4172 (be 4 2 ++ (class ++ be 4 1)) (one (letter 0x78) 0x556E_466C column none none)
-      (one (letter 0x75) 0x556E_7446 percents none none));
+  pairs = one (letter 0x6F) (chars "Objc") (class ++ be 4 2) inner
+      (one (letter 0x70) (chars "ObAr") (be 4 2 ++ (class ++ be 4 1)) (one (letter 0x78) (chars "UnFl") column none none)
+      (one (letter 0x75) (chars "UntF") percents none none));
 }
 
 pub nested-rows : fileRows nested
-    ≡ row 0x4F62_6A63 0 0 187 0 4 ∷ row 0x4F62_6A63 0 17 90 1 26 ∷ row 0x566C_4C73 1 39 55 2 51 ∷ row 0x6F62_6A20 2 55 34 3 59 ∷ row 0x456E_6D72 3 63 26 4 67
-    ∷ row 0x626F_6F6C 2 89 5 3 93 ∷ row 0x6C6F_6E67 1 94 13 2 103 ∷ row 0x4F62_4172 0 107 59 1 116 ∷ row 0x556E_466C 7 133 33 2 142 ∷ row 0x556E_7446 0 166 21 1 175 ∷ []
+    ≡ row (chars "Objc") 0 0 187 0 4 ∷ row (chars "Objc") 0 17 90 1 26 ∷ row (chars "VlLs") 1 39 55 2 51 ∷ row (chars "obj ") 2 55 34 3 59 ∷ row (chars "Enmr") 3 63 26 4 67
+    ∷ row (chars "bool") 2 89 5 3 93 ∷ row (chars "long") 1 94 13 2 103 ∷ row (chars "ObAr") 0 107 59 1 116 ∷ row (chars "UnFl") 7 133 33 2 142 ∷ row (chars "UntF") 0 166 21 1 175 ∷ []
 unfolding fileRows rows fileBytes rootHead bytes be
 nested-rows = refl
 
@@ -113,7 +114,7 @@ pub p11-file : File p11 (fileBytes p11)
 unfolding fileBytes rootHead bytes be
 p11-file = file {t = p11} class-class (omega arith) tt (each-bytes (fileBytes p11) (omega arith)) (omega arith)
 
-one-flag : Leaf 0x626F_6F6C (1 ∷ [])
+one-flag : Leaf (chars "bool") (1 ∷ [])
 unfolding be
 one-flag = Leaf.boolean (Number.number 1 (omega arith) (omega arith))
 
@@ -139,7 +140,7 @@ four-id t = Counted.counted 0 {y = be 4 t} (omega arith) (IdBody.char (length-be
 
 column-is : UnitDoubles 2 column
 column-is =
-    Counted.counted 0x2350_786C (omega arith) (
+    Counted.counted (chars "#Pxl") (omega arith) (
       among refl,
       Counted.counted 2 (omega arith) (
         omega arith,
@@ -147,17 +148,17 @@ column-is =
       ),
     )
 
-percents-is : Leaf 0x556E_7446 percents
-percents-is = Leaf.unitDouble (Counted.counted 0x2350_7263 (omega arith) (among refl, Number.number 0x4059_0000_0000_0000 (omega arith) (omega arith)))
+percents-is : Leaf (chars "UntF") percents
+percents-is = Leaf.unitDouble (Counted.counted (chars "#Prc") (omega arith) (among refl, Number.number 0x4059_0000_0000_0000 (omega arith) (omega arith)))
 
 references-allowed : Allowed Place.forms 4 references
-references-allowed = (Place.nowhere, omega arith, Member.form (Seq.seq class-class (Form.enumerated (Seq.seq (letter-id 0x74) (four-id 0x7661_6C75)))), tt, tt)
+references-allowed = (Place.nowhere, omega arith, Member.form (Seq.seq class-class (Form.enumerated (Seq.seq (letter-id 0x74) (four-id (chars "valu"))))), tt, tt)
 
 inner-allowed : Allowed Place.pairs 2 inner
 inner-allowed = (
   Place.items,
   omega arith,
-  Member.pair (four-id 0x6C69_7374) (Item.list 2 (omega arith)),
+  Member.pair (four-id (chars "list")) (Item.list 2 (omega arith)),
   (Place.forms, omega arith, Member.item (Item.reference 1 (omega arith)), references-allowed, (Place.nowhere, omega arith, Member.item (Item.leaf one-flag), tt, tt)),
   (Place.nowhere, omega arith, Member.pair (letter-id 0x6E) (Item.leaf (Leaf.integer (length-be 4 7))), tt, tt),
 )

@@ -18,7 +18,7 @@ use Rattle.algebra.proofs.Inverse.{then-inv, rule-inv, unless-fine, body-inv, o
 use Rattle.algebra.proofs.Floats.{finite-bits}
 use Rattle.algebra.specs.Refusal.{among}
 use Rattle.algebra.proofs.Placed.{all-one, of-all}
-use Rattle.descriptor.specs.Reading.{is, beside, skip, id, shut, closing, unicode, class, flag, double, enumerated, run, units, arrayUnits, isUnit, isArrayUnit, unitDouble, column}
+use Rattle.descriptor.specs.Reading.{is, beside, skip, id, shut, closing, unicode, class, flag, double, enumerated, rawBytes, units, arrayUnits, isUnit, isArrayUnit, unitDouble, column}
 use Rattle.algebra.specs.Sets.{Size}
 use Rattle.descriptor_tree.specs.Grammar.{IdBody, Id, Units, Text, Class, Enumerated, Raw, Boolean, Double, measures, Measure, UnitDouble, arrayMeasures, ArrayMeasure, UnitDoubles}
 use Rattle.descriptor_tree.specs.Grammar.IdBody.{char, string}
@@ -137,8 +137,8 @@ module _ (s : List ℕ) (bytes : Bytes s) where
   unfolding enumerated
   enumerated-reads = seq-reads id-reads (λ u. id-reads)
 
-  pub raw-reads : Reads Raw s run
-  unfolding run
+  pub raw-reads : Reads Raw s rawBytes
+  unfolding rawBytes
   raw-reads = counted-reads bytes (skip-reads s)
 
   pub boolean-reads : Reads Boolean s flag

@@ -5,11 +5,12 @@ use mathlib.Core.List.{List, [], _∷_, _++_}
 use mathlib.Core.Logic.{_⊎_, inl, inr}
 use lib.ListN.{length, length-append}
 use native.Mathlib.Omega.{arith}
+use Rattle.algebra.specs.Chars.{chars}
 use Rattle.algebra.specs.Numbers.{be, At, Bytes}
 use Rattle.algebra.specs.Reader.{Res, Reader, ok, refuse, then, field, _>>=_}
 use Rattle.algebra.proofs.Places.{length-be, at-in, at-left, at-right, at-next}
 use Rattle.algebra.proofs.Inverse.{clash, then-inv, ok-value, ok-place}
-use Rattle.descriptor.specs.Reading.{Known, is, unknown, known, id, class, flag, double, enumerated, run, unicode, unitDouble, skip, Sort, leaf, list, object, reference, array, types, sortOf, forms, formOf, Row, headed, plain, siblings, children, refValue, refItem, arrayPair, item, pair, beside}
+use Rattle.descriptor.specs.Reading.{Known, is, unknown, known, id, class, flag, double, enumerated, rawBytes, unicode, unitDouble, skip, Sort, leaf, list, object, reference, array, types, sortOf, forms, formOf, Row, headed, plain, siblings, children, refValue, refItem, arrayPair, item, pair, beside}
 use Rattle.algebra.specs.Refusal.{among}
 use Rattle.algebra.specs.Sets.{Size, Seq, number, counted}
 use Rattle.descriptor_tree.specs.Grammar.{Class, Leaf, Form, IdBody, Id, Units, Text, Raw, Double}
@@ -76,48 +77,48 @@ module _ (s : List ℕ) (bytes : Bytes s) where
   leaf-whole {b = b} (Leaf.globalClass x) at h = (class, refl, class-reads s bytes .complete at b x h .1)
   leaf-whole {b = b} (Leaf.double x) at h = (double, refl, double-reads s bytes .complete at b x h .1)
   leaf-whole {b = b} (Leaf.enumerated x) at h = (enumerated, refl, enumerated-reads s bytes .complete at b x h .1)
-  leaf-whole {b = b} (Leaf.alias x) at h = (run, refl, raw-reads s bytes .complete at b x h .1)
-  leaf-whole {b = b} (Leaf.path x) at h = (run, refl, raw-reads s bytes .complete at b x h .1)
+  leaf-whole {b = b} (Leaf.alias x) at h = (rawBytes, refl, raw-reads s bytes .complete at b x h .1)
+  leaf-whole {b = b} (Leaf.path x) at h = (rawBytes, refl, raw-reads s bytes .complete at b x h .1)
   leaf-whole {b = b} (Leaf.integer x) at h = (skip 4, refl, skip-reads s 4 .complete at b x h .1)
   leaf-whole {b = b} (Leaf.large x) at h = (skip 8, refl, skip-reads s 8 .complete at b x h .1)
-  leaf-whole {b = b} (Leaf.raw x) at h = (run, refl, raw-reads s bytes .complete at b x h .1)
+  leaf-whole {b = b} (Leaf.raw x) at h = (rawBytes, refl, raw-reads s bytes .complete at b x h .1)
   leaf-whole {b = b} (Leaf.text x) at h = (unicode, refl, text-reads s bytes .complete at b x h .1)
   leaf-whole {b = b} (Leaf.unitDouble x) at h = (unitDouble, refl, unit-reads s bytes .complete at b x h .1)
 
   -- the types of each sort
   abbrev pub Sorted : ℕ → Sort → Type 0
   Sorted t (leaf p) = Sound (Leaf t) s p
-  Sorted t list = t ≡ 0x566C_4C73
-  Sorted t object = (t ≡ 0x4F62_6A63) ⊎ (t ≡ 0x476C_624F)
-  Sorted t reference = t ≡ 0x6F62_6A20
-  Sorted t array = t ≡ 0x4F62_4172
+  Sorted t list = t ≡ chars "VlLs"
+  Sorted t object = (t ≡ chars "Objc") ⊎ (t ≡ chars "GlbO")
+  Sorted t reference = t ≡ chars "obj "
+  Sorted t array = t ≡ chars "ObAr"
 
   pub sorted : (t : ℕ) (sort : Sort) → sortOf t ≡ is sort → Sorted t sort
   unfolding sortOf
   sorted = beside-each Sorted types (
-    sound-in (boolean-reads s bytes) (Leaf 0x626F_6F6C) (λ b x. Leaf.boolean x),
+    sound-in (boolean-reads s bytes) (Leaf (chars "bool")) (λ b x. Leaf.boolean x),
     (
-      sound-in (class-reads s bytes) (Leaf 0x7479_7065) (λ b x. Leaf.class x),
+      sound-in (class-reads s bytes) (Leaf (chars "type")) (λ b x. Leaf.class x),
       (
-        sound-in (class-reads s bytes) (Leaf 0x476C_6243) (λ b x. Leaf.globalClass x),
+        sound-in (class-reads s bytes) (Leaf (chars "GlbC")) (λ b x. Leaf.globalClass x),
         (
-          sound-in (double-reads s bytes) (Leaf 0x646F_7562) (λ b x. Leaf.double x),
+          sound-in (double-reads s bytes) (Leaf (chars "doub")) (λ b x. Leaf.double x),
           (
-            sound-in (enumerated-reads s bytes) (Leaf 0x656E_756D) (λ b x. Leaf.enumerated x),
+            sound-in (enumerated-reads s bytes) (Leaf (chars "enum")) (λ b x. Leaf.enumerated x),
             (
-              sound-in (raw-reads s bytes) (Leaf 0x616C_6973) (λ b x. Leaf.alias x),
+              sound-in (raw-reads s bytes) (Leaf (chars "alis")) (λ b x. Leaf.alias x),
               (
-                sound-in (raw-reads s bytes) (Leaf 0x5074_6820) (λ b x. Leaf.path x),
+                sound-in (raw-reads s bytes) (Leaf (chars "Pth ")) (λ b x. Leaf.path x),
                 (
-                  sound-in (raw-reads s bytes) (Leaf 0x7464_7461) (λ b x. Leaf.raw x),
+                  sound-in (raw-reads s bytes) (Leaf (chars "tdta")) (λ b x. Leaf.raw x),
                   (
-                    sound-in (skip-reads s 4) (Leaf 0x6C6F_6E67) (λ b x. Leaf.integer x),
+                    sound-in (skip-reads s 4) (Leaf (chars "long")) (λ b x. Leaf.integer x),
                     (
-                      sound-in (skip-reads s 8) (Leaf 0x636F_6D70) (λ b x. Leaf.large x),
+                      sound-in (skip-reads s 8) (Leaf (chars "comp")) (λ b x. Leaf.large x),
                       (
-                        sound-in (text-reads s bytes) (Leaf 0x5445_5854) (λ b x. Leaf.text x),
+                        sound-in (text-reads s bytes) (Leaf (chars "TEXT")) (λ b x. Leaf.text x),
                         (
-                          sound-in (unit-reads s bytes) (Leaf 0x556E_7446) (λ b x. Leaf.unitDouble x),
+                          sound-in (unit-reads s bytes) (Leaf (chars "UntF")) (λ b x. Leaf.unitDouble x),
                           (refl, (inl refl, (inr refl, (refl, (refl, tt))))),
                         ),
                       ),
@@ -145,18 +146,18 @@ module _ (s : List ℕ) (bytes : Bytes s) where
   form-sound : (t : ℕ) (p : Reader Unit) → formOf t ≡ is p → Sound (Form t) s p
   unfolding formOf
   form-sound = beside-each (λ t p. Sound (Form t) s p) forms (
-    sound-in (skip-reads s 0) (Form 0x436C_7373) nothing,
+    sound-in (skip-reads s 0) (Form (chars "Clss")) nothing,
     (
-      sound-in (enumerated-reads s bytes) (Form 0x456E_6D72) (λ b x. Form.enumerated x),
+      sound-in (enumerated-reads s bytes) (Form (chars "Enmr")) (λ b x. Form.enumerated x),
       (
-        sound-in (id-reads s bytes) (Form 0x7072_6F70) (λ b x. Form.property x),
+        sound-in (id-reads s bytes) (Form (chars "prop")) (λ b x. Form.property x),
         (
-          sound-in (text-reads s bytes) (Form 0x6E61_6D65) (λ b x. Form.name x),
+          sound-in (text-reads s bytes) (Form (chars "name")) (λ b x. Form.name x),
           (
-            sound-in (skip-reads s 4) (Form 0x4964_6E74) (λ b x. Form.identifier x),
+            sound-in (skip-reads s 4) (Form (chars "Idnt")) (λ b x. Form.identifier x),
             (
-              sound-in (skip-reads s 4) (Form 0x696E_6478) (λ b x. Form.index x),
-              (sound-in (skip-reads s 4) (Form 0x7265_6C65) (λ b x. Form.offset x), tt),
+              sound-in (skip-reads s 4) (Form (chars "indx")) (λ b x. Form.index x),
+              (sound-in (skip-reads s 4) (Form (chars "rele")) (λ b x. Form.offset x), tt),
             ),
           ),
         ),
@@ -164,7 +165,7 @@ module _ (s : List ℕ) (bytes : Bytes s) where
     ),
   )
     where
-      nothing : (b : List ℕ) → Size 0 b → Form 0x436C_7373 b
+      nothing : (b : List ℕ) → Size 0 b → Form (chars "Clss") b
       nothing [] l = Form.class
       nothing (x ∷ b) l = absurd (omega arith)
 
@@ -287,7 +288,7 @@ no-type = beside-none ItemType types (
                     (
                       leafy (Leaf.text some-text),
                       (
-                        leafy (Leaf.unitDouble (counted 0x2341_6E67 (omega arith) (among refl, some-double))),
+                        leafy (Leaf.unitDouble (counted (chars "#Ang") (omega arith) (among refl, some-double))),
                         (
                           ItemType.type (Item.list 0 (omega arith)),
                           (

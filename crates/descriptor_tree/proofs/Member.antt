@@ -5,6 +5,7 @@ use mathlib.Core.List.{List, [], _∷_, _++_}
 use mathlib.Core.Logic.{⊎-elim}
 use lib.ListN.{length, length-append}
 use native.Mathlib.Omega.{arith}
+use Rattle.algebra.specs.Chars.{chars}
 use Rattle.algebra.specs.Numbers.{be, At, Bytes}
 use Rattle.algebra.specs.Reader.{Res, Reader, ok, then, field, judged, _>>=_}
 use Rattle.algebra.proofs.Places.{length-be, at-in, at-left, at-right, at-after, at-next}
@@ -167,7 +168,7 @@ module _ (s : List ℕ) (bytes : Bytes s) (d k : ℕ) where
         let o : plain (refValue (u .0)) s (lo + 4) ≡ out = ap (λ (r : Res Unit). then r (λ a q. ok [] q)) (u .2) ∙ ap (λ (i : ℕ). ok [] i) z ∙ g in
         rw (number-whole 4 (field-numbers s bytes 4) lo kind (ref-small x) tt (at-left s lo (be 4 kind) b h)) (rw (u .1) (ap (headed kind d p lo (lo + 4)) o ∙ ap (λ (i : ℕ). headed kind d p lo i out) v))
     one-whole (Member.column {m = m} {key = key} {b = b} y x) out h g =
-        let t : ℕ = 0x556E_466C in
+        let t : ℕ = (chars "UnFl") in
         let u = id-reads s bytes .complete lo key y (at-left s lo key (be 4 t ++ b) h) in
         let at : ℕ = lo + length key in
         let ht = at-right s lo key (be 4 t ++ b) h in
@@ -252,7 +253,7 @@ module _ (s : List ℕ) (bytes : Bytes s) (d k : ℕ) where
         }
     one-sound Place.nowhere e rs le h = clash h
     one-sound (Place.columns m) e rs le h =
-        let t : ℕ = 0x556E_466C in
+        let t : ℕ = (chars "UnFl") in
         let f = then-inv (id s lo) _ h in
         let i = id-reads s bytes .sound lo le (f .0) (f .1) (f .2) in
         let key : List ℕ = i .0 in

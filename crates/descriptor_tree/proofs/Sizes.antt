@@ -4,6 +4,7 @@ use mathlib.Core.Path.{_≡_}
 use mathlib.Core.List.{List, [], _++_}
 use lib.ListN.{length, length-append}
 use native.Mathlib.Omega.{arith}
+use Rattle.algebra.specs.Chars.{chars}
 use Rattle.algebra.specs.Numbers.{be}
 use Rattle.algebra.proofs.Places.{length-be}
 use Rattle.algebra.specs.Sets.{Field, Number, Counted}
@@ -60,4 +61,4 @@ pub head-size : {c below : Place} {key b : List ℕ} {kind n : ℕ} → Member c
 head-size (Member.item {kind = kind} {b = b} i) = omega (arith, length-head [] kind b, item-size i)
 head-size (Member.pair {key = key} {kind = kind} {b = b} y i) = omega (arith, length-head key kind b, item-size i)
 head-size (Member.form {kind = kind} {b = b} (seq {x = x} {y = y} c f)) = omega (arith, length-head [] kind b, length-append x y, class-size c)
-head-size (Member.column {key = key} {b = b} y x) = omega (arith, length-head key 0x556E_466C b, id-size y)
+head-size (Member.column {key = key} {b = b} y x) = omega (arith, length-head key (chars "UnFl") b, id-size y)

@@ -5,6 +5,7 @@ use mathlib.Core.List.{List, [], _∷_, _++_, append-assoc}
 use lib.ListN.{length, length-append}
 use native.Mathlib.Omega.{arith}
 use native.Mathlib.Nat.{zero-add}
+use Rattle.algebra.specs.Chars.{chars}
 use Rattle.algebra.specs.Numbers.{be, Bytes}
 use Rattle.algebra.specs.Reader.{Res, Reader, ok, refuse, then, judged, _>>=_}
 use Rattle.algebra.proofs.Places.{length-be, at-left}
@@ -31,8 +32,8 @@ module _ (s : List ℕ) (bytes : Bytes s) where
   object-wrong f k at l x o (WrongObject.pairs {c = c} {b = b} {o = i} y w) h =
       behind s bytes (class s at) _ at c b i (class-reads s bytes .complete at c y (at-left s at c b (h .stands)) .1) h (λ g. rw (field-cut s bytes (at + length c) b x i w g))
 
-  pub column-number : Numbers s 4 (λ t. t ≡ 0x556E_466C) (judged 4 columnType)
-  column-number = tag-numbers s bytes 4 0x556E_466C _
+  pub column-number : Numbers s 4 (λ t. t ≡ chars "UnFl") (judged 4 columnType)
+  column-number = tag-numbers s bytes 4 (chars "UnFl") _
 
   module _ (d p k : ℕ) where
     item-wrong : (first : ℕ) → Refuses s bytes WrongItem (item (suc d) p k first)
@@ -44,15 +45,15 @@ module _ (s : List ℕ) (bytes : Bytes s) where
     item-wrong first at l x o (WrongItem.leaf {kind = kind} {b = b} {o = i} w) h =
         let v = leaf-wrong s bytes kind b x i w in
         tagged s bytes _ at kind b i (v .small) h (λ g. rw (v .sort) (rw (v .refuses (at + 4) g)))
-    item-wrong first at l x o (WrongItem.list {b = b} {o = i} w) h = tagged s bytes _ at 0x566C_4C73 b i (omega arith) h (λ g. rw (field-cut s bytes (at + 4) b x i w g))
-    item-wrong first at l x o (WrongItem.object {b = b} {o = i} w) h = tagged s bytes _ at 0x4F62_6A63 b i (omega arith) h (λ g. ap (headed 0x4F62_6A63 d p first (at + 4)) (object-wrong (reader Place.pairs d k) k (at + 4) b x i w g))
-    item-wrong first at l x o (WrongItem.global {b = b} {o = i} w) h = tagged s bytes _ at 0x476C_624F b i (omega arith) h (λ g. ap (headed 0x476C_624F d p first (at + 4)) (object-wrong (reader Place.pairs d k) k (at + 4) b x i w g))
-    item-wrong first at l x o (WrongItem.reference {b = b} {o = i} w) h = tagged s bytes _ at 0x6F62_6A20 b i (omega arith) h (λ g. rw (field-cut s bytes (at + 4) b x i w g))
-    item-wrong first at l x o (WrongItem.objects {b = b} {o = i} w) h = tagged s bytes _ at 0x4F62_4172 b i (omega arith) h (λ g. rw (field-cut s bytes (at + 4) b x i w g))
+    item-wrong first at l x o (WrongItem.list {b = b} {o = i} w) h = tagged s bytes _ at (chars "VlLs") b i (omega arith) h (λ g. rw (field-cut s bytes (at + 4) b x i w g))
+    item-wrong first at l x o (WrongItem.object {b = b} {o = i} w) h = tagged s bytes _ at (chars "Objc") b i (omega arith) h (λ g. ap (headed (chars "Objc") d p first (at + 4)) (object-wrong (reader Place.pairs d k) k (at + 4) b x i w g))
+    item-wrong first at l x o (WrongItem.global {b = b} {o = i} w) h = tagged s bytes _ at (chars "GlbO") b i (omega arith) h (λ g. ap (headed (chars "GlbO") d p first (at + 4)) (object-wrong (reader Place.pairs d k) k (at + 4) b x i w g))
+    item-wrong first at l x o (WrongItem.reference {b = b} {o = i} w) h = tagged s bytes _ at (chars "obj ") b i (omega arith) h (λ g. rw (field-cut s bytes (at + 4) b x i w g))
+    item-wrong first at l x o (WrongItem.objects {b = b} {o = i} w) h = tagged s bytes _ at (chars "ObAr") b i (omega arith) h (λ g. rw (field-cut s bytes (at + 4) b x i w g))
     item-wrong first at l x o (WrongItem.array m {b = b} {o = i} small w) h =
         at-place s bytes (at + (4 + (4 + i))) (at + (8 + i)) (omega arith)
-        (tagged s bytes _ at 0x4F62_4172 (be 4 m ++ b) (4 + i) (omega arith) h (λ g.
-        ap (headed 0x4F62_4172 d p first (at + 4)) (tagged s bytes _ (at + 4) m b i small g (λ f. object-wrong (reader (Place.columns m) d k) k (at + 4 + 4) b x i w f))))
+        (tagged s bytes _ at (chars "ObAr") (be 4 m ++ b) (4 + i) (omega arith) h (λ g.
+        ap (headed (chars "ObAr") d p first (at + 4)) (tagged s bytes _ (at + 4) m b i small g (λ f. object-wrong (reader (Place.columns m) d k) k (at + 4 + 4) b x i w f))))
 
     -- ---- a member
 
@@ -85,7 +86,7 @@ module _ (s : List ℕ) (bytes : Bytes s) where
         let u = id-reads s bytes .complete lo key y (at-left s lo key b (h .stands)) .1 in
         sym (then-to (id s lo) _ u) ∙ column-type-refused s lo m d p k u small never f) w g)
     member-wrong c lo l x o (WrongMember.column {m = m} {key = key} {b = b} {o = i} y w) h =
-        let t : ℕ = 0x556E_466C in
+        let t : ℕ = (chars "UnFl") in
         at-place s bytes (lo + (length key + (4 + i))) (lo + (length key + 4 + i)) (omega arith)
         (keyed-on _ lo key (be 4 t ++ b) (4 + i) y h (λ g.
         counted-wrong s bytes column-number _ (lo + length key) t b i (omega arith) refl g (λ f. ap (λ (m : Res Unit). headed t d p lo (lo + length key + 4) (then m (λ u q. ok [] q))) (column-wrong s bytes m (lo + length key + 4) b x i w f))))
@@ -139,7 +140,7 @@ module _ (s : List ℕ) (bytes : Bytes s) where
       at-place s bytes (0 + o) o (zero-add o) (wrong s bytes 4 version _ 3 0 b x o (λ v small never g. version-refused s 0 small never g) w h)
   root-wrong l x o (DamagedFile.root {b = b} {o = i} w) h =
       at-place s bytes (0 + (4 + i)) (4 + i) (zero-add (4 + i))
-      (counted-wrong s bytes version-number _ 0 16 b i (omega arith) refl h (λ g. ap (headed 0x4f62_6a63 32 0 0 4) (object-wrong (reader Place.pairs 32 0) 0 4 b x i w g)))
+      (counted-wrong s bytes version-number _ 0 16 b i (omega arith) refl h (λ g. ap (headed (chars "Objc") 32 0 0 4) (object-wrong (reader Place.pairs 32 0) 0 4 b x i w g)))
   root-wrong l x o (DamagedFile.pairs n {c = c} {b = b} {o = i} is few w) h =
       let y : List ℕ = c ++ (be 4 n ++ b) in
       let hd : List ℕ = c ++ be 4 n in
@@ -149,4 +150,4 @@ module _ (s : List ℕ) (bytes : Bytes s) where
       let f : There s bytes 4 (hd ++ b) x = subst (λ (z : List ℕ). There s bytes 4 z x) (sym (append-assoc c (be 4 n) b)) g in
       let a = class-at s bytes (reader Place.pairs 32 0) 0 4 n c few is (at-left s 4 hd b (f .stands)) in
       let z = stops Place.pairs 1 n b x i w 32 0 1 (4 + length hd) refl (beyond s bytes 4 hd b (4 + length hd) refl f) in
-      ap (headed 0x4f62_6a63 32 0 0 4) (a ∙ at-place s bytes (4 + length hd + i) (0 + 4 + (4 + length c + i)) e z)))
+      ap (headed (chars "Objc") 32 0 0 4) (a ∙ at-place s bytes (4 + length hd + i) (0 + 4 + (4 + length c + i)) e z)))

@@ -5,6 +5,7 @@ use mathlib.Core.List.{List, [], _∷_, _++_, append-nil}
 use lib.ListN.{length, length-append}
 use native.Mathlib.Omega.{arith}
 use native.Mathlib.Nat.{add-zero, zero-add}
+use Rattle.algebra.specs.Chars.{chars}
 use Rattle.descriptor.specs.Reading.{Row}
 use Rattle.descriptor.specs.Tiles.{Tiled, heads}
 use Rattle.descriptor_tree.specs.Tree.{Members, none, one, Descriptor, head, bytes, rows, memberHeads, rootHead, fileBytes, fileHeads, fileRows, Place, Allowed}
@@ -61,7 +62,7 @@ file-tiled t five a =
     let h : ℕ = length (rootHead t) in
     let kids : List Row = rows 1 0 1 h (t .pairs) in
     let hs : List ℕ = memberHeads (t .pairs) in
-    let root : Row = record { kind = 0x4F62_6A63; parent = 0; first = 0; size = n; depth = 0; value = 4 } in
+    let root : Row = record { kind = chars "Objc"; parent = 0; first = 0; size = n; depth = 0; value = 4 } in
     let end : h + length (bytes (t .pairs)) ≡ 0 + n = omega (arith, length-file t) in
     let below : By 1 0 1 (0 + h) (0 + n) kids hs = subst (λ (e : ℕ). By 1 0 1 (0 + h) e kids hs) end (subst (λ (z : ℕ). By 1 0 1 z (h + length (bytes (t .pairs))) kids hs) (sym (zero-add h)) (tree-tiled (t .pairs) Place.pairs 1 0 1 h a)) in
     let whole : By 0 0 0 0 n (root ∷ (kids ++ [])) (h ∷ (hs ++ [])) = by-one root h kids [] hs [] refl refl refl five (omega arith) (omega arith) below (by-none 0 0 (0 + 1 + length kids) (0 + n) n (zero-add n)) in

@@ -6,6 +6,7 @@ use lib.Dec.{eqb}
 use lib.ListN.{length, getD}
 use lib.Ieee.{binary64, ofBits}
 use native.Mathlib.Omega.{arith}
+use Rattle.algebra.specs.Chars.{chars}
 use Rattle.algebra.specs.Numbers.{num, be, At, Bytes}
 use Rattle.algebra.specs.Reader.{Res}
 use Rattle.algebra.specs.Sets.{Size, number, seq, counted}
@@ -26,10 +27,10 @@ module _ (s : List ℕ) (octets : Bytes s) where
   a-number : (w at : ℕ) (b : List ℕ) → Size w b → At s at b → b ≡ be w (num w s at)
   a-number w at b l h = at-same s at b (be w (num w s at)) h (be-num s octets w at (omega (arith, at-in s at b h, l))) (omega (arith, length-be w (num w s at), l))
 
-  bool-says : (n v : ℕ) → n ≤ 1 → At s v (be 1 n) → Says 0x626F_6F6C (be 1 n) (vt.Bool (eqb (num 1 s v) 1))
+  bool-says : (n v : ℕ) → n ≤ 1 → At s v (be 1 n) → Says (chars "bool") (be 1 n) (vt.Bool (eqb (num 1 s v) 1))
   unfolding be
-  bool-says zero v l h = subst (λ (k : ℕ). Says 0x626F_6F6C (0 ∷ []) (vt.Bool (eqb k 1))) (sym (num-be s 1 v 0 (omega arith) h)) Says.no
-  bool-says (suc zero) v l h = subst (λ (k : ℕ). Says 0x626F_6F6C (1 ∷ []) (vt.Bool (eqb k 1))) (sym (num-be s 1 v 1 (omega arith) h)) Says.yes
+  bool-says zero v l h = subst (λ (k : ℕ). Says (chars "bool") (0 ∷ []) (vt.Bool (eqb k 1))) (sym (num-be s 1 v 0 (omega arith) h)) Says.no
+  bool-says (suc zero) v l h = subst (λ (k : ℕ). Says (chars "bool") (1 ∷ []) (vt.Bool (eqb k 1))) (sym (num-be s 1 v 1 (omega arith) h)) Says.yes
   bool-says (suc (suc n)) v l h = absurd (omega arith)
 
   leaf-says : {kind : ℕ} {b : List ℕ} → Leaf kind b → (v : ℕ) → At s v b → Says kind b (typedIn s kind v)
@@ -37,20 +38,20 @@ module _ (s : List ℕ) (octets : Bytes s) where
   leaf-says (Leaf.boolean (number n small l)) v h = bool-says n v l h
   leaf-says {b = b} (Leaf.class x) v h = Says.other refl
   leaf-says {b = b} (Leaf.globalClass x) v h = Says.other refl
-  leaf-says (Leaf.double (number n small l)) v h = subst (λ (k : ℕ). Says 0x646F_7562 (be 8 n) (vt.Double (ofBits binary64 k))) (sym (num-be s 8 v n small h)) (Says.double n small)
+  leaf-says (Leaf.double (number n small l)) v h = subst (λ (k : ℕ). Says (chars "doub") (be 8 n) (vt.Double (ofBits binary64 k))) (sym (num-be s 8 v n small h)) (Says.double n small)
   leaf-says {b = b} (Leaf.enumerated x) v h = Says.other refl
   leaf-says {b = b} (Leaf.alias x) v h = Says.other refl
   leaf-says {b = b} (Leaf.path x) v h = Says.other refl
-  leaf-says {b = b} (Leaf.integer l) v h = subst (λ (c : List ℕ). Says 0x6C6F_6E67 c (vt.Long (num 4 s v))) (sym (a-number 4 v b l h)) (Says.long (num 4 s v) (num-lt s octets 4 v))
-  leaf-says {b = b} (Leaf.large l) v h = subst (λ (c : List ℕ). Says 0x636F_6D70 c (vt.Comp (num 8 s v))) (sym (a-number 8 v b l h)) (Says.comp (num 8 s v) (num-lt s octets 8 v))
+  leaf-says {b = b} (Leaf.integer l) v h = subst (λ (c : List ℕ). Says (chars "long") c (vt.Long (num 4 s v))) (sym (a-number 4 v b l h)) (Says.long (num 4 s v) (num-lt s octets 4 v))
+  leaf-says {b = b} (Leaf.large l) v h = subst (λ (c : List ℕ). Says (chars "comp") c (vt.Comp (num 8 s v))) (sym (a-number 8 v b l h)) (Says.comp (num 8 s v) (num-lt s octets 8 v))
   leaf-says {b = b} (Leaf.raw x) v h = Says.other refl
   leaf-says {b = b} (Leaf.text x) v h = Says.other refl
   leaf-says (Leaf.unitDouble (counted u {y = y} few (of, number n small l))) v h =
       let e : v + length (be 4 u) ≡ v + 4 = ap (λ (k : ℕ). v + k) (length-be 4 u) in
       let a : num 4 s v ≡ u = num-be s 4 v u few (at-left s v (be 4 u) (be 8 n) h) in
       let d : num 8 s (v + 4) ≡ n = num-be s 8 (v + 4) n small (at-after s v (be 4 u) (be 8 n) (v + 4) e h) in
-      subst (λ (k : ℕ). Says 0x556E_7446 (be 4 u ++ be 8 n) (vt.UnitDouble k (ofBits binary64 (num 8 s (v + 4))))) (sym a)
-      (subst (λ (k : ℕ). Says 0x556E_7446 (be 4 u ++ be 8 n) (vt.UnitDouble u (ofBits binary64 k))) (sym d) (Says.unitDouble u n few small))
+      subst (λ (k : ℕ). Says (chars "UntF") (be 4 u ++ be 8 n) (vt.UnitDouble k (ofBits binary64 (num 8 s (v + 4))))) (sym a)
+      (subst (λ (k : ℕ). Says (chars "UntF") (be 4 u ++ be 8 n) (vt.UnitDouble u (ofBits binary64 k))) (sym d) (Says.unitDouble u n few small))
 
   form-says : {kind : ℕ} {b c : List ℕ} → Form kind b → (v : ℕ) → Says kind c (typedIn s kind v)
   unfolding typedIn

@@ -4,6 +4,7 @@ use mathlib.Core.Path.{_≡_, refl, sym, ap, ap₂, _∙_, subst}
 use mathlib.Core.List.{List, [], _++_}
 use lib.ListN.{length, length-append}
 use native.Mathlib.Omega.{arith}
+use Rattle.algebra.specs.Chars.{chars}
 use Rattle.algebra.specs.Numbers.{be, At, Bytes}
 use Rattle.algebra.specs.Reader.{Res, Reader, ok, refuse, field, orZero}
 use Rattle.algebra.proofs.Places.{length-be, at-left, at-right, at-after, at-same, num-be}
@@ -107,10 +108,10 @@ module _ (s : List ℕ) (octets : Bytes s) where
       let w : At s (lo + 4) b′ = at-after s lo (be 4 kind′) b′ (lo + 4) (ap (λ (z : ℕ). lo + z) (length-be 4 kind′)) u in
       record { key = refl; kind = k; below = refl; number = refl; fields = ref-same kind (lo + 4) b b′ x (subst (λ (m : ℕ). Seq Class (Form m) b′) (sym k) y) v w }
   member-same lo (Member.column {m = m} {key = key} {b = b} y x) (Member.column {key = key′} {b = b′} z x′) t u =
-      let w : List ℕ = be 4 0x556E_466C in
+      let w : List ℕ = be 4 (chars "UnFl") in
       let k : key ≡ key′ = reads-same (id-reads s octets) lo key key′ y z (at-left s lo key (w ++ b) t) (at-left s lo key′ (w ++ b′) u) in
       let at : ℕ = lo + length key in
-      let e : at + length w ≡ at + 4 = ap (λ (z : ℕ). at + z) (length-be 4 0x556E_466C) in
+      let e : at + length w ≡ at + 4 = ap (λ (z : ℕ). at + z) (length-be 4 (chars "UnFl")) in
       let v = at-after s at w b (at + 4) e (at-right s lo key (w ++ b) t) in
       let v′ = at-after s at w b′ (at + 4) e (at-after s lo key′ (w ++ b′) at (ap (λ (l : List ℕ). lo + length l) (sym k)) u) in
       record { key = k; kind = refl; below = refl; number = refl; fields = reads-same (column-reads s octets m) (at + 4) b b′ x x′ v v′ }

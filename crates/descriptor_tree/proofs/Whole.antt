@@ -7,6 +7,7 @@ use lib.ListN.{length, length-append}
 use borrow.Author.Tests.{leb-true, le-leb, eq-eqb}
 use native.Mathlib.Omega.{arith}
 use native.Mathlib.Nat.{zero-add}
+use Rattle.algebra.specs.Chars.{chars}
 use Rattle.algebra.specs.Numbers.{be, At, Bytes}
 use Rattle.algebra.specs.Reader.{Res, ok, then, judged, ended, limit}
 use Rattle.algebra.proofs.Places.{length-be, at-in, at-left, at-after, at-next, at-all, at-whole}
@@ -40,7 +41,7 @@ module _ (t : Descriptor) where
   length-root = omega (arith, length-append (be 4 16) (t .class ++ be 4 (count (t .pairs))), length-be 4 16)
 
 -- the root's row as it is read, and as the tree has it
-root-same : (v e n : ℕ) → v ≡ 4 → e ≡ n → rowOf 0x4f62_6a63 32 0 0 v e ≡ record { kind = 0x4F62_6A63; parent = 0; first = 0; size = n; depth = 0; value = 4 }
+root-same : (v e n : ℕ) → v ≡ 4 → e ≡ n → rowOf (chars "Objc") 32 0 0 v e ≡ record { kind = chars "Objc"; parent = 0; first = 0; size = n; depth = 0; value = 4 }
 root-same v e n h g = let z : e - 0 ≡ n = omega arith in rw (h, z)
 
 -- a file's parts stand where they should
@@ -74,9 +75,9 @@ file-reads t s f =
     let y : objectOf (item 32) 32 0 s 4 ≡ ok kids (length s) =
     class-at s (f .octets) (reader Place.pairs 32 0) 0 4 n (t .class) (f .fits) (f .class) (g .head)
     ∙ ap (λ (z : ℕ). siblings (reader Place.pairs 32 0) n 1 s z) (sym (length-root t)) ∙ x ∙ ap (λ (z : ℕ). ok kids z) (sym size) in
-    let r : root s 0 ≡ ok (rowOf 0x4f62_6a63 32 0 0 4 (length s) ∷ kids) (length s) =
-    ap (λ (m : Res ℕ). then m (λ v e. headed 0x4f62_6a63 32 0 0 e (objectOf (item 32) 32 0 s e))) (number-whole 4 (tag-numbers s (f .octets) 4 16 _) 0 16 (omega arith) refl (g .version))
-    ∙ ap (headed 0x4f62_6a63 32 0 0 4) y in
+    let r : root s 0 ≡ ok (rowOf (chars "Objc") 32 0 0 4 (length s) ∷ kids) (length s) =
+    ap (λ (m : Res ℕ). then m (λ v e. headed (chars "Objc") 32 0 0 e (objectOf (item 32) 32 0 s e))) (number-whole 4 (tag-numbers s (f .octets) 4 16 _) 0 16 (omega arith) refl (g .version))
+    ∙ ap (headed (chars "Objc") 32 0 0 4) y in
     let z : length s ≡ length (fileBytes t) = ap length (f .is) in
     rw (le-leb (length s) limit (f .short)) (rw r (rw (eq-eqb (length s) (length s) refl) (ap (λ (b : Row). ok (b ∷ kids) (length s)) (root-same 4 (length s) (length (fileBytes t)) refl z))))
 
@@ -95,7 +96,7 @@ unfolding root objectOf fileRows fileBytes rootHead
 root-sound s octets rs q h =
     let v = then-inv (judged 4 version s 0) _ h in
     let a = number-sound 4 (tag-numbers s octets 4 16 _) 0 (v .0) (v .1) (omega arith) (v .2) in
-    let y = headed-inv 0x4f62_6a63 32 0 0 (v .1) (objectOf (item 32) 32 0 s (v .1)) (v .3) in
+    let y = headed-inv (chars "Objc") 32 0 0 (v .1) (objectOf (item 32) 32 0 s (v .1)) (v .3) in
     let u = class-inv s octets (reader Place.pairs 32 0) 0 (v .1) (a .inside) (y .1) in
     let b : List ℕ = u .0 in
     let n : ℕ = u .1 in
@@ -110,8 +111,8 @@ root-sound s octets rs q h =
     let e : hd ++ m ≡ fileBytes t = ap (λ (r : List ℕ). r ++ m) (sym ev) in
     let lr : length (rootHead t) ≡ v .1 + length c = ap length ev ∙ lh in
     let le : q ≡ length (fileBytes t) = omega (arith, length-append hd m, x .ends, ap length e) in
-    let top : Row = record { kind = 0x4F62_6A63; parent = 0; first = 0; size = length (fileBytes t); depth = 0; value = 4 } in
-    let r : top ≡ rowOf 0x4f62_6a63 32 0 0 (v .1) q = sym (root-same (v .1) q (length (fileBytes t)) (sym (a .next)) le) in
+    let top : Row = record { kind = chars "Objc"; parent = 0; first = 0; size = length (fileBytes t); depth = 0; value = 4 } in
+    let r : top ≡ rowOf (chars "Objc") 32 0 0 (v .1) q = sym (root-same (v .1) q (length (fileBytes t)) (sym (a .next)) le) in
     record {
       tree = t;
       class = u .2;
@@ -119,7 +120,7 @@ root-sound s octets rs q h =
       allowed = x .allowed;
       stands = subst (λ (l : List ℕ). At s 0 l) e st;
       ends = sym le;
-      reads = ap₂ (λ (z : ℕ) (k : Row). k ∷ rows 1 0 1 z (x .tree)) lr r ∙ ap (λ (k : List Row). rowOf 0x4f62_6a63 32 0 0 (v .1) q ∷ k) (x .reads) ∙ y .2;
+      reads = ap₂ (λ (z : ℕ) (k : Row). k ∷ rows 1 0 1 z (x .tree)) lr r ∙ ap (λ (k : List Row). rowOf (chars "Objc") 32 0 0 (v .1) q ∷ k) (x .reads) ∙ y .2;
     }
 
 -- what is accepted is the bytes of a tree that is allowed, and its rows are the tree's

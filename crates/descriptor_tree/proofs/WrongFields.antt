@@ -14,7 +14,7 @@ use Rattle.algebra.specs.Sets.{Field, Size, Number, number, seq, Run}
 use Rattle.algebra.proofs.Laws.{field-short, body-short, judged-short}
 use Rattle.algebra.proofs.Places.{length-be, at-in, at-left, at-right, at-after, at-same, num-lt, be-num}
 use Rattle.algebra.proofs.Sets.{Reads, Numbers, field-numbers, tested-numbers, tag-numbers, number-whole}
-use Rattle.descriptor.specs.Reading.{is, passing, skip, id, unicode, class, boolean, flag, bits, double, enumerated, run, isUnit, isArrayUnit, unit, arrayUnit, unitDouble, leaf, sortOf, formOf, doubles, column}
+use Rattle.descriptor.specs.Reading.{is, passing, skip, id, unicode, class, boolean, flag, bits, double, enumerated, rawBytes, isUnit, isArrayUnit, unit, arrayUnit, unitDouble, leaf, sortOf, formOf, doubles, column}
 use Rattle.descriptor.proofs.Fields.{then-to}
 use Rattle.descriptor.proofs.Refused.{bool-refused, double-refused, unit-refused, text-refused, array-unit-refused, count-refused}
 use Rattle.descriptor_tree.specs.Grammar.{Boolean, Double, Measure, ArrayMeasure}
@@ -133,8 +133,8 @@ module _ (s : List ℕ) (bytes : Bytes s) where
   enumerated-wrong at l x o (WrongEnumerated.value {t = t} {b = b} {o = i} y w) h =
       behind (id s at) _ at t b i (id-reads s bytes .complete at t y (at-left s at t b (h .stands)) .1) h (λ g. id-wrong (at + length t) b x i w g)
 
-  raw-wrong : Refuses WrongRaw run
-  unfolding run
+  raw-wrong : Refuses WrongRaw rawBytes
+  unfolding rawBytes
   raw-wrong at b x o (WrongRaw.size w) h = rw (field-cut at b x o w h)
   raw-wrong at l x o (WrongRaw.body n {b = b} {o = i} small w) h = tagged (λ n q. skip n s q) at n b i small h (λ g. skip-cut n (at + 4) b x i w g)
 
@@ -199,11 +199,11 @@ module _ (s : List ℕ) (bytes : Bytes s) where
   leaf-wrong kind b x o (WrongLeaf.globalClass w) = record { small = omega arith; reads = class; sort = refl; refuses = λ at h. class-wrong at b x o w h }
   leaf-wrong kind b x o (WrongLeaf.double w) = record { small = omega arith; reads = double; sort = refl; refuses = λ at h. double-wrong at b x o w h }
   leaf-wrong kind b x o (WrongLeaf.enumerated w) = record { small = omega arith; reads = enumerated; sort = refl; refuses = λ at h. enumerated-wrong at b x o w h }
-  leaf-wrong kind b x o (WrongLeaf.alias w) = record { small = omega arith; reads = run; sort = refl; refuses = λ at h. raw-wrong at b x o w h }
-  leaf-wrong kind b x o (WrongLeaf.path w) = record { small = omega arith; reads = run; sort = refl; refuses = λ at h. raw-wrong at b x o w h }
+  leaf-wrong kind b x o (WrongLeaf.alias w) = record { small = omega arith; reads = rawBytes; sort = refl; refuses = λ at h. raw-wrong at b x o w h }
+  leaf-wrong kind b x o (WrongLeaf.path w) = record { small = omega arith; reads = rawBytes; sort = refl; refuses = λ at h. raw-wrong at b x o w h }
   leaf-wrong kind b x o (WrongLeaf.integer w) = record { small = omega arith; reads = skip 4; sort = refl; refuses = λ at h. skip-cut 4 at b x o w h }
   leaf-wrong kind b x o (WrongLeaf.large w) = record { small = omega arith; reads = skip 8; sort = refl; refuses = λ at h. skip-cut 8 at b x o w h }
-  leaf-wrong kind b x o (WrongLeaf.raw w) = record { small = omega arith; reads = run; sort = refl; refuses = λ at h. raw-wrong at b x o w h }
+  leaf-wrong kind b x o (WrongLeaf.raw w) = record { small = omega arith; reads = rawBytes; sort = refl; refuses = λ at h. raw-wrong at b x o w h }
   leaf-wrong kind b x o (WrongLeaf.text w) = record { small = omega arith; reads = unicode; sort = refl; refuses = λ at h. unicode-wrong at b x o w h }
   leaf-wrong kind b x o (WrongLeaf.unit w) = record { small = omega arith; reads = unitDouble; sort = refl; refuses = λ at h. unit-wrong at b x o w h }
   leaf-wrong kind l x o (WrongLeaf.unitDouble {u = u} {b = b} {o = i} y w) = record { small = omega arith; reads = unitDouble; sort = refl; refuses = λ at h. unit-double-wrong at u b x i y w h }
@@ -241,9 +241,9 @@ module _ (s : List ℕ) (bytes : Bytes s) where
       rw (u .1) (rw (run-stops reads k n (i + 1) (at + length a) b more (omega arith) (at-right s at a b g) (subst (λ (k : ℕ). p s k ≡ refuse x q r f) z e)))
 
   doubles-wrong : (m k at : ℕ) (c b : List ℕ) (x o : ℕ) → k < m → Run Double k c → Wrong 8 Double 5 b x o → There at (c ++ b) x → passing (each m 0 (λ i. double)) s at ≡ refuse x (at + (length c + o)) 0 0
-  doubles-wrong m k at c b x o less run w h =
+  doubles-wrong m k at c b x o less rawBytes w h =
       let g = beyond at c b (at + length c) refl h in
-      let d = run-stops (double-reads s bytes) k m 0 at c run less (at-left s at c b (h .stands)) (double-wrong (at + length c) b x o w g) in
+      let d = run-stops (double-reads s bytes) k m 0 at c rawBytes less (at-left s at c b (h .stands)) (double-wrong (at + length c) b x o w g) in
       at-place (at + length c + o) (at + (length c + o)) (omega arith) (ap done d)
 
   pub column-wrong : (m : ℕ) → Refuses (WrongDoubles m) (column m)
@@ -253,8 +253,8 @@ module _ (s : List ℕ) (bytes : Bytes s) where
       counted-wrong array-number _ at u b i small of h (λ g. wrong 4 (doubles m) _ 5 (at + 4) b x i (λ v few never f.
       let z = count-refused s at m small (array-known of) (at-left s at (be 4 u) b (h .stands)) few never f in
       sym (then-to (judged 4 arrayUnit s at) _ (number-whole 4 array-number at u small of (at-left s at (be 4 u) b (h .stands)))) ∙ z) w g)
-  column-wrong m at l x o (WrongDoubles.double k c {b = b} {o = i} (number u small of) few less run w) h =
+  column-wrong m at l x o (WrongDoubles.double k c {b = b} {o = i} (number u small of) few less rawBytes w) h =
       let z : at + (4 + (4 + (length c + i))) ≡ at + (8 + length c + i) = omega arith in
       at-place (at + (4 + (4 + (length c + i)))) (at + (8 + length c + i)) z
       (counted-wrong array-number _ at u (be 4 m ++ (c ++ b)) (4 + (length c + i)) small of h (λ g.
-      counted-wrong (count-number m) _ (at + 4) m (c ++ b) (length c + i) few refl g (λ f. doubles-wrong m k (at + 4 + 4) c b x i less run w f)))
+      counted-wrong (count-number m) _ (at + 4) m (c ++ b) (length c + i) few refl g (λ f. doubles-wrong m k (at + 4 + 4) c b x i less rawBytes w f)))

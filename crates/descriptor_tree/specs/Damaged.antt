@@ -4,6 +4,7 @@ use Prim.Native.Nat.{ℕ, suc, _+_, _*_, _^_, _≤_, _<_}
 use mathlib.Core.Path.{_≡_}
 use mathlib.Core.List.{List, [], _++_}
 use lib.ListN.{length}
+use Rattle.algebra.specs.Chars.{chars}
 use Rattle.algebra.specs.Numbers.{be}
 use Rattle.algebra.specs.Sets.{Field, Size, Number, Run}
 use Rattle.descriptor_tree.specs.Grammar.{Id, Text, Class, Boolean, Double, Measure, ArrayMeasure, Form}
@@ -51,28 +52,28 @@ pub data WrongRaw : List ℕ → ℕ → ℕ → Type 0 where
 
 -- the value of an item that holds no items, by its type
 pub data WrongLeaf : ℕ → List ℕ → ℕ → ℕ → Type 0 where
-  boolean : {b : List ℕ} {x o : ℕ} → Wrong 1 Boolean 5 b x o → WrongLeaf 0x626F_6F6C b x o
-  class : {b : List ℕ} {x o : ℕ} → WrongClass b x o → WrongLeaf 0x7479_7065 b x o
-  globalClass : {b : List ℕ} {x o : ℕ} → WrongClass b x o → WrongLeaf 0x476C_6243 b x o
-  double : {b : List ℕ} {x o : ℕ} → Wrong 8 Double 5 b x o → WrongLeaf 0x646F_7562 b x o
-  enumerated : {b : List ℕ} {x o : ℕ} → WrongEnumerated b x o → WrongLeaf 0x656E_756D b x o
-  alias : {b : List ℕ} {x o : ℕ} → WrongRaw b x o → WrongLeaf 0x616C_6973 b x o
-  path : {b : List ℕ} {x o : ℕ} → WrongRaw b x o → WrongLeaf 0x5074_6820 b x o
-  integer : {b : List ℕ} {x o : ℕ} → Cut 4 b x o → WrongLeaf 0x6C6F_6E67 b x o
-  large : {b : List ℕ} {x o : ℕ} → Cut 8 b x o → WrongLeaf 0x636F_6D70 b x o
-  raw : {b : List ℕ} {x o : ℕ} → WrongRaw b x o → WrongLeaf 0x7464_7461 b x o
-  text : {b : List ℕ} {x o : ℕ} → WrongText b x o → WrongLeaf 0x5445_5854 b x o
-  unit : {b : List ℕ} {x o : ℕ} → Wrong 4 (Number 4 Measure) 4 b x o → WrongLeaf 0x556E_7446 b x o
-  unitDouble : {u b : List ℕ} {x o : ℕ} → Number 4 Measure u → Wrong 8 Double 5 b x o → WrongLeaf 0x556E_7446 (u ++ b) x (4 + o)
+  boolean : {b : List ℕ} {x o : ℕ} → Wrong 1 Boolean 5 b x o → WrongLeaf (chars "bool") b x o
+  class : {b : List ℕ} {x o : ℕ} → WrongClass b x o → WrongLeaf (chars "type") b x o
+  globalClass : {b : List ℕ} {x o : ℕ} → WrongClass b x o → WrongLeaf (chars "GlbC") b x o
+  double : {b : List ℕ} {x o : ℕ} → Wrong 8 Double 5 b x o → WrongLeaf (chars "doub") b x o
+  enumerated : {b : List ℕ} {x o : ℕ} → WrongEnumerated b x o → WrongLeaf (chars "enum") b x o
+  alias : {b : List ℕ} {x o : ℕ} → WrongRaw b x o → WrongLeaf (chars "alis") b x o
+  path : {b : List ℕ} {x o : ℕ} → WrongRaw b x o → WrongLeaf (chars "Pth ") b x o
+  integer : {b : List ℕ} {x o : ℕ} → Cut 4 b x o → WrongLeaf (chars "long") b x o
+  large : {b : List ℕ} {x o : ℕ} → Cut 8 b x o → WrongLeaf (chars "comp") b x o
+  raw : {b : List ℕ} {x o : ℕ} → WrongRaw b x o → WrongLeaf (chars "tdta") b x o
+  text : {b : List ℕ} {x o : ℕ} → WrongText b x o → WrongLeaf (chars "TEXT") b x o
+  unit : {b : List ℕ} {x o : ℕ} → Wrong 4 (Number 4 Measure) 4 b x o → WrongLeaf (chars "UntF") b x o
+  unitDouble : {u b : List ℕ} {x o : ℕ} → Number 4 Measure u → Wrong 8 Double 5 b x o → WrongLeaf (chars "UntF") (u ++ b) x (4 + o)
 
 -- what stands behind the class of a reference item, by its form
 pub data WrongForm : ℕ → List ℕ → ℕ → ℕ → Type 0 where
-  enumerated : {b : List ℕ} {x o : ℕ} → WrongEnumerated b x o → WrongForm 0x456E_6D72 b x o
-  identifier : {b : List ℕ} {x o : ℕ} → Cut 4 b x o → WrongForm 0x4964_6E74 b x o
-  index : {b : List ℕ} {x o : ℕ} → Cut 4 b x o → WrongForm 0x696E_6478 b x o
-  name : {b : List ℕ} {x o : ℕ} → WrongText b x o → WrongForm 0x6E61_6D65 b x o
-  offset : {b : List ℕ} {x o : ℕ} → Cut 4 b x o → WrongForm 0x7265_6C65 b x o
-  property : {b : List ℕ} {x o : ℕ} → WrongId b x o → WrongForm 0x7072_6F70 b x o
+  enumerated : {b : List ℕ} {x o : ℕ} → WrongEnumerated b x o → WrongForm (chars "Enmr") b x o
+  identifier : {b : List ℕ} {x o : ℕ} → Cut 4 b x o → WrongForm (chars "Idnt") b x o
+  index : {b : List ℕ} {x o : ℕ} → Cut 4 b x o → WrongForm (chars "indx") b x o
+  name : {b : List ℕ} {x o : ℕ} → WrongText b x o → WrongForm (chars "name") b x o
+  offset : {b : List ℕ} {x o : ℕ} → Cut 4 b x o → WrongForm (chars "rele") b x o
+  property : {b : List ℕ} {x o : ℕ} → WrongId b x o → WrongForm (chars "prop") b x o
 
 -- the unit doubles of an object array of m objects: the unit; the count; a double, behind k others
 pub data WrongDoubles (m : ℕ) : List ℕ → ℕ → ℕ → Type 0 where
@@ -99,12 +100,12 @@ pub data ItemForm : ℕ → Type 0 where
 pub data WrongItem : List ℕ → ℕ → ℕ → Type 0 where
   type : {b : List ℕ} {x o : ℕ} → Wrong 4 (Number 4 ItemType) 4 b x o → WrongItem b x o
   leaf : {kind : ℕ} {b : List ℕ} {x o : ℕ} → WrongLeaf kind b x o → WrongItem (be 4 kind ++ b) x (4 + o)
-  list : {b : List ℕ} {x o : ℕ} → Cut 4 b x o → WrongItem (be 4 0x566C_4C73 ++ b) x (4 + o)
-  object : {b : List ℕ} {x o : ℕ} → WrongObject b x o → WrongItem (be 4 0x4F62_6A63 ++ b) x (4 + o)
-  global : {b : List ℕ} {x o : ℕ} → WrongObject b x o → WrongItem (be 4 0x476C_624F ++ b) x (4 + o)
-  reference : {b : List ℕ} {x o : ℕ} → Cut 4 b x o → WrongItem (be 4 0x6F62_6A20 ++ b) x (4 + o)
-  objects : {b : List ℕ} {x o : ℕ} → Cut 4 b x o → WrongItem (be 4 0x4F62_4172 ++ b) x (4 + o)
-  array : (m : ℕ) {b : List ℕ} {x o : ℕ} → m < 256 ^ 4 → WrongObject b x o → WrongItem (be 4 0x4F62_4172 ++ (be 4 m ++ b)) x (8 + o)
+  list : {b : List ℕ} {x o : ℕ} → Cut 4 b x o → WrongItem (be 4 (chars "VlLs") ++ b) x (4 + o)
+  object : {b : List ℕ} {x o : ℕ} → WrongObject b x o → WrongItem (be 4 (chars "Objc") ++ b) x (4 + o)
+  global : {b : List ℕ} {x o : ℕ} → WrongObject b x o → WrongItem (be 4 (chars "GlbO") ++ b) x (4 + o)
+  reference : {b : List ℕ} {x o : ℕ} → Cut 4 b x o → WrongItem (be 4 (chars "obj ") ++ b) x (4 + o)
+  objects : {b : List ℕ} {x o : ℕ} → Cut 4 b x o → WrongItem (be 4 (chars "ObAr") ++ b) x (4 + o)
+  array : (m : ℕ) {b : List ℕ} {x o : ℕ} → m < 256 ^ 4 → WrongObject b x o → WrongItem (be 4 (chars "ObAr") ++ (be 4 m ++ b)) x (8 + o)
 
 -- a member of a place: its key, where it has one; its type or form; what stands behind that. In an object array the type is `UnFl`
 pub data WrongMember : Place → List ℕ → ℕ → ℕ → Type 0 where
@@ -115,8 +116,8 @@ pub data WrongMember : Place → List ℕ → ℕ → ℕ → Type 0 where
   class : {kind : ℕ} {b : List ℕ} {x o : ℕ} → ItemForm kind → WrongClass b x o → WrongMember Place.forms (be 4 kind ++ b) x (4 + o)
   value : {kind : ℕ} {c b : List ℕ} {x o : ℕ} → Class c → WrongForm kind b x o → WrongMember Place.forms (be 4 kind ++ (c ++ b)) x (4 + length c + o)
   columnKey : {m : ℕ} {b : List ℕ} {x o : ℕ} → WrongId b x o → WrongMember (Place.columns m) b x o
-  columnType : {m : ℕ} {key b : List ℕ} {x o : ℕ} → Id key → Wrong 4 (Number 4 (λ t. t ≡ 0x556E_466C)) 4 b x o → WrongMember (Place.columns m) (key ++ b) x (length key + o)
-  column : {m : ℕ} {key b : List ℕ} {x o : ℕ} → Id key → WrongDoubles m b x o → WrongMember (Place.columns m) (key ++ (be 4 0x556E_466C ++ b)) x (length key + 4 + o)
+  columnType : {m : ℕ} {key b : List ℕ} {x o : ℕ} → Id key → Wrong 4 (Number 4 (λ t. t ≡ chars "UnFl")) 4 b x o → WrongMember (Place.columns m) (key ++ b) x (length key + o)
+  column : {m : ℕ} {key b : List ℕ} {x o : ℕ} → Id key → WrongDoubles m b x o → WrongMember (Place.columns m) (key ++ (be 4 (chars "UnFl") ++ b)) x (length key + 4 + o)
 
 -- n members of a place at a depth, of which one is damaged, or is at depth 33: 10 at its first byte, and no byte of it need be there.
 -- It is the first; it is below the first, whose head is allowed; or it is behind the first, which is allowed with all below it

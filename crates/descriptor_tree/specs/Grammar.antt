@@ -4,6 +4,7 @@ use Prim.Native.Nat.{ℕ, suc, _*_, _%_, _≤_, _<_}
 use mathlib.Core.Path.{_≡_}
 use mathlib.Core.List.{List, [], _∷_, _++_}
 use lib.ListN.{length}
+use Rattle.algebra.specs.Chars.{chars}
 use Rattle.algebra.specs.Refusal.{Of}
 use Rattle.algebra.specs.Sets.{Field, Size, Number, Seq, Counted, When, Run}
 
@@ -47,7 +48,7 @@ Double = Number 8 (λ n. n % 0x8000_0000_0000_0000 < 0x7FF0_0000_0000_0000)
 
 -- `#Ang`, `#Rsl`, `#Rlt`, `#Nne`, `#Prc`, `#Pxl`, `#Mlm`, `#Pnt`
 abbrev pub measures : List ℕ
-measures = 0x2341_6E67 ∷ 0x2352_736C ∷ 0x2352_6C74 ∷ 0x234E_6E65 ∷ 0x2350_7263 ∷ 0x2350_786C ∷ 0x234D_6C6D ∷ 0x2350_6E74 ∷ []
+measures = chars "#Ang" ∷ chars "#Rsl" ∷ chars "#Rlt" ∷ chars "#Nne" ∷ chars "#Prc" ∷ chars "#Pxl" ∷ chars "#Mlm" ∷ chars "#Pnt" ∷ []
 
 abbrev pub Measure : ℕ → Type 0
 Measure u = Of measures u
@@ -60,35 +61,35 @@ UnitDouble = Counted (λ u. When (Measure u) Double)
 -- an item's value, where it holds no items:
 -- `bool`, `type`, `GlbC`, `doub`, `enum`, `alis`, `Pth `, `long`, `comp`, `tdta`, `TEXT`, `UntF`
 pub data Leaf : ℕ → List ℕ → Type 0 where
-  boolean : {b : List ℕ} → Boolean b → Leaf 0x626F_6F6C b
-  class : {b : List ℕ} → Class b → Leaf 0x7479_7065 b
-  globalClass : {b : List ℕ} → Class b → Leaf 0x476C_6243 b
-  double : {b : List ℕ} → Double b → Leaf 0x646F_7562 b
-  enumerated : {b : List ℕ} → Enumerated b → Leaf 0x656E_756D b
-  alias : {b : List ℕ} → Raw b → Leaf 0x616C_6973 b
-  path : {b : List ℕ} → Raw b → Leaf 0x5074_6820 b
-  integer : {b : List ℕ} → Size 4 b → Leaf 0x6C6F_6E67 b
-  large : {b : List ℕ} → Size 8 b → Leaf 0x636F_6D70 b
-  raw : {b : List ℕ} → Raw b → Leaf 0x7464_7461 b
-  text : {b : List ℕ} → Text b → Leaf 0x5445_5854 b
-  unitDouble : {b : List ℕ} → UnitDouble b → Leaf 0x556E_7446 b
+  boolean : {b : List ℕ} → Boolean b → Leaf (chars "bool") b
+  class : {b : List ℕ} → Class b → Leaf (chars "type") b
+  globalClass : {b : List ℕ} → Class b → Leaf (chars "GlbC") b
+  double : {b : List ℕ} → Double b → Leaf (chars "doub") b
+  enumerated : {b : List ℕ} → Enumerated b → Leaf (chars "enum") b
+  alias : {b : List ℕ} → Raw b → Leaf (chars "alis") b
+  path : {b : List ℕ} → Raw b → Leaf (chars "Pth ") b
+  integer : {b : List ℕ} → Size 4 b → Leaf (chars "long") b
+  large : {b : List ℕ} → Size 8 b → Leaf (chars "comp") b
+  raw : {b : List ℕ} → Raw b → Leaf (chars "tdta") b
+  text : {b : List ℕ} → Text b → Leaf (chars "TEXT") b
+  unitDouble : {b : List ℕ} → UnitDouble b → Leaf (chars "UntF") b
 
 -- what stands behind the class of a reference item:
 -- `Clss`, `Enmr`, `Idnt`, `indx`, `name`, `rele`, `prop`
 pub data Form : ℕ → List ℕ → Type 0 where
-  class : Form 0x436C_7373 []
-  enumerated : {b : List ℕ} → Enumerated b → Form 0x456E_6D72 b
-  identifier : {b : List ℕ} → Size 4 b → Form 0x4964_6E74 b
-  index : {b : List ℕ} → Size 4 b → Form 0x696E_6478 b
-  name : {b : List ℕ} → Text b → Form 0x6E61_6D65 b
-  offset : {b : List ℕ} → Size 4 b → Form 0x7265_6C65 b
-  property : {b : List ℕ} → Id b → Form 0x7072_6F70 b
+  class : Form (chars "Clss") []
+  enumerated : {b : List ℕ} → Enumerated b → Form (chars "Enmr") b
+  identifier : {b : List ℕ} → Size 4 b → Form (chars "Idnt") b
+  index : {b : List ℕ} → Size 4 b → Form (chars "indx") b
+  name : {b : List ℕ} → Text b → Form (chars "name") b
+  offset : {b : List ℕ} → Size 4 b → Form (chars "rele") b
+  property : {b : List ℕ} → Id b → Form (chars "prop") b
 
 -- ---- object arrays
 
 -- `#Rlt`, `#Prc`, `#Pxl`
 abbrev pub arrayMeasures : List ℕ
-arrayMeasures = 0x2352_6C74 ∷ 0x2350_7263 ∷ 0x2350_786C ∷ []
+arrayMeasures = chars "#Rlt" ∷ chars "#Prc" ∷ chars "#Pxl" ∷ []
 
 abbrev pub ArrayMeasure : ℕ → Type 0
 ArrayMeasure u = Of arrayMeasures u

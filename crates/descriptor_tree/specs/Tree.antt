@@ -2,6 +2,7 @@
 use Prim.Native.Nat.{ℕ, suc, _+_, _^_, _≤_, _<_}
 use mathlib.Core.List.{List, [], _∷_, _++_}
 use lib.ListN.{length}
+use Rattle.algebra.specs.Chars.{chars}
 use Rattle.algebra.specs.Numbers.{be, Bytes}
 use Rattle.descriptor.specs.Reading.{Row}
 use Rattle.algebra.specs.Sets.{Seq}
@@ -64,7 +65,7 @@ rows d p k lo (one key kind fields children rest) =
 
 -- the root is `Objc`, and its value is all after the version
 unfoldable pub fileRows : Descriptor → List Row
-fileRows t = record { kind = 0x4F62_6A63; parent = 0; first = 0; size = length (fileBytes t); depth = 0; value = 4 } ∷ rows 1 0 1 (length (rootHead t)) (t .pairs)
+fileRows t = record { kind = chars "Objc"; parent = 0; first = 0; size = length (fileBytes t); depth = 0; value = 4 } ∷ rows 1 0 1 (length (rootHead t)) (t .pairs)
 
 -- how many rows it has
 abbrev pub rowCount : Descriptor → ℕ
@@ -107,18 +108,18 @@ pub data Place : Type 0 where
 -- an item's type, what its children are and how many, and its fields: a value without items; `VlLs`; `Objc`, `GlbO`; `obj `; `ObAr`
 pub data Item : ℕ → Place → ℕ → List ℕ → Type 0 where
   leaf : {kind : ℕ} {b : List ℕ} → Leaf kind b → Item kind nowhere 0 b
-  list : (n : ℕ) → n < 256 ^ 4 → Item 0x566C_4C73 items n (be 4 n)
-  object : (n : ℕ) {b : List ℕ} → n < 256 ^ 4 → Class b → Item 0x4F62_6A63 pairs n (b ++ be 4 n)
-  global : (n : ℕ) {b : List ℕ} → n < 256 ^ 4 → Class b → Item 0x476C_624F pairs n (b ++ be 4 n)
-  reference : (n : ℕ) → n < 256 ^ 4 → Item 0x6F62_6A20 forms n (be 4 n)
-  array : (m n : ℕ) {b : List ℕ} → m < 256 ^ 4 → n < 256 ^ 4 → Class b → Item 0x4F62_4172 (columns m) n (be 4 m ++ (b ++ be 4 n))
+  list : (n : ℕ) → n < 256 ^ 4 → Item (chars "VlLs") items n (be 4 n)
+  object : (n : ℕ) {b : List ℕ} → n < 256 ^ 4 → Class b → Item (chars "Objc") pairs n (b ++ be 4 n)
+  global : (n : ℕ) {b : List ℕ} → n < 256 ^ 4 → Class b → Item (chars "GlbO") pairs n (b ++ be 4 n)
+  reference : (n : ℕ) → n < 256 ^ 4 → Item (chars "obj ") forms n (be 4 n)
+  array : (m n : ℕ) {b : List ℕ} → m < 256 ^ 4 → n < 256 ^ 4 → Class b → Item (chars "ObAr") (columns m) n (be 4 m ++ (b ++ be 4 n))
 
 -- what may stand where: key, type or form, what its children are and how many, fields; an object array's pair is `UnFl`
 pub data Member : Place → List ℕ → ℕ → Place → ℕ → List ℕ → Type 0 where
   item : {kind n : ℕ} {c : Place} {b : List ℕ} → Item kind c n b → Member items [] kind c n b
   pair : {key : List ℕ} {kind n : ℕ} {c : Place} {b : List ℕ} → Id key → Item kind c n b → Member pairs key kind c n b
   form : {kind : ℕ} {b : List ℕ} → Seq Class (Form kind) b → Member forms [] kind nowhere 0 b
-  column : {m : ℕ} {key b : List ℕ} → Id key → UnitDoubles m b → Member (columns m) key 0x556E_466C nowhere 0 b
+  column : {m : ℕ} {key b : List ℕ} → Id key → UnitDoubles m b → Member (columns m) key (chars "UnFl") nowhere 0 b
 
 -- members at a depth: none is deeper than 32
 abbrev pub Allowed : Place → ℕ → Members → Type 0

@@ -9,8 +9,8 @@ use Rattle.fields.specs.declared.number.Number32.{Number32}
 use Rattle.fields.specs.declared.number.Number32.the-variants as n32
 use Rattle.fields.specs.declared.number.Number64.{Number64}
 use Rattle.fields.specs.declared.number.Number64.the-variants as n64
-use Rattle.fields.specs.declared.number.Step.{Step}
-use Rattle.fields.specs.declared.number.Step.the-variants as vs
+use Rattle.fields.specs.declared.number.FieldEnd.{FieldEnd}
+use Rattle.fields.specs.declared.number.FieldEnd.the-variants as vs
 use Rattle.algebra.specs.Writing.{Outcome, bytes, refused}
 use Rattle.fields.specs.declared.store.Written.{Written}
 use Rattle.fields.specs.declared.store.Written.the-variants as vw
@@ -33,7 +33,7 @@ told64 at (n64.Is v n) = ok v n
 told64 at n64.Short = refuse 2 at 0 0
 
 -- the next place, or a refusal's number and place
-abbrev pub toldStep : Step → Res Unit
+abbrev pub toldStep : FieldEnd → Res Unit
 toldStep (vs.Next n) = ok tt n
 toldStep (vs.Refused x p) = refuse x p 0 0
 

@@ -5,11 +5,11 @@
 mod number;
 mod store;
 
+pub use number::FieldEnd;
 pub use number::Number8;
 pub use number::Number16;
 pub use number::Number32;
 pub use number::Number64;
-pub use number::Step;
 pub use number::run_at;
 pub use number::u8_at;
 pub use number::u16_at;

@@ -32,7 +32,7 @@ pub enum Number64 {
 }
 
 // The next place, or a refusal's number and place.
-pub enum Step {
+pub enum FieldEnd {
     Next(usize),
     Refused(u32, usize),
 }
@@ -160,31 +160,31 @@ pub fn u64_or_zero(s: &[u8], at: usize) -> u64
 }
 
 // The place after k bytes from `at`, or refusal 2.
-pub fn run_at(s: &[u8], at: usize, k: usize) -> Step
+pub fn run_at(s: &[u8], at: usize, k: usize) -> FieldEnd
     ensures { λ r. ⌜ toldStep r ≡ done (body 1 k (now (s .entry)) at) ⌝ }
 {
     if k == 0 {
-        return Step::Next(at);
+        return FieldEnd::Next(at);
     }
     let n = s.len();
     if n < k {
-        return Step::Refused(2, at);
+        return FieldEnd::Refused(2, at);
     }
     if n - k < at {
-        return Step::Refused(2, at);
+        return FieldEnd::Refused(2, at);
     }
-    Step::Next(at + k)
+    FieldEnd::Next(at + k)
 }
 
 // A 16-bit field that must be `want`, or the refusal `number`.
-pub fn u16_is(s: &[u8], at: usize, want: u16, number: u32) -> Step
+pub fn u16_is(s: &[u8], at: usize, want: u16, number: u32) -> FieldEnd
     ensures { λ r. ⌜ toldStep r ≡ done (judged 2 (λ v. unless (eqb v want) number) (now (s .entry)) at) ⌝ }
 {
     let Number16::Is(v, next) = u16_at(s, at) else {
-        return Step::Refused(2, at);
+        return FieldEnd::Refused(2, at);
     };
     if v != want {
-        return Step::Refused(number, at);
+        return FieldEnd::Refused(number, at);
     }
-    Step::Next(next)
+    FieldEnd::Next(next)
 }

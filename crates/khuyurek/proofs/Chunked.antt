@@ -15,7 +15,7 @@ use Rattle.aco_stream.specs.Answer.{progress, usable, roomy, room, ended, known
 use Rattle.aco_stream.proofs.AnyCutting.{Runs, calls-agree}
 use Rattle.khuyurek.specs.declared.stream.AcoStream.{AcoStream}
 use Rattle.khuyurek.specs.declared.stream.AcoFinished.{AcoFinished}
-use Rattle.khuyurek.specs.Exported.{answerOf}
+use Rattle.khuyurek.specs.Aco.{answerOf}
 use Rattle.khuyurek.specs.Stream.{streamOf, finishedBy, finishedOf}
 
 -- chunks handed over one after the other, each with the numbers and the store that the call before handed back

@@ -16,7 +16,7 @@ use Rattle.khuyurek.specs.declared.stream.AcoStream.{AcoStream}
 use Rattle.khuyurek.specs.declared.stream.AcoFinished.{AcoFinished}
 use Rattle.khuyurek.specs.Aco.{answerOf}
 use Rattle.khuyurek.specs.Stream.{isSet, isEnded, streamOf, endedNumbers, finishedBy, finishedOf}
-use Rattle.khuyurek.specs.StreamParts.{flagOf, plainOf}
+use Rattle.khuyurek.specs.scaffold.StreamParts.{flagOf, plainOf}
 
 -- ---- to numbers and back
 

@@ -7,13 +7,13 @@ use lib.ListN.{getD}
 use Rattle.algebra.specs.Reader.{pick}
 use Rattle.acb.specs.Grammar.{Tag, none, spot, process, Ending, tagged, other}
 use Rattle.algebra.specs.Table.{Verdict, accepted, refused}
-use Rattle.acb_judge.specs.Answer.{Shown, Report}
+use Rattle.acb_judge.specs.Answer.{HeaderPlaces, Report}
 use Rattle.acb_read.specs.Answer as record-of
-use Rattle.acb_show.specs.Pages.{sampleOf}
-use Rattle.acb_show.specs.Answer.{Told, record-is, refused as noPage, pageOf as sampled}
-use Rattle.acb_view.specs.View.{dummiesIn, Counted, counted, refusal as refusalView}
-use Rattle.acb.specs.Row.{Given}
-use Rattle.acb_records.specs.Writing.{needed, written}
+use Rattle.acb_shown_values.specs.Pages.{sampleOf}
+use Rattle.acb_shown_values.specs.Answer.{Told, record-is, refused as noPage, pageOf as sampled}
+use Rattle.acb_shown_file.specs.View.{dummiesIn, Counted, counted, refusal as refusalView}
+use Rattle.acb.specs.Row.{RecordRow}
+use Rattle.acb_write_judge.specs.Writing.{needed, written}
 use Rattle.khuyurek.specs.declared.books.AcbText.{AcbText}
 use Rattle.khuyurek.specs.declared.books.AcbHeader.{AcbHeader}
 use Rattle.khuyurek.specs.declared.books.AcbAnswer.{AcbAnswer}
@@ -36,7 +36,7 @@ numberOf spot = 1
 numberOf process = 2
 
 -- title, prefix, suffix and description are the header's texts in their order
-abbrev pub headerOf : Shown → Tag → AcbHeader
+abbrev pub headerOf : HeaderPlaces → Tag → AcbHeader
 headerOf h t = record {
   identifier = h .identifier;
   size = h .size;
@@ -77,7 +77,7 @@ abbrev pub placed : List ℕ → List ℕ → Verdict (ℕ × ℕ) → AcbRecord
 placed cs ks (accepted l) = record { number = 0; units = l .1; place = 0; name = l .0; code = cs; components = ks }
 placed cs ks (refused x p r f) = record { number = x; units = 0; place = p; name = 0; code = cs; components = ks }
 
-abbrev pub recordOf : record-of.Shown → AcbRecord
+abbrev pub recordOf : record-of.RecordPlaces → AcbRecord
 recordOf w = placed (w .code) (w .components) (w .name)
 
 -- ---- what a book shows
@@ -114,7 +114,7 @@ pageInOf t count size offset p = pageOf (sampled (sampleOf size offset p (dummie
 abbrev pub lieOf : AcbText → ℕ × ℕ
 lieOf t = (t .place, t .units)
 
-abbrev pub givenOf : AcbHeader → Shown
+abbrev pub givenOf : AcbHeader → HeaderPlaces
 givenOf h = record {
   identifier = h .identifier;
   texts = lieOf (h .title) ∷ lieOf (h .prefix) ∷ lieOf (h .suffix) ∷ lieOf (h .description) ∷ [];
@@ -127,9 +127,9 @@ givenOf h = record {
 abbrev pub tagOf : ℕ → Ending
 tagOf n = pick (eqb n 0) (tagged none) (pick (eqb n 1) (tagged spot) (pick (eqb n 2) (tagged process) (other 0)))
 
-abbrev pub lengthOf : List ℕ → AcbHeader → List Given → Length
+abbrev pub lengthOf : List ℕ → AcbHeader → List RecordRow → Length
 lengthOf text h gs = writtenOf (needed text (givenOf h) (tagOf (h .tag)) gs)
 
 -- the same, and what the lent bytes then hold
-abbrev pub wroteOf : List ℕ → AcbHeader → List Given → List ℕ → Length × List ℕ
+abbrev pub wroteOf : List ℕ → AcbHeader → List RecordRow → List ℕ → Length × List ℕ
 wroteOf text h gs out = sizedOf (written text (givenOf h) (tagOf (h .tag)) gs out)

@@ -2,7 +2,7 @@
 use Prim.Native.Nat.{ℕ}
 use mathlib.Core.List.{List, [], _∷_}
 use Rattle.algebra.specs.Table.{Verdict, accepted, refused}
-use Rattle.ase.specs.Row.{Given}
+use Rattle.ase.specs.Row.{RecordRow}
 use Rattle.khuyurek.specs.declared.palettes.AseAnswer.{AseAnswer}
 use Rattle.khuyurek.specs.declared.palettes.AseRecord.{AseRecord}
 
@@ -17,6 +17,6 @@ paletteReadOf v = (paletteOf (v .0), v .1)
 abbrev pub plain : ℕ → ℕ → ℕ → ℕ → ℕ → AseRecord
 plain x b p n u = record { number = x; block = b; place = p; name = n; units = u; model = 0; channels = 0 ∷ 0 ∷ 0 ∷ 0 ∷ []; kind = 0 }
 
-abbrev pub blockOf : Verdict Given → AseRecord
+abbrev pub blockOf : Verdict RecordRow → AseRecord
 blockOf (accepted g) = record { number = 0; block = g .block; place = 0; name = g .first; units = g .units; model = g .model; channels = g .channels; kind = g .type }
 blockOf (refused x p r f) = plain x 0 p 0 0

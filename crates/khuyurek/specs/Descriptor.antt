@@ -3,6 +3,7 @@ use Prim.Native.Nat.{ℕ}
 use mathlib.Core.List.{List}
 use mathlib.Core.Bool.{Bool, true, false}
 use lib.Ieee.{binary64, toBits}
+use Rattle.algebra.specs.Chars.{chars}
 use Rattle.descriptor_judge.specs.Answer.{Verdict, accepted, refused}
 use Rattle.descriptor_read.specs.Values.{Place, lies, refusal}
 use Rattle.descriptor_read.specs.declared.Typed.{Typed}
@@ -42,10 +43,10 @@ kinded k u b = record { number = 0; kind = k; place = 0; unit = u; bits = b }
 
 -- `bool`, `long`, `comp`, `doub` and `UntF` by their four characters, a double by its bits; of other kinds all is 0
 abbrev pub typedAs : Typed → DescriptorTyped
-typedAs (vt.Bool b) = kinded 0x626f_6f6c 0 (flagOf b)
-typedAs (vt.Long n) = kinded 0x6c6f_6e67 0 n
-typedAs (vt.Comp n) = kinded 0x636f_6d70 0 n
-typedAs (vt.Double x) = kinded 0x646f_7562 0 (toBits binary64 x)
-typedAs (vt.UnitDouble u x) = kinded 0x556e_7446 u (toBits binary64 x)
+typedAs (vt.Bool b) = kinded (chars "bool") 0 (flagOf b)
+typedAs (vt.Long n) = kinded (chars "long") 0 n
+typedAs (vt.Comp n) = kinded (chars "comp") 0 n
+typedAs (vt.Double x) = kinded (chars "doub") 0 (toBits binary64 x)
+typedAs (vt.UnitDouble u x) = kinded (chars "UntF") u (toBits binary64 x)
 typedAs vt.Other = kinded 0 0 0
 typedAs (vt.Refused x p) = record { number = x; kind = 0; place = p; unit = 0; bits = 0 }

@@ -8,4 +8,4 @@ pub mod Resource
 pub mod Trays
 pub mod Walk
 pub mod Stream
-pub mod StreamParts
+pub mod scaffold

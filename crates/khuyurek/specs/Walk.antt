@@ -2,7 +2,7 @@
 use Prim.Native.Nat.{ℕ}
 use mathlib.Core.List.{[], _∷_}
 use Rattle.colour.specs.declared.space.Colour.{Colour}
-use Rattle.ase.specs.Row.{Given}
+use Rattle.ase.specs.Row.{RecordRow}
 use Rattle.walk.specs.Walk.{Call, gives, over, refused}
 use Rattle.aco_walk.specs.Walking.{Started, starts, refusal}
 use Rattle.ase_walk.specs.Walking as blocks
@@ -36,10 +36,10 @@ aseStart (blocks.refusal x p) = record { number = x; place = p; at = 0 }
 abbrev pub asePlain : ℕ → ℕ → ℕ → ℕ → ℕ → ℕ → AseStep
 asePlain x d b p u q = record { number = x; done = d; block = b; units = u; next = q; name = p; model = 0; channels = 0 ∷ 0 ∷ 0 ∷ 0 ∷ []; kind = 0 }
 
-abbrev pub aseGiven : ℕ → Call Given → AseStep
+abbrev pub aseGiven : ℕ → Call RecordRow → AseStep
 aseGiven q (gives g) = record { number = 0; done = 0; block = g .block; units = g .units; next = q; name = g .first; model = g .model; channels = g .channels; kind = g .type }
 aseGiven q over = asePlain 0 1 0 0 0 q
 aseGiven q (refused x p) = asePlain x 0 0 0 0 q
 
-abbrev pub aseStep : Call Given × ℕ → AseStep
+abbrev pub aseStep : Call RecordRow × ℕ → AseStep
 aseStep w = aseGiven (w .1) (w .0)

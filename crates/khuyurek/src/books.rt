@@ -3,15 +3,15 @@ ghost use mathlib.Core.Path.{_≡_};
 ghost use Rattle.acb.specs.Reading.{acb};
 ghost use Rattle.acb_judge.specs.Answer.{report, told, toldTag, toldHeader};
 ghost use Rattle.acb_read.specs.Table.{entriesOf, blank};
-ghost use Rattle.acb_read.specs.Answer.{shown};
-ghost use Rattle.acb_show.specs.Components.{shownComponent};
-ghost use Rattle.acb_show.specs.Texts.{shownStart};
-ghost use Rattle.acb_show.specs.Answer.{toldPage};
-ghost use Rattle.acb_view.specs.View.{shownAt, pageAt, fullLength, fullNameAt};
-ghost use Rattle.acb_view.specs.Answer.{toldCount};
+ghost use Rattle.acb_read.specs.Answer.{recordPlaces};
+ghost use Rattle.acb_shown_values.specs.Components.{shownComponent};
+ghost use Rattle.acb_shown_values.specs.Texts.{shownStart};
+ghost use Rattle.acb_shown_values.specs.Answer.{toldPage};
+ghost use Rattle.acb_shown_file.specs.View.{shownAt, pageAt, fullLength, fullNameAt};
+ghost use Rattle.acb_shown_file.specs.Answer.{toldCount};
 ghost use Rattle.algebra.specs.Table.{verdict, filled, recordAt, whole};
 ghost use Rattle.acb.specs.Row.{width, taken, row};
-ghost use Rattle.acb_records.specs.Answer.{toldEnding};
+ghost use Rattle.acb_write_judge.specs.Answer.{toldEnding};
 ghost use Rattle.khuyurek.specs.Acb.{numberOf, headerOf, noHeader, answerOf, readOf, recordOf, fourOf, shownOf, fullOf, fullReadOf, pageOf, pageInOf, givenOf, tagOf, lengthOf, wroteOf};
 use crate::Length;
 use crate::exported_length;
@@ -20,9 +20,9 @@ use acb_judge::Header;
 use acb_judge::Tag;
 use acb_judge::Text;
 use acb_read::NamePlace;
-use acb_records::Ending;
-use acb_show::Page;
-use acb_view::Count;
+use acb_shown_file::Count;
+use acb_shown_values::Page;
+use acb_write_judge::Ending;
 
 // Where a string lies in the file or text: the place of its first unit, and its units.
 #[repr(C)]
@@ -164,7 +164,7 @@ pub extern "C" fn khuyurek_acb_read(file: &[u8], table: &mut [u32]) -> AcbAnswer
 // Record i of a book.
 #[no_mangle]
 pub extern "C" fn khuyurek_acb_record_at(file: &[u8], i: usize) -> AcbRecord
-    ensures { λ r. ⌜ r ≡ recordOf (shown (recordAt entriesOf blank i (acb (now (file .entry))))) ⌝ }
+    ensures { λ r. ⌜ r ≡ recordOf (recordPlaces (recordAt entriesOf blank i (acb (now (file .entry))))) ⌝ }
 {
     let swatch = acb_read::record_at(file, i);
     let code = swatch.code;
@@ -195,7 +195,7 @@ pub extern "C" fn khuyurek_acb_record_at(file: &[u8], i: usize) -> AcbRecord
 pub extern "C" fn khuyurek_acb_shown_start(string: &[u8]) -> usize
     ensures { λ r. ⌜ r ≡ shownStart (now (string .entry)) ⌝ }
 {
-    acb_show::shown_start(string)
+    acb_shown_values::shown_start(string)
 }
 
 // ---- what a book shows
@@ -246,7 +246,7 @@ fn four(values: [i16; 4]) -> [i32; 4]
 pub extern "C" fn khuyurek_acb_shown_at(file: &[u8], i: usize) -> AcbShown
     ensures { λ r. ⌜ r ≡ shownOf (shownAt i (acb (now (file .entry)))) ⌝ }
 {
-    let shown = acb_view::shown_at(file, i);
+    let shown = acb_shown_file::shown_at(file, i);
     let bytes = shown.values;
     let values = four(bytes);
     let count = shown.count;
@@ -271,7 +271,7 @@ pub extern "C" fn khuyurek_acb_shown_at(file: &[u8], i: usize) -> AcbShown
 pub extern "C" fn khuyurek_acb_shown_component(space: u16, position: usize, byte: u8) -> i32
     ensures { λ r. ⌜ r ≡ shownComponent space position byte ⌝ }
 {
-    wide(acb_show::shown_component(space, position, byte))
+    wide(acb_shown_values::shown_component(space, position, byte))
 }
 
 fn exported_full(c: Count) -> AcbFull
@@ -296,7 +296,7 @@ fn exported_full(c: Count) -> AcbFull
 pub extern "C" fn khuyurek_acb_full_length(file: &[u8], i: usize) -> AcbFull
     ensures { λ r. ⌜ r ≡ fullOf (fullLength (now (file .entry)) i (acb (now (file .entry)))) ⌝ }
 {
-    exported_full(acb_view::full_length(file, i))
+    exported_full(acb_shown_file::full_length(file, i))
 }
 
 // Writes the full name of record i of a book into `out`.
@@ -304,7 +304,7 @@ pub extern "C" fn khuyurek_acb_full_length(file: &[u8], i: usize) -> AcbFull
 pub extern "C" fn khuyurek_acb_full_name(file: &[u8], i: usize, out: &mut [u8]) -> AcbFull
     ensures { λ r. ⌜ (r, now (out .exit)) ≡ fullReadOf (fullNameAt (now (file .entry)) i (acb (now (file .entry))) (now (out .entry))) ⌝ }
 {
-    exported_full(acb_view::full_name(file, i, out))
+    exported_full(acb_shown_file::full_name(file, i, out))
 }
 
 fn exported_page(p: Page) -> AcbPage
@@ -329,7 +329,7 @@ fn exported_page(p: Page) -> AcbPage
 pub extern "C" fn khuyurek_acb_page_at(file: &[u8], page: usize) -> AcbPage
     ensures { λ r. ⌜ r ≡ pageOf (pageAt page (acb (now (file .entry)))) ⌝ }
 {
-    exported_page(acb_view::page_at(file, page))
+    exported_page(acb_shown_file::page_at(file, page))
 }
 
 // The record that a page shows, of the records of a table that was read.
@@ -343,7 +343,7 @@ pub extern "C" fn khuyurek_acb_page_in(
 ) -> AcbPage
     ensures { λ r. ⌜ r ≡ pageInOf (now (table .entry)) count size offset page ⌝ }
 {
-    exported_page(acb_view::page_in(table, count, size, offset, page))
+    exported_page(acb_shown_file::page_in(table, count, size, offset, page))
 }
 
 // ---- writing
@@ -396,7 +396,7 @@ fn tag_given(number: u32) -> Ending
 pub extern "C" fn khuyurek_acb_length(header: AcbHeader, records: &[u32], text: &[u8]) -> Length
     ensures { λ r. ⌜ r ≡ lengthOf (now (text .entry)) header (whole width taken (now (records .entry))) ⌝ }
 {
-    exported_length(acb_records::write_length(
+    exported_length(acb_write_judge::write_length(
         header_given(header),
         tag_given(header.tag),
         records,

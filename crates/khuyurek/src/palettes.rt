@@ -2,10 +2,10 @@
 ghost use mathlib.Core.Path.{_≡_};
 ghost use Rattle.ase.specs.Reading.{ase};
 ghost use Rattle.algebra.specs.Table.{accepted, verdict, whole};
-ghost use Rattle.ase.specs.Row.{width, taken, colour as coloured};
+ghost use Rattle.ase.specs.Row.{width, taken, colourRow as coloured};
 ghost use Rattle.ase_judge.specs.Answer.{report, told};
 ghost use Rattle.ase_read.specs.Table.{filled, recordAt};
-ghost use Rattle.ase_records.specs.Writing.{needed, written};
+ghost use Rattle.ase_write_judge.specs.Writing.{needed, written};
 ghost use Rattle.colour.specs.Models.{traitsOf};
 ghost use Rattle.colour.specs.Channels.{bitsOf, modelIn};
 ghost use Rattle.khuyurek.specs.Written.{writtenOf, wroteOf};
@@ -110,8 +110,8 @@ pub extern "C" fn khuyurek_ase_record_at(file: &[u8], i: usize) -> AseRecord
     ensures { λ r. ⌜ r ≡ blockOf (recordAt i (ase (now (file .entry)))) ⌝ }
 {
     match ase_read::record_at(file, i) {
-        Record::Group { place, units } => no_colour(0, ase::START, 0, place, units),
-        Record::Close => no_colour(0, ase::STOP, 0, 0, 0),
+        Record::GroupStart { place, units } => no_colour(0, ase::GROUP_START, 0, place, units),
+        Record::GroupEnd => no_colour(0, ase::GROUP_END, 0, 0, 0),
         Record::Colour {
             place,
             units,
@@ -127,7 +127,7 @@ pub extern "C" fn khuyurek_ase_record_at(file: &[u8], i: usize) -> AseRecord
 pub extern "C" fn khuyurek_ase_length(records: &[u32], text: &[u8]) -> Length
     ensures { λ r. ⌜ r ≡ writtenOf (needed (now (text .entry)) (whole width taken (now (records .entry)))) ⌝ }
 {
-    exported_length(ase_records::write_length(records, text))
+    exported_length(ase_write_judge::write_length(records, text))
 }
 
 // Writes ASE records.

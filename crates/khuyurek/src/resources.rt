@@ -6,17 +6,17 @@ ghost use Rattle.resource.specs.Reading.{resources};
 ghost use Rattle.resource_judge.specs.Answer.{told};
 ghost use Rattle.resource_read.specs.Table.{tabled, recordIn, foundIn};
 ghost use Rattle.resource_read.specs.Answer.{toldShown, toldIndex};
-ghost use Rattle.resource_records.specs.Writing.{given, needed, written};
+ghost use Rattle.resource_write_judge.specs.Writing.{given, needed, written};
 ghost use Rattle.resource_document.specs.Reading.{document as documentIn};
 ghost use Rattle.resource_document.specs.Answer.{told as toldPlace};
 ghost use Rattle.khuyurek.specs.Written.{writtenOf, wroteOf};
 ghost use Rattle.khuyurek.specs.Resource.{answerOf, readOf, recordOf, foundOf, sectionOf};
 use crate::Length;
 use crate::exported_length;
-use resource_document::Place;
+use resource_document::SectionPlace;
 use resource_judge::Answer;
 use resource_read::Index;
-use resource_read::Shown;
+use resource_read::RecordAnswer;
 
 // Number 0 is accepted, with the number of blocks; else the refusal.
 #[repr(C)]
@@ -94,7 +94,7 @@ pub extern "C" fn khuyurek_resource_record_at(section: &[u8], index: usize) -> R
     ensures { λ r. ⌜ r ≡ recordOf (recordIn index (resources (now (section .entry)))) ⌝ }
 {
     match resource_read::record_at(section, index) {
-        Shown::Is(given) => ResourceRecord {
+        RecordAnswer::Is(given) => ResourceRecord {
             number: 0,
             id: given.id,
             place: 0,
@@ -103,7 +103,7 @@ pub extern "C" fn khuyurek_resource_record_at(section: &[u8], index: usize) -> R
             data: given.payload,
             data_length: given.size,
         },
-        Shown::Refused { number, place } => ResourceRecord {
+        RecordAnswer::Refused { number, place } => ResourceRecord {
             number,
             id: 0,
             place,
@@ -139,7 +139,7 @@ pub extern "C" fn khuyurek_resource_find(section: &[u8], id: u16) -> ResourceFou
 pub extern "C" fn khuyurek_resource_length(records: &[u32], text: &[u8]) -> Length
     ensures { λ r. ⌜ r ≡ writtenOf (needed (now (text .entry)) (given (now (records .entry)))) ⌝ }
 {
-    exported_length(resource_records::write_length(records, text))
+    exported_length(resource_write_judge::write_length(records, text))
 }
 
 // Writes records, whose names and data lie in `text`, into `out`.
@@ -156,13 +156,13 @@ pub extern "C" fn khuyurek_document_resources(document: &[u8]) -> Section
     ensures { λ r. ⌜ r ≡ sectionOf (verdict (λ x. x) (documentIn (now (document .entry)))) ⌝ }
 {
     match resource_document::resources(document) {
-        Place::Is { first, size } => Section {
+        SectionPlace::Is { first, size } => Section {
             number: 0,
             place: 0,
             first,
             length: size,
         },
-        Place::Refused { number, place } => Section {
+        SectionPlace::Refused { number, place } => Section {
             number,
             place,
             first: 0,

@@ -4,7 +4,7 @@ ghost use Prim.Native.Nat.{_<_};
 ghost use Rattle.aco_stream.specs.Answer.{Starts, Feeds, told as toldEnd};
 ghost use Rattle.khuyurek.specs.Aco.{answerOf};
 ghost use Rattle.khuyurek.specs.Stream.{isSet, isEnded, stageOf, streamOf, endedNumbers, finishedOf};
-ghost use Rattle.khuyurek.specs.StreamParts.{flagOf, plainOf};
+ghost use Rattle.khuyurek.specs.scaffold.StreamParts.{flagOf, plainOf};
 use crate::AcoAnswer;
 use aco_chunks::Stage;
 use aco_stream::Answer;

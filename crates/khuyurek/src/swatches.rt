@@ -4,8 +4,8 @@ ghost use Rattle.aco.specs.Reading.{aco};
 ghost use Rattle.algebra.specs.Table.{accepted, refused, verdict, whole};
 ghost use Rattle.aco.specs.Row.{width, taken};
 ghost use Rattle.aco_judge.specs.Answer.{report, told};
-ghost use Rattle.aco_read.specs.Table.{filled, recordAt, handed};
-ghost use Rattle.aco_records.specs.Writing.{needed, written};
+ghost use Rattle.aco_read.specs.Table.{filled, recordAt, byValue};
+ghost use Rattle.aco_write_judge.specs.Writing.{needed, written};
 ghost use Rattle.khuyurek.specs.Written.{writtenOf, wroteOf};
 ghost use Rattle.khuyurek.specs.Aco.{answerOf, placed, recordOf, readOf};
 use crate::Length;
@@ -126,7 +126,7 @@ fn missing(colour: Colour, number: u32, place: usize, rec: usize, field: usize) 
 // Record i of a file.
 #[no_mangle]
 pub extern "C" fn khuyurek_aco_record_at(file: &[u8], i: usize) -> AcoRecord
-    ensures { λ r. ⌜ r ≡ recordOf (handed (recordAt i (aco (now (file .entry))))) ⌝ }
+    ensures { λ r. ⌜ r ≡ recordOf (byValue (recordAt i (aco (now (file .entry))))) ⌝ }
 {
     let swatch = aco_read::record_at(file, i);
     let colour = swatch.colour;
@@ -147,7 +147,7 @@ pub extern "C" fn khuyurek_aco_record_at(file: &[u8], i: usize) -> AcoRecord
 pub extern "C" fn khuyurek_aco_length(records: &[u32], text: &[u8]) -> Length
     ensures { λ r. ⌜ r ≡ writtenOf (needed (now (text .entry)) (whole width taken (now (records .entry)))) ⌝ }
 {
-    exported_length(aco_records::write_length(records, text))
+    exported_length(aco_write_judge::write_length(records, text))
 }
 
 // Writes records, whose names lie in `text`, into `out`.

@@ -4,15 +4,15 @@ ghost use Rattle.aco.specs.Reading.{aco};
 ghost use Rattle.ase.specs.Reading.{ase};
 ghost use Rattle.colour.specs.Models.{traitsOf};
 ghost use Rattle.colour.specs.Channels.{bitsOf, modelIn};
-ghost use Rattle.ase.specs.Row.{colour as coloured};
+ghost use Rattle.ase.specs.Row.{colourRow as coloured};
 ghost use Rattle.walk.specs.Walk.{gives};
 ghost use Rattle.aco_walk.specs.Walking.{walk, startOf};
-ghost use Rattle.aco_walk.specs.Answer.{toldGiven, handed, toldStart};
+ghost use Rattle.aco_walk.specs.Answer.{toldGiven, callAndPlace, toldStart};
 ghost use Rattle.ase_walk.specs.Walking.{walk as walkAse, blockWalk, startOf as startOfAse};
-ghost use Rattle.ase_walk.specs.Answer.{handed as handedAse, toldStart as toldStartAse};
+ghost use Rattle.ase_walk.specs.Answer.{callAndPlace as handedAse, toldStart as toldStartAse};
 ghost use Rattle.khuyurek.specs.Walk.{acoStart, acoGiven, acoStep, aseStart, asePlain, aseGiven, aseStep};
 use ase_walk::Block;
-use ase_walk::Given;
+use ase_walk::NextColour;
 use colour::Channels;
 use colour::Colour;
 
@@ -64,25 +64,25 @@ pub struct AseStep {
     pub kind: u32,
 }
 
-fn aco_started(o: aco_walk::Opening) -> AcoStart
+fn aco_started(o: aco_walk::WalkStart) -> AcoStart
     ensures { λ r. ⌜ r ≡ acoStart (toldStart o) ⌝ }
 {
     match o {
-        aco_walk::Opening::At(at) => AcoStart {
+        aco_walk::WalkStart::At(at) => AcoStart {
             number: 0,
             place: 0,
             rec: 0,
             field: 0,
             at,
         },
-        aco_walk::Opening::Refused { number, place } => AcoStart {
+        aco_walk::WalkStart::Refused { number, place } => AcoStart {
             number,
             place,
             rec: 0,
             field: 0,
             at: 0,
         },
-        aco_walk::Opening::Differ {
+        aco_walk::WalkStart::Differ {
             place,
             record,
             field,
@@ -104,13 +104,13 @@ pub extern "C" fn khuyurek_aco_walk_start(file: &[u8]) -> AcoStart
     aco_started(aco_walk::start_at(file))
 }
 
-fn aco_given(colour: Colour, given: aco_walk::Given, next: usize) -> AcoStep
+fn aco_given(colour: Colour, given: aco_walk::NextColour, next: usize) -> AcoStep
     ensures { λ r. ⌜ r ≡ acoGiven colour next (toldGiven given) ⌝ }
 {
     let space = colour.space;
     let samples = colour.samples;
     match given {
-        aco_walk::Given::Colour { place, units } => AcoStep {
+        aco_walk::NextColour::Colour { place, units } => AcoStep {
             number: 0,
             done: 0,
             next,
@@ -119,7 +119,7 @@ fn aco_given(colour: Colour, given: aco_walk::Given, next: usize) -> AcoStep
             space,
             samples,
         },
-        aco_walk::Given::Done => AcoStep {
+        aco_walk::NextColour::Done => AcoStep {
             number: 0,
             done: 1,
             next,
@@ -128,7 +128,7 @@ fn aco_given(colour: Colour, given: aco_walk::Given, next: usize) -> AcoStep
             space,
             samples,
         },
-        aco_walk::Given::Refused { number, place: _ } => AcoStep {
+        aco_walk::NextColour::Refused { number, place: _ } => AcoStep {
             number,
             done: 0,
             next,
@@ -143,7 +143,7 @@ fn aco_given(colour: Colour, given: aco_walk::Given, next: usize) -> AcoStep
 // One colour of an ACO file, from any place.
 #[no_mangle]
 pub extern "C" fn khuyurek_aco_walk(file: &[u8], at: usize) -> AcoStep
-    ensures { λ r. ⌜ r ≡ acoStep (handed (walk (now (file .entry)) at)) ⌝ }
+    ensures { λ r. ⌜ r ≡ acoStep (callAndPlace (walk (now (file .entry)) at)) ⌝ }
 {
     let step = aco_walk::step_at(file, at);
     let colour = step.colour;
@@ -151,16 +151,16 @@ pub extern "C" fn khuyurek_aco_walk(file: &[u8], at: usize) -> AcoStep
     aco_given(colour, given, step.next)
 }
 
-fn ase_started(o: ase_walk::Opening) -> AseStart
+fn ase_started(o: ase_walk::WalkStart) -> AseStart
     ensures { λ r. ⌜ r ≡ aseStart (toldStartAse o) ⌝ }
 {
     match o {
-        ase_walk::Opening::At(at) => AseStart {
+        ase_walk::WalkStart::At(at) => AseStart {
             number: 0,
             place: 0,
             at,
         },
-        ase_walk::Opening::Refused { number, place } => AseStart {
+        ase_walk::WalkStart::Refused { number, place } => AseStart {
             number,
             place,
             at: 0,
@@ -217,14 +217,14 @@ pub extern "C" fn khuyurek_ase_walk(file: &[u8], at: usize) -> AseStep
     let given = step.given;
     let next = step.next;
     match given {
-        Given::Colour {
+        NextColour::Colour {
             place,
             units,
             colour,
             kind,
         } => ase_colour(place, units, colour, kind, next),
-        Given::Done => ase_plain(0, 1, 0, 0, 0, next),
-        Given::Refused { number, place: _ } => ase_plain(number, 0, 0, 0, 0, next),
+        NextColour::Done => ase_plain(0, 1, 0, 0, 0, next),
+        NextColour::Refused { number, place: _ } => ase_plain(number, 0, 0, 0, 0, next),
     }
 }
 
@@ -237,8 +237,8 @@ pub extern "C" fn khuyurek_ase_walk_block(file: &[u8], at: usize) -> AseStep
     let block = step.block;
     let next = step.next;
     match block {
-        Block::Group { place, units } => ase_plain(0, 0, ase::START, place, units, next),
-        Block::Close => ase_plain(0, 0, ase::STOP, 0, 0, next),
+        Block::GroupStart { place, units } => ase_plain(0, 0, ase::GROUP_START, place, units, next),
+        Block::GroupEnd => ase_plain(0, 0, ase::GROUP_END, 0, 0, next),
         Block::Colour {
             place,
             units,

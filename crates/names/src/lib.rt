@@ -6,12 +6,12 @@ ghost use mathlib.Core.Bool.{true, false};
 ghost use Rattle.algebra.specs.Numbers.{num, nums};
 ghost use Rattle.algebra.specs.Reader.{done};
 ghost use Rattle.algebra.specs.Text.{anyZero, closed, text, closedUnits, name, place};
-ghost use Rattle.algebra.specs.Lanes.{lanes, marked};
+ghost use Rattle.algebra.specs.Lanes.{lanes, anyHighBit};
 ghost use Rattle.fields.specs.Answer.{toldStep};
 ghost use Rattle.names.specs.Answer.{toldName};
+use fields::FieldEnd;
 use fields::Number16;
 use fields::Number32;
-use fields::Step;
 
 // The place of a name's first unit, its number of units without the closing zero, and the next
 // place; or a refusal's number and place.
@@ -61,7 +61,7 @@ fn four_at(s: &[u8], at: usize) -> u64
 // A word that is marked exactly where one of the four lanes of x is zero: less one, a zero lane
 // borrows and gets the highest bit, which its complement has too.
 fn marks(x: u64) -> u64
-    ensures { λ r. ⌜ marked 4 r ≡ anyZero (lanes 4 x) ⌝ }
+    ensures { λ r. ⌜ anyHighBit 4 r ≡ anyZero (lanes 4 x) ⌝ }
 {
     std::num::wrapping_sub_u64(x, 0x0001_0001_0001_0001) & !x
 }
@@ -112,7 +112,7 @@ fn any_in_few(s: &[u8], at: usize, n: usize) -> bool
 // A word that is marked wherever one of the four lanes of x is zero, and where a lane is above
 // 0x8000: what it does not mark has no zero, and it costs less than `marks`.
 fn less(x: u64) -> u64
-    ensures { λ r. ⌜ (marked 4 r ≡ false → anyZero (lanes 4 x) ≡ false) ⌝ }
+    ensures { λ r. ⌜ (anyHighBit 4 r ≡ false → anyZero (lanes 4 x) ≡ false) ⌝ }
 {
     std::num::wrapping_sub_u64(x, 0x0001_0001_0001_0001)
 }
@@ -184,24 +184,24 @@ fn any_zero(s: &[u8], at: usize, n: usize) -> bool
 }
 
 // n units from `at`, none of them zero: the next place, 2 where they pass the end, 8 where one is zero.
-pub fn text_at(s: &[u8], at: usize, n: u32) -> Step
+pub fn text_at(s: &[u8], at: usize, n: u32) -> FieldEnd
     ensures { λ r. ⌜ toldStep r ≡ done (text n (now (s .entry)) at) ⌝ }
 {
     if n == 0 {
-        return Step::Next(at);
+        return FieldEnd::Next(at);
     }
     let k = n as usize;
     let len = s.len();
     if len < 2 * k {
-        return Step::Refused(2, at);
+        return FieldEnd::Refused(2, at);
     }
     if len - 2 * k < at {
-        return Step::Refused(2, at);
+        return FieldEnd::Refused(2, at);
     }
     if any_zero(s, at, k) {
-        return Step::Refused(8, at);
+        return FieldEnd::Refused(8, at);
     }
-    Step::Next(at + 2 * k)
+    FieldEnd::Next(at + 2 * k)
 }
 
 // Whether the last of n units from `at` is zero, and no other.

@@ -7,6 +7,7 @@ use lib.ListN.{length, length-append}
 use borrow.Author.Tests.{eqb-true}
 use native.Mathlib.Omega.{arith}
 use native.Mathlib.Nat.{zero-add}
+use Rattle.algebra.specs.Chars.{chars}
 use Rattle.algebra.specs.Numbers.{num, be, joined, At, Bytes, All}
 use Rattle.algebra.specs.Reader.{Res, ok, refuse, body, give, _>>=_, mapRes}
 use Rattle.algebra.specs.Algebra.{Exact}
@@ -15,7 +16,7 @@ use Rattle.algebra.proofs.Inverse.{clash, ok-value, ok-place, unless-fine}
 use Rattle.algebra.proofs.Exact.{judged-exact, body-exact, same-exact, one-exact, give-exact, bind-exact}
 use Rattle.algebra.proofs.Sequence.{field-exact, mark-exact, then-exact}
 use Rattle.resource.specs.Grammar.{Block, nameBytes, payloadBytes, blockBytes, sectionBytes, Allowed}
-use Rattle.resource.specs.Reading.{Part, Entry, blockOf, run, zeroed, pad, followed, counted, block}
+use Rattle.resource.specs.Reading.{Part, Entry, blockOf, blockPart, zeroed, pad, paddedPart, sizedPart, block}
 
 -- ---- bytes
 
@@ -49,11 +50,11 @@ pub payload-parts : (l : List ℕ) → payloadBytes l ≡ countedBytes 4 0 l
 payload-parts l = ap (λ (n : ℕ). be 4 (length l) ++ (l ++ be (n % 2) 0)) (sym (zero-add (length l)))
 
 abbrev partsOf : Block → List ℕ
-partsOf b = be 4 0x3842_494D ++ (be 2 (b .id) ++ (countedBytes 1 1 (b .name) ++ countedBytes 4 0 (b .payload)))
+partsOf b = be 4 (chars "8BIM") ++ (be 2 (b .id) ++ (countedBytes 1 1 (b .name) ++ countedBytes 4 0 (b .payload)))
 
 pub block-parts : (b : Block) → blockBytes b ≡ partsOf b
 unfolding blockBytes
-block-parts b = ap₂ (λ (x y : List ℕ). be 4 0x3842_494D ++ (be 2 (b .id) ++ (x ++ y))) (name-parts (b .name)) (payload-parts (b .payload))
+block-parts b = ap₂ (λ (x y : List ℕ). be 4 (chars "8BIM") ++ (be 2 (b .id) ++ (x ++ y))) (name-parts (b .name)) (payload-parts (b .payload))
 
 pub length-counted : (w k : ℕ) (l : List ℕ) → length (countedBytes w k l) ≡ w + (length l + (k + length l) % 2)
 length-counted w k l =
@@ -65,14 +66,14 @@ length-block b =
     let x : List ℕ = countedBytes 1 1 (b .name) in
     let y : List ℕ = countedBytes 4 0 (b .payload) in
     let e : length (b .payload) + (0 + length (b .payload)) % 2 ≡ length (b .payload) + length (b .payload) % 2 = ap (λ (n : ℕ). length (b .payload) + n % 2) (zero-add (length (b .payload))) in
-    ap length (block-parts b) ∙ omega (arith, length-append (be 4 0x3842_494D) (be 2 (b .id) ++ (x ++ y)), length-append (be 2 (b .id)) (x ++ y), length-append x y, length-be 4 0x3842_494D, length-be 2 (b .id), length-counted 1 1 (b .name), length-counted 4 0 (b .payload))
+    ap length (block-parts b) ∙ omega (arith, length-append (be 4 (chars "8BIM")) (be 2 (b .id) ++ (x ++ y)), length-append (be 2 (b .id)) (x ++ y), length-append x y, length-be 4 (chars "8BIM"), length-be 2 (b .id), length-counted 1 1 (b .name), length-counted 4 0 (b .payload))
 
 pub bytes-block : (b : Block) → Allowed b → Bytes (blockBytes b)
 bytes-block b fit =
     let pads : (w k : ℕ) (l : List ℕ) → Bytes l → Bytes (countedBytes w k l) = λ w k l h. bytes-append (be w (length l)) (l ++ be ((k + length l) % 2) 0) (bytes-be w (length l)) (bytes-append l (be ((k + length l) % 2) 0) h (bytes-be ((k + length l) % 2) 0)) in
     let x : List ℕ = countedBytes 1 1 (b .name) in
     let y : List ℕ = countedBytes 4 0 (b .payload) in
-    subst Bytes (sym (block-parts b)) (bytes-append (be 4 0x3842_494D) (be 2 (b .id) ++ (x ++ y)) (bytes-be 4 0x3842_494D) (bytes-append (be 2 (b .id)) (x ++ y) (bytes-be 2 (b .id)) (bytes-append x y (pads 1 1 (b .name) (fit .name)) (pads 4 0 (b .payload) (fit .payload)))))
+    subst Bytes (sym (block-parts b)) (bytes-append (be 4 (chars "8BIM")) (be 2 (b .id) ++ (x ++ y)) (bytes-be 4 (chars "8BIM")) (bytes-append (be 2 (b .id)) (x ++ y) (bytes-be 2 (b .id)) (bytes-append x y (pads 1 1 (b .name) (fit .name)) (pads 4 0 (b .payload) (fit .payload)))))
 
 pub bytes-section : (i : ℕ) (bs : List Block) → All (λ k b. Allowed b) i bs → Bytes (sectionBytes bs)
 unfolding joined
@@ -95,8 +96,8 @@ abbrev pub Counted : ℕ → List ℕ → Type 0
 Counted w l = (length l < 256 ^ w) × Bytes l
 
 module _ (s : List ℕ) (bytes : Bytes s) where
-  pub run-exact : (n : ℕ) → Exact s (run n) (λ p. p .bytes) (Sized n) (λ l. l)
-  unfolding run
+  pub run-exact : (n : ℕ) → Exact s (blockPart n) (λ p. p .bytes) (Sized n) (λ l. l)
+  unfolding blockPart
   run-exact n = record {
     reads = λ at l fit h.
         let x = body-exact s bytes 1 n .reads at l (fit .0, all-octets 0 l (fit .1)) (subst (λ (z : List ℕ). At s at z) (sym (joined-octets l (fit .1))) h) in
@@ -117,8 +118,8 @@ module _ (s : List ℕ) (bytes : Bytes s) where
   pad-exact : (n : ℕ) → Exact s (pad n) (λ a. tt {0}) (λ u. Unit {0}) (λ u. be (n % 2) 0)
   pad-exact n = one-exact (judged-exact s bytes (n % 2) zeroed) 0 (power (n % 2), refl) (λ x h. eqb-true x 0 (unless-fine (eqb x 0) 5 (h .1)))
 
-  followed-exact : (k n : ℕ) → Exact s (followed k n) (λ p. p .bytes) (Sized n) (λ l. l ++ be ((k + n) % 2) 0)
-  unfolding followed
+  followed-exact : (k n : ℕ) → Exact s (paddedPart k n) (λ p. p .bytes) (Sized n) (λ l. l ++ be ((k + n) % 2) 0)
+  unfolding paddedPart
   followed-exact k n =
       same-exact
       (then-exact {k = λ t. pad (k + n) >>= (λ z. give t)} {viewD = λ p. p .bytes} (λ l d. l ≡ d) (λ l d. be ((k + n) % 2) 0 ++ []) (λ d. d) (run-exact n) (λ l d e. sym e)
@@ -126,10 +127,10 @@ module _ (s : List ℕ) (bytes : Bytes s) where
       (λ d. t .bytes ≡ d) (λ d. be ((k + n) % 2) 0 ++ []) (λ d h. h .1) (λ d h. (tt, h)) (λ d h. refl)))
       (Sized n) (λ l. l ++ be ((k + n) % 2) 0) (λ d h. h .0) (λ d h. (h, refl)) (λ d h. ap (λ (l : List ℕ). d ++ l) (append-nil (be ((k + n) % 2) 0)))
 
-  pub counted-exact : (w k : ℕ) → Exact s (counted w k) (λ p. p .bytes) (Counted w) (countedBytes w k)
+  pub counted-exact : (w k : ℕ) → Exact s (sizedPart w k) (λ p. p .bytes) (Counted w) (countedBytes w k)
   counted-exact w k =
       same-exact
-      (then-exact {k = followed k} {viewD = λ p. p .bytes} Sized (λ n d. d ++ be ((k + n) % 2) 0) length (field-exact s bytes w) (λ n d h. h .0) (λ n. followed-exact k n))
+      (then-exact {k = paddedPart k} {viewD = λ p. p .bytes} Sized (λ n d. d ++ be ((k + n) % 2) 0) length (field-exact s bytes w) (λ n d h. h .0) (λ n. followed-exact k n))
       (Counted w) (countedBytes w k) (λ d h. (h .0, h .1 .1)) (λ d h. (h .0, (refl, h .1))) (λ d h. refl)
 
   abbrev made : ℕ → Part → Part → Entry
@@ -138,25 +139,25 @@ module _ (s : List ℕ) (bytes : Bytes s) where
   abbrev built : ℕ → List ℕ → List ℕ → Block
   built i us l = record { id = i; name = us; payload = l }
 
-  last : (i : ℕ) (nm : Part) → Exact s (counted 4 0 >>= (λ l. give (made i nm l))) blockOf (λ d. Counted 4 (d .payload) × (built i (nm .bytes) (d .payload) ≡ d)) (λ d. countedBytes 4 0 (d .payload) ++ [])
+  last : (i : ℕ) (nm : Part) → Exact s (sizedPart 4 0 >>= (λ l. give (made i nm l))) blockOf (λ d. Counted 4 (d .payload) × (built i (nm .bytes) (d .payload) ≡ d)) (λ d. countedBytes 4 0 (d .payload) ++ [])
   last i nm =
       then-exact {k = λ l. give (made i nm l)} {viewD = blockOf} (λ l d. built i (nm .bytes) l ≡ d) (λ l d. []) (λ d. d .payload) (counted-exact 4 0)
       (λ l d e. sym (ap (λ (b : Block). b .payload) e)) (λ l. give-exact s (made i nm l) blockOf)
 
-  middle : (i : ℕ) → Exact s (counted 1 1 >>= (λ nm. counted 4 0 >>= (λ l. give (made i nm l)))) blockOf
+  middle : (i : ℕ) → Exact s (sizedPart 1 1 >>= (λ nm. sizedPart 4 0 >>= (λ l. give (made i nm l)))) blockOf
       (λ d. Counted 1 (d .name) × (Counted 4 (d .payload) × (built i (d .name) (d .payload) ≡ d))) (λ d. countedBytes 1 1 (d .name) ++ (countedBytes 4 0 (d .payload) ++ []))
   middle i =
-      then-exact {k = λ nm. counted 4 0 >>= (λ l. give (made i nm l))} {viewD = blockOf} (λ us d. Counted 4 (d .payload) × (built i us (d .payload) ≡ d)) (λ us d. countedBytes 4 0 (d .payload) ++ []) (λ d. d .name)
+      then-exact {k = λ nm. sizedPart 4 0 >>= (λ l. give (made i nm l))} {viewD = blockOf} (λ us d. Counted 4 (d .payload) × (built i us (d .payload) ≡ d)) (λ us d. countedBytes 4 0 (d .payload) ++ []) (λ d. d .name)
       (counted-exact 1 1) (λ us d h. sym (ap (λ (b : Block). b .name) (h .1))) (last i)
 
   pub block-exact : Exact s block blockOf Allowed blockBytes
   unfolding block
   block-exact =
       same-exact
-      (mark-exact s bytes 4 0x3842_494D (omega arith)
-      (then-exact {k = λ i. counted 1 1 >>= (λ nm. counted 4 0 >>= (λ l. give (made i nm l)))} {viewD = blockOf} (λ i d. Counted 1 (d .name) × (Counted 4 (d .payload) × (built i (d .name) (d .payload) ≡ d)))
+      (mark-exact s bytes 4 (chars "8BIM") (omega arith)
+      (then-exact {k = λ i. sizedPart 1 1 >>= (λ nm. sizedPart 4 0 >>= (λ l. give (made i nm l)))} {viewD = blockOf} (λ i d. Counted 1 (d .name) × (Counted 4 (d .payload) × (built i (d .name) (d .payload) ≡ d)))
       (λ i d. countedBytes 1 1 (d .name) ++ (countedBytes 4 0 (d .payload) ++ [])) (λ d. d .id) (field-exact s bytes 2) (λ i d h. sym (ap (λ (b : Block). b .id) (h .1 .1))) middle))
       Allowed blockBytes
       (λ d h. record { id = h .0; letters = h .1 .0 .0; name = h .1 .0 .1; size = h .1 .1 .0 .0; payload = h .1 .1 .0 .1 })
       (λ d h. (h .id, ((h .letters, h .name), ((h .size, h .payload), refl))))
-      (λ d h. ap (λ (l : List ℕ). be 4 0x3842_494D ++ (be 2 (d .id) ++ (countedBytes 1 1 (d .name) ++ l))) (append-nil (countedBytes 4 0 (d .payload))) ∙ sym (block-parts d))
+      (λ d h. ap (λ (l : List ℕ). be 4 (chars "8BIM") ++ (be 2 (d .id) ++ (countedBytes 1 1 (d .name) ++ l))) (append-nil (countedBytes 4 0 (d .payload))) ∙ sym (block-parts d))

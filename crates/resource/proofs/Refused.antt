@@ -7,6 +7,7 @@ use lib.Seq.{length-take-le}
 use borrow.Author.Tests.{le-leb, lt-leb, ne-eqb}
 use native.Mathlib.Omega.{arith}
 use native.Mathlib.Nat.{zero-add}
+use Rattle.algebra.specs.Chars.{chars}
 use Rattle.algebra.specs.Numbers.{be, At, Bytes, All}
 use Rattle.algebra.specs.Reader.{Reader, ok, refuse, field, give, _>>=_, atEnd}
 use Rattle.algebra.specs.Cut.{total, notWhole, Stub, Cuts, Spans}
@@ -17,7 +18,7 @@ use Rattle.algebra.proofs.Sequence.{field-exact}
 use Rattle.algebra.proofs.Tails.{Tail, tail-left, tail-after}
 use Rattle.algebra.proofs.Until.{until-stops, end-going}
 use Rattle.resource.specs.Grammar.{Block, nameBytes, blockBytes, sectionBytes, Allowed, Section, section}
-use Rattle.resource.specs.Reading.{Part, Entry, blockOf, run, zeroed, followed, counted, block, blocks, resources}
+use Rattle.resource.specs.Reading.{Part, Entry, blockOf, blockPart, zeroed, paddedPart, sizedPart, block, blocks, resources}
 use Rattle.resource.specs.Widths.{blockWidths}
 use Rattle.resource.specs.Damaged.{DamagedBlock, signature-cut, wrong-signature, id-cut, wrong-name, wrong-payload, Damaged, wrong-block}
 use Rattle.resource.proofs.Laws.{Counted, countedBytes, length-counted, block-parts, bytes-block, bytes-section, run-exact, counted-exact}
@@ -43,9 +44,9 @@ module _ (s : List ℕ) (bytes : Bytes s) (bs : List Block) (x : List ℕ) (fit 
 damaged-some : {x : List ℕ} {z p : ℕ} → DamagedBlock x z p → 0 < length x
 damaged-some (signature-cut x some few) = some
 damaged-some (wrong-signature v x small other) = omega (arith, length-append (be 4 v) x, length-be 4 v)
-damaged-some (id-cut x few) = omega (arith, length-append (be 4 0x3842_494D) x, length-be 4 0x3842_494D)
-damaged-some (wrong-name i x z p small d) = omega (arith, length-append (be 4 0x3842_494D) (be 2 i ++ x), length-be 4 0x3842_494D)
-damaged-some (wrong-payload i us x z p small letters b d) = omega (arith, length-append (be 4 0x3842_494D) (be 2 i ++ (nameBytes us ++ x)), length-be 4 0x3842_494D)
+damaged-some (id-cut x few) = omega (arith, length-append (be 4 (chars "8BIM")) x, length-be 4 (chars "8BIM"))
+damaged-some (wrong-name i x z p small d) = omega (arith, length-append (be 4 (chars "8BIM")) (be 2 i ++ x), length-be 4 (chars "8BIM"))
+damaged-some (wrong-payload i us x z p small letters b d) = omega (arith, length-append (be 4 (chars "8BIM")) (be 2 i ++ (nameBytes us ++ x)), length-be 4 (chars "8BIM"))
 
 -- every damaged section is refused by its number, at its place
 pub damaged-refused : {b : List ℕ} {z p : ℕ} → Damaged b z p → Bytes b → length b ≤ 16777216 → resources b ≡ refuse z p 0 0
@@ -61,21 +62,21 @@ module _ (s : List ℕ) (bytes : Bytes s) where
   field-reads : (w at v : ℕ) → v < 256 ^ w → At s at (be w v) → field w s at ≡ ok v (at + length (be w v))
   field-reads w at v small h = let r = field-exact s bytes w .reads at v small h in r .1 ∙ ap (λ (k : ℕ). ok k (at + length (be w v))) (r .2)
 
-  run-cut : (at : ℕ) (l : List ℕ) → Stub s at l → run (length l) s at ≡ refuse 2 (notWhole (length l ∷ []) at (length s)) 0 0
-  unfolding run
+  run-cut : (at : ℕ) (l : List ℕ) → Stub s at l → blockPart (length l) s at ≡ refuse 2 (notWhole (length l ∷ []) at (length s)) 0 0
+  unfolding blockPart
   run-cut at l h = rw (body-short 1 s at (length l) (omega (arith, h .short, h .inside))) (ap (λ (k : ℕ). refuse 2 k 0 0) (sym (whole-here (length l) [] at (length s) (h .short))))
 
   abbrev countedWidths : ℕ → ℕ → List ℕ → List ℕ
   countedWidths w k l = w ∷ length l ∷ (k + length l) % 2 ∷ []
 
-  followed-cut : (k at : ℕ) (l : List ℕ) → Bytes l → Stub s at (l ++ be ((k + length l) % 2) 0) → followed k (length l) s at ≡ refuse 2 (notWhole (length l ∷ (k + length l) % 2 ∷ []) at (length s)) 0 0
-  unfolding followed total
+  followed-cut : (k at : ℕ) (l : List ℕ) → Bytes l → Stub s at (l ++ be ((k + length l) % 2) 0) → paddedPart k (length l) s at ≡ refuse 2 (notWhole (length l ∷ (k + length l) % 2 ∷ []) at (length s)) 0 0
+  unfolding paddedPart total
   followed-cut k at l b h =
       let z : ℕ = (k + length l) % 2 in
-      step-cut s at (run (length l) s at) _ l (be z 0) (length l ∷ []) (z ∷ []) (omega arith) (run-cut at l)
+      step-cut s at (blockPart (length l) s at) _ l (be z 0) (length l ∷ []) (z ∷ []) (omega arith) (run-cut at l)
       (λ x y. rw (run-exact s bytes (length l) .reads at l (refl, b) x .1) (rw (judged-cuts s z {Ok = λ v. Unit {0}} zeroed .cut (at + length l) 0 tt y))) h
 
-  counted-cuts : (w k : ℕ) → Cuts s (counted w k) (Counted w) (countedBytes w k) (countedWidths w k)
+  counted-cuts : (w k : ℕ) → Cuts s (sizedPart w k) (Counted w) (countedBytes w k) (countedWidths w k)
   counted-cuts w k = record {
     cut = λ at l fit h.
         let n : ℕ = length l in
@@ -90,10 +91,10 @@ module _ (s : List ℕ) (bytes : Bytes s) where
 
   -- a block behind its name, behind its ID, behind its signature
   abbrev lastOf : ℕ → Part → Reader Entry
-  lastOf i nm = counted 4 0 >>= (λ l. give {A = Entry} (record { id = i; name = nm; payload = l }))
+  lastOf i nm = sizedPart 4 0 >>= (λ l. give {A = Entry} (record { id = i; name = nm; payload = l }))
 
   abbrev middleOf : ℕ → Reader Entry
-  middleOf i = counted 1 1 >>= lastOf i
+  middleOf i = sizedPart 1 1 >>= lastOf i
 
   abbrev headOf : Reader Entry
   headOf = field 2 >>= middleOf
@@ -106,7 +107,7 @@ module _ (s : List ℕ) (bytes : Bytes s) where
     cut = λ at b fit h.
         let x : List ℕ = countedBytes 1 1 (b .name) in
         let y : List ℕ = countedBytes 4 0 (b .payload) in
-        step-cut s at (counted 1 1 s at) (λ nm q. lastOf i nm s q) x y (countedWidths 1 1 (b .name)) (countedWidths 4 0 (b .payload)) (counted-spans 1 1 .span (b .name) (fit .letters, fit .name)) (counted-cuts 1 1 .cut at (b .name) (fit .letters, fit .name))
+        step-cut s at (sizedPart 1 1 s at) (λ nm q. lastOf i nm s q) x y (countedWidths 1 1 (b .name)) (countedWidths 4 0 (b .payload)) (counted-spans 1 1 .span (b .name) (fit .letters, fit .name)) (counted-cuts 1 1 .cut at (b .name) (fit .letters, fit .name))
         (λ u v. let r = counted-exact s bytes 1 1 .reads at (b .name) (fit .letters, fit .name) u in rw (r .1) (last-cuts i (r .0) .cut (at + length x) b fit v)) h;
   }
 
@@ -123,7 +124,7 @@ module _ (s : List ℕ) (bytes : Bytes s) where
   block-cut at b fit h =
       let n : ℕ = length (b .payload) in
       let e : countedWidths 4 0 (b .payload) ≡ 4 ∷ n ∷ n % 2 ∷ [] = ap (λ (k : ℕ). 4 ∷ n ∷ k % 2 ∷ []) (zero-add n) in
-      mark-cuts s bytes 4 0x3842_494D (omega arith) head-cuts .cut at b fit (subst (λ (l : List ℕ). Stub s at l) (block-parts b) h)
+      mark-cuts s bytes 4 (chars "8BIM") (omega arith) head-cuts .cut at b fit (subst (λ (l : List ℕ). Stub s at l) (block-parts b) h)
       ∙ ap (λ (l : List ℕ). refuse 2 (notWhole (4 ∷ 2 ∷ (countedWidths 1 1 (b .name) ++ l)) at (length s)) 0 0) e
 
 -- a section cut inside a block is 2 at the first of the block's fields that is not whole; cut behind a block, it is a section

@@ -5,6 +5,7 @@ use mathlib.Core.List.{List, [], _∷_, _++_, append-assoc, append-nil}
 use lib.ListN.{length, length-append}
 use native.Mathlib.Omega.{arith}
 use native.Mathlib.Decide.{ℕ-discrete}
+use Rattle.algebra.specs.Chars.{chars}
 use Rattle.algebra.specs.Numbers.{be, joined, Bytes, All}
 use Rattle.algebra.proofs.Places.{be-1}
 use Rattle.algebra.proofs.Exact.{all-from}
@@ -62,7 +63,7 @@ data BlockOr : List ℕ → Type 0 where
   good-block : (b : Block) (l : List ℕ) → Allowed b → Bytes l → BlockOr (blockBytes b ++ l)
 
 abbrev headed : ℕ → List ℕ → List ℕ
-headed i l = be 4 0x3842_494D ++ (be 2 i ++ l)
+headed i l = be 4 (chars "8BIM") ++ (be 2 i ++ l)
 
 payload-by : (i : ℕ) (us : List ℕ) → i < 256 ^ 2 → Counted 1 us → {l : List ℕ} → RunOr 4 0 l → BlockOr (headed i (countedBytes 1 1 us ++ l))
 payload-by i us small fit (bad-run {l} z p d) = subst (λ (y : List ℕ). BlockOr (headed i (y ++ l))) (name-parts us) (bad-block z (6 + length (nameBytes us) + p) (wrong-payload i us l z p small (fit .0) (fit .1) d))
@@ -71,20 +72,20 @@ payload-by i us small fit (good-run ds l g b) =
     let parts : blockBytes x ++ l ≡ headed i (countedBytes 1 1 us ++ (countedBytes 4 0 ds ++ l)) = ap (λ (y : List ℕ). y ++ l) (block-parts x) ∙ go (countedBytes 1 1 us) (countedBytes 4 0 ds) in
     subst BlockOr parts (good-block x l (record { id = small; letters = fit .0; name = fit .1; size = g .0; payload = g .1 }) b)
   where
-    go : (y z : List ℕ) → (be 4 0x3842_494D ++ (be 2 i ++ (y ++ z))) ++ l ≡ headed i (y ++ (z ++ l))
-    go y z = append-assoc (be 4 0x3842_494D) (be 2 i ++ (y ++ z)) l ∙ ap (λ (v : List ℕ). be 4 0x3842_494D ++ v) (append-assoc (be 2 i) (y ++ z) l ∙ ap (λ (v : List ℕ). be 2 i ++ v) (append-assoc y z l))
+    go : (y z : List ℕ) → (be 4 (chars "8BIM") ++ (be 2 i ++ (y ++ z))) ++ l ≡ headed i (y ++ (z ++ l))
+    go y z = append-assoc (be 4 (chars "8BIM")) (be 2 i ++ (y ++ z)) l ∙ ap (λ (v : List ℕ). be 4 (chars "8BIM") ++ v) (append-assoc (be 2 i) (y ++ z) l ∙ ap (λ (v : List ℕ). be 2 i ++ v) (append-assoc y z l))
 
 name-by : (i : ℕ) → i < 256 ^ 2 → {l : List ℕ} → RunOr 1 1 l → BlockOr (headed i l)
 name-by i small (bad-run {l} z p d) = bad-block z (6 + p) (wrong-name i l z p small d)
 name-by i small (good-run us l fit b) = payload-by i us small fit (run-by 4 0 (first 4 l b))
 
-id-by : {l : List ℕ} → First 2 l → BlockOr (be 4 0x3842_494D ++ l)
+id-by : {l : List ℕ} → First 2 l → BlockOr (be 4 (chars "8BIM") ++ l)
 id-by (fewer l h) = bad-block 2 4 (id-cut l h)
 id-by (number i l small b) = name-by i small (run-by 1 1 (first 1 l b))
 
 block-by : {l : List ℕ} → 0 < length l → First 4 l → BlockOr l
 block-by some (fewer l h) = bad-block 2 0 (signature-cut l some h)
-block-by some (number v l small b) = elim (ℕ-discrete v 0x3842_494D) [
+block-by some (number v l small b) = elim (ℕ-discrete v (chars "8BIM")) [
   | yes e ↦ subst (λ (k : ℕ). BlockOr (be 4 k ++ l)) (sym e) (id-by (first 2 l b))
   | no e ↦ bad-block 3 0 (wrong-signature v l small e)
 ]

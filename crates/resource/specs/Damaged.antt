@@ -4,6 +4,7 @@ use Prim.Native.Nat.{ℕ, _+_, _%_, _^_, _<_}
 use mathlib.Core.Path.{_≡_}
 use mathlib.Core.List.{List, _∷_, _++_}
 use lib.ListN.{length}
+use Rattle.algebra.specs.Chars.{chars}
 use Rattle.algebra.specs.Numbers.{be, Bytes, All}
 use Rattle.resource.specs.Grammar.{Block, Allowed, nameBytes, sectionBytes}
 
@@ -18,10 +19,10 @@ pub data DamagedRun (w k : ℕ) : List ℕ → ℕ → ℕ → Type 0 where
 -- a block: the bytes from its signature to the section's end, the number, the place counted from the block
 pub data DamagedBlock : List ℕ → ℕ → ℕ → Type 0 where
   signature-cut : (x : List ℕ) → 0 < length x → length x < 4 → DamagedBlock x 2 0
-  wrong-signature : (v : ℕ) (x : List ℕ) → v < 256 ^ 4 → (v ≡ 0x3842_494D → ⊥) → DamagedBlock (be 4 v ++ x) 3 0
-  id-cut : (x : List ℕ) → length x < 2 → DamagedBlock (be 4 0x3842_494D ++ x) 2 4
-  wrong-name : (i : ℕ) (x : List ℕ) (z p : ℕ) → i < 256 ^ 2 → DamagedRun 1 1 x z p → DamagedBlock (be 4 0x3842_494D ++ (be 2 i ++ x)) z (6 + p)
-  wrong-payload : (i : ℕ) (us x : List ℕ) (z p : ℕ) → i < 256 ^ 2 → length us < 256 → Bytes us → DamagedRun 4 0 x z p → DamagedBlock (be 4 0x3842_494D ++ (be 2 i ++ (nameBytes us ++ x))) z (6 + length (nameBytes us) + p)
+  wrong-signature : (v : ℕ) (x : List ℕ) → v < 256 ^ 4 → (v ≡ chars "8BIM" → ⊥) → DamagedBlock (be 4 v ++ x) 3 0
+  id-cut : (x : List ℕ) → length x < 2 → DamagedBlock (be 4 (chars "8BIM") ++ x) 2 4
+  wrong-name : (i : ℕ) (x : List ℕ) (z p : ℕ) → i < 256 ^ 2 → DamagedRun 1 1 x z p → DamagedBlock (be 4 (chars "8BIM") ++ (be 2 i ++ x)) z (6 + p)
+  wrong-payload : (i : ℕ) (us x : List ℕ) (z p : ℕ) → i < 256 ^ 2 → length us < 256 → Bytes us → DamagedRun 4 0 x z p → DamagedBlock (be 4 (chars "8BIM") ++ (be 2 i ++ (nameBytes us ++ x))) z (6 + length (nameBytes us) + p)
 
 -- a section: allowed blocks, and then a damaged one
 pub data Damaged : List ℕ → ℕ → ℕ → Type 0 where

@@ -3,6 +3,7 @@
 use Prim.Native.Nat.{ℕ, _%_, _^_, _≤_, _<_}
 use mathlib.Core.List.{List, _++_}
 use lib.ListN.{length}
+use Rattle.algebra.specs.Chars.{chars}
 use Rattle.algebra.specs.Numbers.{be, joined, Bytes, All}
 
 -- a block: its ID, the bytes of its name, and its data
@@ -27,7 +28,7 @@ payloadBytes l = be 4 (length l) ++ padded l
 
 -- `8BIM`, the ID, the name, the data
 unfoldable pub blockBytes : Block → List ℕ
-blockBytes b = be 4 0x3842_494D ++ (be 2 (b .id) ++ (nameBytes (b .name) ++ payloadBytes (b .payload)))
+blockBytes b = be 4 (chars "8BIM") ++ (be 2 (b .id) ++ (nameBytes (b .name) ++ payloadBytes (b .payload)))
 
 -- the blocks, one after the other
 abbrev pub sectionBytes : List Block → List ℕ

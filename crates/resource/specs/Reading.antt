@@ -3,6 +3,7 @@ use Prim.Native.Nat.{ℕ, _+_, _%_}
 use mathlib.Core.List.{List}
 use lib.Dec.{leb, eqb}
 use lib.ListN.{length}
+use Rattle.algebra.specs.Chars.{chars}
 use Rattle.algebra.specs.Reader.{Res, refuse, Reader, pick, field, body, Judged, unless, judged, give, _>>=_, mapRes, atEnd, many, limit}
 use Rattle.resource.specs.Grammar.{Block}
 
@@ -24,8 +25,8 @@ blockOf e = record { id = e .id; name = e .name .bytes; payload = e .payload .by
 -- ---- a block
 
 -- n bytes
-unfoldable pub run : ℕ → Reader Part
-run n s at = mapRes (λ b. record { first = at; bytes = b }) (body 1 n s at)
+unfoldable pub blockPart : ℕ → Reader Part
+blockPart n s at = mapRes (λ b. record { first = at; bytes = b }) (body 1 n s at)
 
 -- a pad of another content is 5
 abbrev pub zeroed : ℕ → Judged
@@ -36,29 +37,29 @@ abbrev pub pad : ℕ → Reader ℕ
 pad n = judged (n % 2) zeroed
 
 -- n bytes and their pad, where k bytes before them count with them
-unfoldable pub followed : ℕ → ℕ → Reader Part
-followed k n = do
-  t ← run n
+unfoldable pub paddedPart : ℕ → ℕ → Reader Part
+paddedPart k n = do
+  t ← blockPart n
   z ← pad (k + n)
   give t
 
 -- a length of w bytes, and as many bytes with their pad
-abbrev pub counted : ℕ → ℕ → Reader Part
-counted w k = do
+abbrev pub sizedPart : ℕ → ℕ → Reader Part
+sizedPart w k = do
   n ← field w
-  followed k n
+  paddedPart k n
 
 -- another signature is 3
-abbrev pub marked : ℕ → Judged
-marked x = unless (eqb x 0x3842_494D) 3
+abbrev pub isSignature : ℕ → Judged
+isSignature x = unless (eqb x (chars "8BIM")) 3
 
 -- signature, ID, name, data; a name's length byte counts for its pad, the data's size does not
 unfoldable pub block : Reader Entry
 block = do
-  x ← judged 4 marked
+  x ← judged 4 isSignature
   i ← field 2
-  nm ← counted 1 1
-  l ← counted 4 0
+  nm ← sizedPart 1 1
+  l ← sizedPart 4 0
   give (record { id = i; name = nm; payload = l })
 
 -- ---- the section

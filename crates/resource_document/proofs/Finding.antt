@@ -7,10 +7,11 @@ use lib.Dec.{leb}
 use lib.ListN.{length}
 use borrow.Author.Tests.{le-leb, lt-leb, ne-eqb, eq-eqb, leb-true, leb-false}
 use native.Mathlib.Omega.{arith}
+use Rattle.algebra.specs.Chars.{chars}
 use Rattle.algebra.specs.Numbers.{num, nums}
 use Rattle.algebra.specs.Reader.{Res, ok, refuse, then, pick, field, body, judged, rule, unless, done, orZero, limit}
 use Rattle.algebra.proofs.Laws.{field-in, field-short, judged-short, judged-bad, judged-ok, num-split, done-each, then-done}
-use Rattle.resource_document.specs.Reading.{marked, reserved, start, image, colours, resourcesIn, document}
+use Rattle.resource_document.specs.Reading.{fixedNumber, reserved, start, image, colours, resourcesIn, document}
 
 -- ---- a field, by whether it is there
 
@@ -80,9 +81,9 @@ module _ (s : List ℕ) (at : ℕ) where
 
 -- ---- the parts one after the other
 
-pub start-done : (s : List ℕ) → done (start s 0) ≡ then (judged 4 (marked 0x3842_5053) s 0) (λ x a. then (done (judged 2 (marked 1) s a)) (λ u b. done (judged 6 reserved s b)))
+pub start-done : (s : List ℕ) → done (start s 0) ≡ then (judged 4 (fixedNumber (chars "8BPS")) s 0) (λ x a. then (done (judged 2 (fixedNumber 1) s a)) (λ u b. done (judged 6 reserved s b)))
 unfolding start
-start-done s = done-each (judged 4 (marked 0x3842_5053) s 0) _ _ (λ x a. done-each (judged 2 (marked 1) s a) _ _ (λ v b. refl) ∙ then-done (judged 2 (marked 1) s a) (λ b. done (judged 6 reserved s b)))
+start-done s = done-each (judged 4 (fixedNumber (chars "8BPS")) s 0) _ _ (λ x a. done-each (judged 2 (fixedNumber 1) s a) _ _ (λ v b. refl) ∙ then-done (judged 2 (fixedNumber 1) s a) (λ b. done (judged 6 reserved s b)))
 
 pub image-done : (s : List ℕ) (at : ℕ) → done (image s at) ≡ then (done (body 1 2 s at)) (λ u a. then (done (body 1 4 s a)) (λ u b. then (done (body 1 4 s b)) (λ u c. then (done (body 1 2 s c)) (λ u d. done (body 1 2 s d)))))
 unfolding image

@@ -3,11 +3,12 @@
 use Prim.Native.Nat.{ℕ}
 use mathlib.Core.List.{List}
 use lib.Dec.{leb, eqb}
+use Rattle.algebra.specs.Chars.{chars}
 use Rattle.algebra.specs.Reader.{Res, ok, Reader, then, field, body, Judged, unless, rule, judged, _>>=_, limit}
 
 -- another signature, or another version, is 3
-abbrev pub marked : ℕ → ℕ → Judged
-marked v x = unless (eqb x v) 3
+abbrev pub fixedNumber : ℕ → ℕ → Judged
+fixedNumber v x = unless (eqb x v) 3
 
 -- reserved bytes that are not zero are 5
 abbrev pub reserved : ℕ → Judged
@@ -16,8 +17,8 @@ reserved v = unless (eqb v 0) 5
 -- `8BPS`, 1, and six reserved bytes, which are one field
 unfoldable pub start : Reader ℕ
 start = do
-  x ← judged 4 (marked 0x3842_5053)
-  v ← judged 2 (marked 1)
+  x ← judged 4 (fixedNumber (chars "8BPS"))
+  v ← judged 2 (fixedNumber 1)
   judged 6 reserved
 
 -- channels, height, width, depth and mode, which are not judged

@@ -5,65 +5,65 @@ ghost use Rattle.algebra.specs.Table.{verdict};
 ghost use Rattle.fields.specs.Answer.{toldStep};
 ghost use Rattle.resource_document.specs.Reading.{reserved, start, image, colours, resourcesIn, document};
 ghost use Rattle.resource_document.specs.Answer.{told};
+use fields::FieldEnd;
 use fields::Number32;
-use fields::Step;
 
 // `8BPS`.
 const SIGNATURE: u32 = 0x3842_5053;
 
 // The place of the section's first byte and the section's length, or a refusal.
-pub enum Place {
+pub enum SectionPlace {
     Is { first: usize, size: usize },
     Refused { number: u32, place: usize },
 }
 
 // Six bytes that are zero.
-fn reserved_at(file: &[u8], at: usize) -> Step
+fn reserved_at(file: &[u8], at: usize) -> FieldEnd
     ensures { λ r. ⌜ toldStep r ≡ done (judged 6 reserved (now (file .entry)) at) ⌝ }
 {
     match fields::run_at(file, at, 6) {
-        Step::Refused(x, p) => Step::Refused(x, p),
-        Step::Next(next) => {
+        FieldEnd::Refused(x, p) => FieldEnd::Refused(x, p),
+        FieldEnd::Next(next) => {
             if fields::u32_or_zero(file, at) != 0 {
-                return Step::Refused(5, at);
+                return FieldEnd::Refused(5, at);
             }
             if fields::u16_or_zero(file, at + 4) != 0 {
-                return Step::Refused(5, at);
+                return FieldEnd::Refused(5, at);
             }
-            Step::Next(next)
+            FieldEnd::Next(next)
         }
     }
 }
 
 // Signature, version, reserved bytes.
-fn start_at(file: &[u8]) -> Step
+fn start_at(file: &[u8]) -> FieldEnd
     ensures { λ r. ⌜ toldStep r ≡ done (start (now (file .entry)) 0) ⌝ }
 {
     let Number32::Is(v, a) = fields::u32_at(file, 0) else {
-        return Step::Refused(2, 0);
+        return FieldEnd::Refused(2, 0);
     };
     if v != SIGNATURE {
-        return Step::Refused(3, 0);
+        return FieldEnd::Refused(3, 0);
     }
     match fields::u16_is(file, a, 1, 3) {
-        Step::Refused(x, p) => Step::Refused(x, p),
-        Step::Next(b) => reserved_at(file, b),
+        FieldEnd::Refused(x, p) => FieldEnd::Refused(x, p),
+        FieldEnd::Next(b) => reserved_at(file, b),
     }
 }
 
 // Channels, height, width, depth and mode.
-fn image_at(file: &[u8], at: usize) -> Step
+fn image_at(file: &[u8], at: usize) -> FieldEnd
     ensures { λ r. ⌜ toldStep r ≡ done (image (now (file .entry)) at) ⌝ }
 {
     match fields::run_at(file, at, 2) {
-        Step::Refused(x, p) => Step::Refused(x, p),
-        Step::Next(a) => match fields::run_at(file, a, 4) {
-            Step::Refused(x, p) => Step::Refused(x, p),
-            Step::Next(b) => match fields::run_at(file, b, 4) {
-                Step::Refused(x, p) => Step::Refused(x, p),
-                Step::Next(c) => match fields::run_at(file, c, 2) {
-                    Step::Refused(x, p) => Step::Refused(x, p),
-                    Step::Next(d) => fields::run_at(file, d, 2),
+        FieldEnd::Refused(x, p) => FieldEnd::Refused(x, p),
+        FieldEnd::Next(a) => match fields::run_at(file, a, 4) {
+            FieldEnd::Refused(x, p) => FieldEnd::Refused(x, p),
+            FieldEnd::Next(b) => match fields::run_at(file, b, 4) {
+                FieldEnd::Refused(x, p) => FieldEnd::Refused(x, p),
+                FieldEnd::Next(c) => match fields::run_at(file, c, 2) {
+                    FieldEnd::Refused(x, p) => FieldEnd::Refused(x, p),
+                    FieldEnd::Next(d) => fields::run_at(file, d, 2),
                 },
             },
         },
@@ -71,49 +71,49 @@ fn image_at(file: &[u8], at: usize) -> Step
 }
 
 // The colour mode data.
-fn colours_at(file: &[u8], at: usize) -> Step
+fn colours_at(file: &[u8], at: usize) -> FieldEnd
     ensures { λ r. ⌜ toldStep r ≡ done (colours (now (file .entry)) at) ⌝ }
 {
     let Number32::Is(n, first) = fields::u32_at(file, at) else {
-        return Step::Refused(2, at);
+        return FieldEnd::Refused(2, at);
     };
     fields::run_at(file, first, n as usize)
 }
 
 // The resource section, with its length.
-fn resources_at(file: &[u8], at: usize) -> Place
+fn resources_at(file: &[u8], at: usize) -> SectionPlace
     ensures { λ r. ⌜ told r ≡ verdict (λ x. x) (resourcesIn (now (file .entry)) at) ⌝ }
 {
     let Number32::Is(n, first) = fields::u32_at(file, at) else {
-        return Place::Refused {
+        return SectionPlace::Refused {
             number: 2,
             place: at,
         };
     };
     let size = n as usize;
     if resource::LIMIT < size {
-        return Place::Refused {
+        return SectionPlace::Refused {
             number: 1,
             place: 0,
         };
     }
     match fields::run_at(file, first, size) {
-        Step::Refused(number, place) => Place::Refused { number, place },
-        Step::Next(_) => Place::Is { first, size },
+        FieldEnd::Refused(number, place) => SectionPlace::Refused { number, place },
+        FieldEnd::Next(_) => SectionPlace::Is { first, size },
     }
 }
 
 // Where the resource section lies, from the document's first bytes.
-pub fn resources(file: &[u8]) -> Place
+pub fn resources(file: &[u8]) -> SectionPlace
     ensures { λ r. ⌜ told r ≡ verdict (λ x. x) (document (now (file .entry))) ⌝ }
 {
     match start_at(file) {
-        Step::Refused(number, place) => Place::Refused { number, place },
-        Step::Next(a) => match image_at(file, a) {
-            Step::Refused(number, place) => Place::Refused { number, place },
-            Step::Next(b) => match colours_at(file, b) {
-                Step::Refused(number, place) => Place::Refused { number, place },
-                Step::Next(c) => resources_at(file, c),
+        FieldEnd::Refused(number, place) => SectionPlace::Refused { number, place },
+        FieldEnd::Next(a) => match image_at(file, a) {
+            FieldEnd::Refused(number, place) => SectionPlace::Refused { number, place },
+            FieldEnd::Next(b) => match colours_at(file, b) {
+                FieldEnd::Refused(number, place) => SectionPlace::Refused { number, place },
+                FieldEnd::Next(c) => resources_at(file, c),
             },
         },
     }

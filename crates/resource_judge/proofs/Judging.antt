@@ -12,12 +12,12 @@ use Rattle.algebra.specs.Table.{Verdict, accepted, refused, verdict}
 use Rattle.algebra.proofs.Laws.{field-in, judged-short, judged-bad, judged-ok, then-ok, done-const, done-each, done-refuse}
 use Rattle.algebra.proofs.Inverse.{clash, ok-value, ok-place, done-inv, field-inv, body-inv}
 use Rattle.algebra.proofs.Sequence.{step-no, step-on}
-use Rattle.resource.specs.Reading.{Part, Entry, run, zeroed, pad, followed, counted, marked, block, blocks, resources}
+use Rattle.resource.specs.Reading.{Part, Entry, blockPart, zeroed, pad, paddedPart, sizedPart, isSignature, block, blocks, resources}
 use Rattle.resource.specs.Rows.{recordOf}
 use Rattle.resource.specs.declared.Record.{Record}
 use Rattle.resource.proofs.Lies.{run-lies, counted-lies, block-lies}
 use Rattle.resource.proofs.Whole.{block-moves, blocks-stop, blocks-no, blocks-ok}
-use Rattle.resource_judge.specs.Answer.{partOf, partsFrom}
+use Rattle.resource_judge.specs.scaffold.Answer.{partOf, partsFrom}
 
 pub map-ok : {A B : Type 0} (f : A → B) (m : Res A) {b : B} {q : ℕ} → mapRes f m ≡ ok b q → (a : A) × (m ≡ ok a q) × (f a ≡ b)
 map-ok f (ok a p) e = (a, ap (λ (k : ℕ). ok a k) (ok-place e), ok-value e)
@@ -55,8 +55,8 @@ module _ (n : ℕ) (s : List ℕ) (at : ℕ) where
 -- ---- bytes with their pad
 
 module _ (s : List ℕ) where
-  pub followed-done : (k n at : ℕ) → done (followed k n s at) ≡ then (done (body 1 n s at)) (λ u q. done (pad (k + n) s q))
-  unfolding followed run
+  pub followed-done : (k n at : ℕ) → done (paddedPart k n s at) ≡ then (done (body 1 n s at)) (λ u q. done (pad (k + n) s q))
+  unfolding paddedPart blockPart
   followed-done k n at = go (body 1 n s at)
     where
       last : (p : Part) (m : Res ℕ) → done (then m (λ z r. ok p r)) ≡ done m
@@ -68,9 +68,9 @@ module _ (s : List ℕ) where
       go (refuse x q r f) = refl
 
   -- where n bytes lie
-  followed-part : (k n at : ℕ) → mapRes partOf (followed k n s at) ≡ then (done (followed k n s at)) (λ u r. ok (at, n) r)
-  unfolding followed
-  followed-part k n at = go (run n s at) (λ p q e. run-lies s n at e)
+  followed-part : (k n at : ℕ) → mapRes partOf (paddedPart k n s at) ≡ then (done (paddedPart k n s at)) (λ u r. ok (at, n) r)
+  unfolding paddedPart
+  followed-part k n at = go (blockPart n s at) (λ p q e. run-lies s n at e)
     where
       last : (p : Part) → (p .first ≡ at) → (length (p .bytes) ≡ n) → (m : Res ℕ) → mapRes partOf (then m (λ z r. ok p r)) ≡ then (done (then m (λ z r. ok p r))) (λ u r. ok (at, n) r)
       last p a b (ok v q) = ap₂ (λ (x y : ℕ). ok (x, y) q) a b
@@ -81,10 +81,10 @@ module _ (s : List ℕ) where
       go (ok p q) h = let x = h p q refl in last p (x .0) (x .1) (pad (k + n) s q)
       go (refuse x q r f) h = refl
 
-  pub counted-part : (w k at : ℕ) → mapRes partOf (counted w k s at) ≡ then (field w s at) (λ n q. then (done (followed k n s q)) (λ u r. ok (q, n) r))
+  pub counted-part : (w k at : ℕ) → mapRes partOf (sizedPart w k s at) ≡ then (field w s at) (λ n q. then (done (paddedPart k n s q)) (λ u r. ok (q, n) r))
   counted-part w k at = go (field w s at)
     where
-      go : (m : Res ℕ) → mapRes partOf (then m (λ n q. followed k n s q)) ≡ then m (λ n q. then (done (followed k n s q)) (λ u r. ok (q, n) r))
+      go : (m : Res ℕ) → mapRes partOf (then m (λ n q. paddedPart k n s q)) ≡ then m (λ n q. then (done (paddedPart k n s q)) (λ u r. ok (q, n) r))
       go (ok n q) = followed-part k n q
       go (refuse x q r f) = refl
 
@@ -96,27 +96,27 @@ module _ (s : List ℕ) where
   abbrev shown : ℕ → ℕ × ℕ → ℕ × ℕ → Record
   shown i nm l = record { id = i; name = nm .0; letters = nm .1; payload = l .0; size = l .1 }
 
-  pub block-record : (at : ℕ) → mapRes recordOf (block s at) ≡ then (judged 4 marked s at) (λ x a. then (field 2 s a) (λ i b. partsFrom i s b))
+  pub block-record : (at : ℕ) → mapRes recordOf (block s at) ≡ then (judged 4 isSignature s at) (λ x a. then (field 2 s a) (λ i b. partsFrom i s b))
   unfolding block partsFrom
-  block-record at = first (judged 4 marked s at)
+  block-record at = first (judged 4 isSignature s at)
     where
       last : (i : ℕ) (nm : Part) (m : Res Part) → mapRes recordOf (then m (λ l q. ok (made i nm l) q))
           ≡ then (mapRes partOf m) (λ l q. ok (shown i (partOf nm) l) q)
       last i nm (ok l q) = refl
       last i nm (refuse x q r f) = refl
 
-      third : (i : ℕ) (m : Res Part) → mapRes recordOf (then m (λ nm p. then (counted 4 0 s p) (λ l q. ok (made i nm l) q)))
-          ≡ then (mapRes partOf m) (λ nm p. then (mapRes partOf (counted 4 0 s p)) (λ l q. ok (shown i nm l) q))
-      third i (ok nm p) = last i nm (counted 4 0 s p)
+      third : (i : ℕ) (m : Res Part) → mapRes recordOf (then m (λ nm p. then (sizedPart 4 0 s p) (λ l q. ok (made i nm l) q)))
+          ≡ then (mapRes partOf m) (λ nm p. then (mapRes partOf (sizedPart 4 0 s p)) (λ l q. ok (shown i nm l) q))
+      third i (ok nm p) = last i nm (sizedPart 4 0 s p)
       third i (refuse x q r f) = refl
 
-      second : (m : Res ℕ) → mapRes recordOf (then m (λ i b. then (counted 1 1 s b) (λ nm p. then (counted 4 0 s p) (λ l q. ok (made i nm l) q))))
-          ≡ then m (λ i b. then (mapRes partOf (counted 1 1 s b)) (λ nm p. then (mapRes partOf (counted 4 0 s p)) (λ l q. ok (shown i nm l) q)))
-      second (ok i b) = third i (counted 1 1 s b)
+      second : (m : Res ℕ) → mapRes recordOf (then m (λ i b. then (sizedPart 1 1 s b) (λ nm p. then (sizedPart 4 0 s p) (λ l q. ok (made i nm l) q))))
+          ≡ then m (λ i b. then (mapRes partOf (sizedPart 1 1 s b)) (λ nm p. then (mapRes partOf (sizedPart 4 0 s p)) (λ l q. ok (shown i nm l) q)))
+      second (ok i b) = third i (sizedPart 1 1 s b)
       second (refuse x q r f) = refl
 
-      first : (m : Res ℕ) → mapRes recordOf (then m (λ x a. then (field 2 s a) (λ i b. then (counted 1 1 s b) (λ nm p. then (counted 4 0 s p) (λ l q. ok (made i nm l) q)))))
-          ≡ then m (λ x a. then (field 2 s a) (λ i b. then (mapRes partOf (counted 1 1 s b)) (λ nm p. then (mapRes partOf (counted 4 0 s p)) (λ l q. ok (shown i nm l) q))))
+      first : (m : Res ℕ) → mapRes recordOf (then m (λ x a. then (field 2 s a) (λ i b. then (sizedPart 1 1 s b) (λ nm p. then (sizedPart 4 0 s p) (λ l q. ok (made i nm l) q)))))
+          ≡ then m (λ x a. then (field 2 s a) (λ i b. then (mapRes partOf (sizedPart 1 1 s b)) (λ nm p. then (mapRes partOf (sizedPart 4 0 s p)) (λ l q. ok (shown i nm l) q))))
       first (ok x a) = second (field 2 s a)
       first (refuse x q r f) = refl
 
@@ -124,26 +124,26 @@ module _ (s : List ℕ) where
 
 module _ (s : List ℕ) where
   -- only whether the number of bytes is odd counts for their pad
-  followed-same : (k j n at : ℕ) → (k + n) % 2 ≡ (j + n) % 2 → followed k n s at ≡ followed j n s at
-  unfolding followed
-  followed-same k j n at e = ap (λ (w : ℕ). then (run n s at) (λ t q. then (judged w zeroed s q) (λ z r. ok t r))) e
+  followed-same : (k j n at : ℕ) → (k + n) % 2 ≡ (j + n) % 2 → paddedPart k n s at ≡ paddedPart j n s at
+  unfolding paddedPart
+  followed-same k j n at e = ap (λ (w : ℕ). then (blockPart n s at) (λ t q. then (judged w zeroed s q) (λ z r. ok t r))) e
 
-  counted-done : (w k at : ℕ) → done (counted w k s at) ≡ then (field w s at) (λ n q. done (followed k n s q))
+  counted-done : (w k at : ℕ) → done (sizedPart w k s at) ≡ then (field w s at) (λ n q. done (paddedPart k n s q))
   counted-done w k at = done-each (field w s at) _ _ (λ n q. refl)
 
   module _ (w k at : ℕ) (even : at % 2 ≡ 0) (same : (w + k) % 2 ≡ 0) where
-    pub length-cut : refuse 2 at 0 0 ≡ field w s at → refuse 2 at 0 0 ≡ done (counted w k s at)
+    pub length-cut : refuse 2 at 0 0 ≡ field w s at → refuse 2 at 0 0 ≡ done (sizedPart w k s at)
     length-cut e = step-no _ _ e ∙ sym (counted-done w k at)
 
     -- the pad by the place where it would stand
-    pub by-place : {n q : ℕ} {m : Res Unit} → ok n q ≡ field w s at → m ≡ done (followed q n s q) → m ≡ done (counted w k s at)
+    pub by-place : {n q : ℕ} {m : Res Unit} → ok n q ≡ field w s at → m ≡ done (paddedPart q n s q) → m ≡ done (sizedPart w k s at)
     by-place {n} {q} e f =
         let i = field-inv w s at (sym e) in
         let z : (q + n) % 2 ≡ (k + n) % 2 = omega (arith, i .2) in
         step-on _ _ e (f ∙ ap done (followed-same q k n q z)) ∙ sym (counted-done w k at)
 
-    pub ends-even : {q : ℕ} → ok tt q ≡ done (counted w k s at) → q % 2 ≡ 0
-    ends-even {q} e = let x = done-inv (counted w k s at) (sym e) in omega (arith, counted-lies s w k at (x .1) .1)
+    pub ends-even : {q : ℕ} → ok tt q ≡ done (sizedPart w k s at) → q % 2 ≡ 0
+    ends-even {q} e = let x = done-inv (sizedPart w k s at) (sym e) in omega (arith, counted-lies s w k at (x .1) .1)
 
   -- a pad by the place where n bytes from `at` end
   pub ends-at : (n at : ℕ) {q : ℕ} {m : Res Unit} → ok tt q ≡ done (body 1 n s at) → m ≡ done (pad q s q) → m ≡ done (pad (at + n) s q)
@@ -155,12 +155,12 @@ module _ (s : List ℕ) where
   pub even-number : (w at : ℕ) {v q : ℕ} → ok v q ≡ field w s at → at % 2 ≡ 0 → w % 2 ≡ 0 → q % 2 ≡ 0
   even-number w at e even same = omega (arith, field-inv w s at (sym e) .2)
 
-  pub block-done : (at : ℕ) → done (block s at) ≡ then (judged 4 marked s at) (λ x a. then (field 2 s a) (λ i b. then (done (counted 1 1 s b)) (λ u p. done (counted 4 0 s p))))
+  pub block-done : (at : ℕ) → done (block s at) ≡ then (judged 4 isSignature s at) (λ x a. then (field 2 s a) (λ i b. then (done (sizedPart 1 1 s b)) (λ u p. done (sizedPart 4 0 s p))))
   unfolding block
   block-done at =
-      done-each (judged 4 marked s at) _ _
+      done-each (judged 4 isSignature s at) _ _
       (λ x a. done-each (field 2 s a) _ _
-      (λ i b. done-const (counted 1 1 s b) _ (λ p. done (counted 4 0 s p)) (λ nm p. then-ok (made s i nm) (counted 4 0 s p))))
+      (λ i b. done-const (sizedPart 1 1 s b) _ (λ p. done (sizedPart 4 0 s p)) (λ nm p. then-ok (made s i nm) (sizedPart 4 0 s p))))
 
 -- ---- the section
 

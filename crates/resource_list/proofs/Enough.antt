@@ -8,6 +8,7 @@ use lib.ListN.{length, getD, take}
 use lib.Seq.{getD-take, length-take-le, take-all}
 use borrow.Author.Tests.{lt-leb, leb-true, leb-false}
 use native.Mathlib.Omega.{arith}
+use Rattle.algebra.specs.Chars.{chars}
 use Rattle.algebra.specs.Numbers.{num, nums}
 use Rattle.algebra.specs.Reader.{Res, ok, refuse, then, pick, field, body, Judged, judged, rule, unless, orZero, limit}
 use Rattle.algebra.specs.Store.{part}
@@ -16,7 +17,7 @@ use Rattle.algebra.proofs.Laws.{field-in, field-short, body-in, body-short, the
 use Rattle.algebra.proofs.Inverse.{then-inv, field-inv, judged-inv, body-inv}
 use Rattle.algebra.proofs.Places.{num-cong, nums-cong}
 use Rattle.resource.specs.Reading.{resources}
-use Rattle.resource_document.specs.Reading.{marked, reserved, start, image, colours, resourcesIn, document}
+use Rattle.resource_document.specs.Reading.{fixedNumber, reserved, start, image, colours, resourcesIn, document}
 use Rattle.resource_list.specs.Listing.{section, most, isDocument, reached, sectionOf, listed, listing}
 use Rattle.resource_list.proofs.Listed.{nums-part, section-ends}
 
@@ -49,16 +50,16 @@ module _ (s t : List ℕ) (longer : most < length t) (beginning : length t ≤ l
   start-same : start t 0 ≡ start s 0
   unfolding start
   start-same =
-      then-same (judged 4 (marked 0x3842_5053) t 0) (judged 4 (marked 0x3842_5053) s 0) _ _ (judged-same 4 (marked 0x3842_5053) 0 (omega arith))
-      (λ x q e. then-same (judged 2 (marked 1) t q) (judged 2 (marked 1) s q) _ _ (judged-same 2 (marked 1) q (omega (arith, judged-inv 4 s 0 (marked 0x3842_5053) e .2)))
-      (λ v r f. judged-same 6 reserved r (omega (arith, judged-inv 4 s 0 (marked 0x3842_5053) e .2, judged-inv 2 s q (marked 1) f .2))))
+      then-same (judged 4 (fixedNumber (chars "8BPS")) t 0) (judged 4 (fixedNumber (chars "8BPS")) s 0) _ _ (judged-same 4 (fixedNumber (chars "8BPS")) 0 (omega arith))
+      (λ x q e. then-same (judged 2 (fixedNumber 1) t q) (judged 2 (fixedNumber 1) s q) _ _ (judged-same 2 (fixedNumber 1) q (omega (arith, judged-inv 4 s 0 (fixedNumber (chars "8BPS")) e .2)))
+      (λ v r f. judged-same 6 reserved r (omega (arith, judged-inv 4 s 0 (fixedNumber (chars "8BPS")) e .2, judged-inv 2 s q (fixedNumber 1) f .2))))
 
   start-end : {x p : ℕ} → start s 0 ≡ ok x p → p ≡ 12
   unfolding start
   start-end e =
-      let a = then-inv (judged 4 (marked 0x3842_5053) s 0) _ e in
-      let b = then-inv (judged 2 (marked 1) s (a .1)) _ (a .3) in
-      omega (arith, judged-inv 4 s 0 (marked 0x3842_5053) (a .2) .2, judged-inv 2 s (a .1) (marked 1) (b .2) .2, judged-inv 6 s (b .1) reserved (b .3) .2)
+      let a = then-inv (judged 4 (fixedNumber (chars "8BPS")) s 0) _ e in
+      let b = then-inv (judged 2 (fixedNumber 1) s (a .1)) _ (a .3) in
+      omega (arith, judged-inv 4 s 0 (fixedNumber (chars "8BPS")) (a .2) .2, judged-inv 2 s (a .1) (fixedNumber 1) (b .2) .2, judged-inv 6 s (b .1) reserved (b .3) .2)
 
   image-same : (p : ℕ) → p ≡ 12 → image t p ≡ image s p
   unfolding image
@@ -187,7 +188,7 @@ module _ (s t : List ℕ) (longer : most < length t) (beginning : length t ≤ l
 
   section-same : sectionOf t ≡ sectionOf s
   section-same =
-      let d : isDocument t ≡ isDocument s = ap (λ (m : Res ℕ). eqb (orZero m) 0x3842_5053) (field-same 4 0 (omega arith)) in
+      let d : isDocument t ≡ isDocument s = ap (λ (m : Res ℕ). eqb (orZero m) (chars "8BPS")) (field-same 4 0 (omega arith)) in
       let long : whole t ≡ whole s = rw (lt-leb (length t) most longer, lt-leb (length s) most (omega arith)) in
       ap (λ (b : Bool). pick b (ofPart (document t)) (whole t)) d ∙ ap₂ (λ (x y : Verdict (ℕ × ℕ)). pick (isDocument s) x y) document-meet long
 

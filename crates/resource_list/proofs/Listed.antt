@@ -9,6 +9,7 @@ use lib.Seq.{drop-cons}
 use borrow.Author.Tests.{le-leb, lt-leb, eq-eqb, ne-eqb, leb-true}
 use native.Mathlib.Omega.{arith}
 use native.Mathlib.Numerals.{add-one}
+use Rattle.algebra.specs.Chars.{chars}
 use Rattle.algebra.specs.Numbers.{nums}
 use Rattle.algebra.specs.Reader.{Res, ok, refuse, then, pick, field, body, judged, mapRes, orZero}
 use Rattle.algebra.specs.Store.{part}
@@ -16,7 +17,7 @@ use Rattle.algebra.specs.Table.{Verdict, accepted, refused, verdict}
 use Rattle.algebra.proofs.Laws.{num-1}
 use Rattle.algebra.proofs.Inverse.{clash, ok-value, then-inv, field-inv, judged-inv, body-inv}
 use Rattle.algebra.proofs.Places.{length-nums}
-use Rattle.resource.specs.Reading.{Part, Entry, run, pad, followed, counted, marked, block, blocks, resources}
+use Rattle.resource.specs.Reading.{Part, Entry, blockPart, pad, paddedPart, sizedPart, isSignature, block, blocks, resources}
 use Rattle.resource.specs.Rows.{recordOf}
 use Rattle.resource.specs.declared.Record.{Record}
 use Rattle.resource.proofs.Lies.{block-lies}
@@ -25,14 +26,14 @@ use Rattle.resource.proofs.Whole.{block-moves, blocks-ok}
 use Rattle.resource_document.specs.Reading.{document}
 use Rattle.resource_document.proofs.Inside.{section-inside}
 use Rattle.resource_judge.proofs.Judging.{map-ok}
-use Rattle.resource_read.specs.Parts.{rest, entriesOf, Sound}
+use Rattle.resource_read.specs.scaffold.Parts.{rest, entriesOf, Sound}
 use Rattle.resource_read.proofs.Answers.{refused-of, accepted-of, part-of}
 use Rattle.resource_read.proofs.Going.{none-left, turned}
 use Rattle.listing.specs.Buffer.{Buffer, putAll}
 use Rattle.listing.specs.Text.{ascii, decimal, word, name, lines, refusal}
 use Rattle.listing.proofs.Putting.{lines-turn, lines-none}
 use Rattle.resource_list.specs.Listing.{heading, line, section, most, isDocument, reached, sectionOf, listed}
-use Rattle.resource_list.specs.Parts.{shown, Lying}
+use Rattle.resource_list.specs.scaffold.Parts.{shown, Lying}
 
 -- a name as a part of the section, as the code lends it
 pub put-part : (s : List ℕ) (from k : ℕ) (o : Buffer) {p : Buffer} → p ≡ putAll o (name (take (from + k - from) (drop from s))) → p ≡ putAll o (name (part s from k))
@@ -71,12 +72,12 @@ found-inside s {p} {k} e = go (document s) refl e
 
 module _ (s : List ℕ) where
   -- a document
-  pub of-document : {v : ℕ} {w : Verdict (ℕ × ℕ)} → v ≡ orZero (field 4 s 0) → v ≡ 0x3842_5053 → w ≡ reached (length s) (verdict (λ v. v) (document s)) → w ≡ sectionOf s
-  of-document e is f = let d : orZero (field 4 s 0) ≡ 0x3842_5053 = sym e ∙ is in f ∙ sym (simp (eq-eqb (orZero (field 4 s 0)) 0x3842_5053 d))
+  pub of-document : {v : ℕ} {w : Verdict (ℕ × ℕ)} → v ≡ orZero (field 4 s 0) → v ≡ chars "8BPS" → w ≡ reached (length s) (verdict (λ v. v) (document s)) → w ≡ sectionOf s
+  of-document e is f = let d : orZero (field 4 s 0) ≡ (chars "8BPS") = sym e ∙ is in f ∙ sym (simp (eq-eqb (orZero (field 4 s 0)) (chars "8BPS") d))
 
-  module _ {v : ℕ} (e : v ≡ orZero (field 4 s 0)) (other : v ≡ 0x3842_5053 → ⊥) where
-    none : eqb (orZero (field 4 s 0)) 0x3842_5053 ≡ false
-    none = ne-eqb (orZero (field 4 s 0)) 0x3842_5053 (λ d. other (e ∙ d))
+  module _ {v : ℕ} (e : v ≡ orZero (field 4 s 0)) (other : v ≡ chars "8BPS" → ⊥) where
+    none : eqb (orZero (field 4 s 0)) (chars "8BPS") ≡ false
+    none = ne-eqb (orZero (field 4 s 0)) (chars "8BPS") (λ d. other (e ∙ d))
 
     pub of-long : most < length s → refused 1 0 0 0 ≡ sectionOf s
     of-long h = sym (simp (none, lt-leb (length s) most h))
@@ -127,8 +128,8 @@ nums-part s (suc n) at h =
     ∙ sym (ap (take (suc n)) (drop-cons s at 0 (omega arith)))
 
 module _ (s : List ℕ) where
-  run-part : (n at : ℕ) {p : Part} {q : ℕ} → at ≤ length s → run n s at ≡ ok p q → part s (p .first) (length (p .bytes)) ≡ p .bytes
-  unfolding run
+  run-part : (n at : ℕ) {p : Part} {q : ℕ} → at ≤ length s → blockPart n s at ≡ ok p q → part s (p .first) (length (p .bytes)) ≡ p .bytes
+  unfolding blockPart
   run-part n at {p} {q} le e = go (body 1 n s at) refl e
     where
       go : (m : Res (List ℕ)) → body 1 n s at ≡ m → mapRes (λ b. record { first = at; bytes = b }) m ≡ ok p q → part s (p .first) (length (p .bytes)) ≡ p .bytes
@@ -139,12 +140,12 @@ module _ (s : List ℕ) where
           subst (λ (x : Part). part s (x .first) (length (x .bytes)) ≡ x .bytes) (ok-value g) is
       go (refuse x y r f) h g = clash g
 
-  counted-part : (w k at : ℕ) {p : Part} {q : ℕ} → at ≤ length s → counted w k s at ≡ ok p q → part s (p .first) (length (p .bytes)) ≡ p .bytes
-  unfolding followed
+  counted-part : (w k at : ℕ) {p : Part} {q : ℕ} → at ≤ length s → sizedPart w k s at ≡ ok p q → part s (p .first) (length (p .bytes)) ≡ p .bytes
+  unfolding paddedPart
   counted-part w k at le e =
       let a = then-inv (field w s at) _ e in
       let i = field-inv w s at (a .2) in
-      let b = then-inv (run (a .0) s (a .1)) _ (a .3) in
+      let b = then-inv (blockPart (a .0) s (a .1)) _ (a .3) in
       let c = then-inv (pad (k + a .0) s (b .1)) _ (b .3) in
       subst (λ (x : Part). part s (x .first) (length (x .bytes)) ≡ x .bytes) (ok-value (c .3)) (run-part (a .0) (a .1) (omega (arith, i .0, i .2)) (b .2))
 
@@ -152,12 +153,12 @@ module _ (s : List ℕ) where
   block-name : (at : ℕ) {e : Entry} {q : ℕ} → at ≤ length s → block s at ≡ ok e q → part s (e .name .first) (length (e .name .bytes)) ≡ e .name .bytes
   unfolding block
   block-name at {e} le h =
-      let a = then-inv (judged 4 marked s at) _ h in
-      let i = judged-inv 4 s at marked (a .2) in
+      let a = then-inv (judged 4 isSignature s at) _ h in
+      let i = judged-inv 4 s at isSignature (a .2) in
       let b = then-inv (field 2 s (a .1)) _ (a .3) in
       let j = field-inv 2 s (a .1) (b .2) in
-      let c = then-inv (counted 1 1 s (b .1)) _ (b .3) in
-      let d = then-inv (counted 4 0 s (c .1)) _ (c .3) in
+      let c = then-inv (sizedPart 1 1 s (b .1)) _ (b .3) in
+      let d = then-inv (sizedPart 4 0 s (c .1)) _ (c .3) in
       let nm : c .0 ≡ e .name = ap (λ (x : Entry). x .name) (ok-value (d .3)) in
       subst (λ (x : Part). part s (x .first) (length (x .bytes)) ≡ x .bytes) nm (counted-part 1 1 (b .1) (omega (arith, i .0, i .2, j .0, j .2)) (c .2))
 

@@ -4,6 +4,7 @@ use mathlib.Core.Bool.{Bool}
 use mathlib.Core.List.{List, _++_}
 use lib.ListN.{length}
 use lib.Dec.{leb, eqb}
+use Rattle.algebra.specs.Chars.{chars}
 use Rattle.algebra.specs.Reader.{Res, ok, refuse, pick, field, orZero}
 use Rattle.algebra.specs.Store.{part}
 use Rattle.algebra.specs.Table.{Verdict, accepted, refused, verdict}
@@ -34,7 +35,7 @@ most = 65536
 
 -- an input that begins with `8BPS` is a document
 abbrev pub isDocument : List ℕ → Bool
-isDocument s = eqb (orZero (field 4 s 0)) 0x3842_5053
+isDocument s = eqb (orZero (field 4 s 0)) (chars "8BPS")
 
 -- a document of n bytes, by where its section was found: 1 where the section ends past `most`. In a longer document that is also so
 -- where a field before the section's end is cut

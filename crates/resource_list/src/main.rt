@@ -7,12 +7,12 @@ ghost use Rattle.algebra.specs.Table.{verdict};
 ghost use Rattle.resource.specs.Reading.{resources};
 ghost use Rattle.resource_document.specs.Reading.{document};
 ghost use Rattle.resource_document.specs.Answer.{told};
-ghost use Rattle.resource_read.specs.Parts.{rest, Sound};
+ghost use Rattle.resource_read.specs.scaffold.Parts.{rest, Sound};
 ghost use Rattle.listing.specs.Buffer.{putAll};
 ghost use Rattle.listing.specs.Text.{lines};
 ghost use Rattle.resource_list.specs.Listing.{line, most, reached, sectionOf, listing};
 ghost use Rattle.resource_list.specs.Listing.{section as Listing·section};
-ghost use Rattle.resource_list.specs.Parts.{shown, Lying};
+ghost use Rattle.resource_list.specs.scaffold.Parts.{shown, Lying};
 use listing::finish;
 use listing::put;
 use listing::put_name;
@@ -22,9 +22,9 @@ use listing::put_text;
 use listing::put_word;
 use listing::take_input;
 use resource::Record;
-use resource_document::Place;
+use resource_document::SectionPlace;
 use resource_judge::Answer;
-use resource_judge::Found;
+use resource_judge::BlockAnswer;
 
 // The longest section that is listed, and the last place where that of a document may end.
 const TAKEN: usize = 65536;
@@ -65,13 +65,13 @@ fn put_blocks(out: &mut [u8], n: usize, section: &[u8], first: usize) -> usize
     let mut i: usize = 0;
     while at < section.len() {
         match resource_judge::block_at(section, at) {
-            Found::Refused {
+            BlockAnswer::Refused {
                 number: _,
                 place: _,
             } => {
                 return full;
             }
-            Found::Is { given, next } => {
+            BlockAnswer::Is { given, next } => {
                 full = put_block(out, full, section, first, i, given);
                 at = next;
             }
@@ -99,48 +99,48 @@ fn put_section(out: &mut [u8], section: &[u8], first: usize) -> usize
 }
 
 // Where the section of a document lies, which may be longer than what is listed.
-fn section_within(file: &[u8]) -> Place
+fn section_within(file: &[u8]) -> SectionPlace
     ensures { λ r. ⌜ told r ≡ reached (length (now (file .entry))) (verdict (λ v. v) (document (now (file .entry)))) ⌝ }
 {
     match resource_document::resources(file) {
-        Place::Is { first, size } => {
+        SectionPlace::Is { first, size } => {
             if TAKEN < first + size {
-                return Place::Refused {
+                return SectionPlace::Refused {
                     number: 1,
                     place: 0,
                 };
             }
-            Place::Is { first, size }
+            SectionPlace::Is { first, size }
         }
-        Place::Refused { number, place } => {
+        SectionPlace::Refused { number, place } => {
             if file.len() <= TAKEN {
-                return Place::Refused { number, place };
+                return SectionPlace::Refused { number, place };
             }
             if number == 2 {
-                return Place::Refused {
+                return SectionPlace::Refused {
                     number: 1,
                     place: 0,
                 };
             }
-            Place::Refused { number, place }
+            SectionPlace::Refused { number, place }
         }
     }
 }
 
 // Where the section of an input lies.
-fn section_of(file: &[u8]) -> Place
+fn section_of(file: &[u8]) -> SectionPlace
     ensures { λ r. ⌜ told r ≡ sectionOf (now (file .entry)) ⌝ }
 {
     if fields::u32_or_zero(file, 0) == DOCUMENT {
         return section_within(file);
     }
     if TAKEN < file.len() {
-        return Place::Refused {
+        return SectionPlace::Refused {
             number: 1,
             place: 0,
         };
     }
-    Place::Is {
+    SectionPlace::Is {
         first: 0,
         size: file.len(),
     }
@@ -150,8 +150,8 @@ fn put_listing(out: &mut [u8], file: &[u8]) -> usize
     ensures { λ r. ⌜ (now (out .exit), r) ≡ putAll (now (out .entry), 0) (listing (now (file .entry))) ⌝ }
 {
     match section_of(file) {
-        Place::Refused { number, place } => put_refusal(out, number, place),
-        Place::Is { first, size } => {
+        SectionPlace::Refused { number, place } => put_refusal(out, number, place),
+        SectionPlace::Is { first, size } => {
             let end = first + size;
             put_section(out, &file[first..end], first)
         }

@@ -22,7 +22,7 @@ use Rattle.resource.specs.declared.Record.{Record}
 use Rattle.resource.proofs.Whole.{blocks-end}
 use Rattle.resource.proofs.Tiled.{tiled}
 use Rattle.resource_read.specs.Table.{entryRow, tabled, noRecord, recordIn, nameOf, payloadOf, indexOf, foundIn}
-use Rattle.resource_read.specs.Parts.{rest, entriesOf, Sound}
+use Rattle.resource_read.specs.scaffold.Parts.{rest, entriesOf, Sound}
 
 -- ---- what the verdict tells of the reading
 

@@ -19,7 +19,7 @@ use Rattle.resource.proofs.Lies.{block-lies}
 use Rattle.resource.proofs.Whole.{block-moves, blocks-stop, blocks-no, blocks-ok}
 use Rattle.resource_judge.proofs.Judging.{map-ok, map-refuse}
 use Rattle.resource_read.specs.Table.{entryRow, noRecord, indexOf}
-use Rattle.resource_read.specs.Parts.{rest, entriesOf, Sound, Small}
+use Rattle.resource_read.specs.scaffold.Parts.{rest, entriesOf, Sound, Small}
 
 module _ (s : List ℕ) (at : ℕ) (fit : Sound s at) where
   -- at the end nothing is left

@@ -8,22 +8,22 @@ use Rattle.algebra.specs.Numbers.{num}
 use Rattle.algebra.specs.Reader.{Res, ok, refuse, field, judged, mapRes, orZero}
 use Rattle.algebra.proofs.Laws.{num-1, field-in}
 use Rattle.algebra.proofs.Inverse.{clash, ok-value, then-inv, field-inv, judged-inv}
-use Rattle.resource.specs.Reading.{Part, Entry, run, pad, followed, counted, marked, block}
+use Rattle.resource.specs.Reading.{Part, Entry, blockPart, pad, paddedPart, sizedPart, isSignature, block}
 use Rattle.resource.specs.Rows.{recordOf}
 use Rattle.resource.specs.Tiling.{even}
 use Rattle.resource.specs.declared.Record.{Record}
 use Rattle.resource.proofs.Lies.{run-lies, counted-lies, block-lies}
 use Rattle.resource.proofs.Whole.{block-moves, blocks-no}
-use Rattle.resource_read.specs.Parts.{Sound, behind}
+use Rattle.resource_read.specs.scaffold.Parts.{Sound, behind}
 
 module _ (s : List ℕ) where
   -- a length is the number of the bytes behind it
-  counted-length : (w k at : ℕ) {p : Part} {q : ℕ} → counted w k s at ≡ ok p q → length (p .bytes) ≡ num w s at
-  unfolding followed
+  counted-length : (w k at : ℕ) {p : Part} {q : ℕ} → sizedPart w k s at ≡ ok p q → length (p .bytes) ≡ num w s at
+  unfolding paddedPart
   counted-length w k at e =
       let a = then-inv (field w s at) _ e in
       let i = field-inv w s at (a .2) in
-      let b = then-inv (run (a .0) s (a .1)) _ (a .3) in
+      let b = then-inv (blockPart (a .0) s (a .1)) _ (a .3) in
       let j = run-lies s (a .0) (a .1) (b .2) in
       let c = then-inv (pad (k + a .0) s (b .1)) _ (b .3) in
       sym (ap (λ (x : Part). length (x .bytes)) (ok-value (c .3))) ∙ j .1 ∙ sym (i .1)
@@ -37,12 +37,12 @@ module _ (s : List ℕ) where
   block-numbers : (at : ℕ) {e : Entry} {q : ℕ} → block s at ≡ ok e q → Numbers at e
   unfolding block
   block-numbers at {e} {q} h =
-      let a = then-inv (judged 4 marked s at) _ h in
-      let i = judged-inv 4 s at marked (a .2) in
+      let a = then-inv (judged 4 isSignature s at) _ h in
+      let i = judged-inv 4 s at isSignature (a .2) in
       let b = then-inv (field 2 s (a .1)) _ (a .3) in
       let j = field-inv 2 s (a .1) (b .2) in
-      let c = then-inv (counted 1 1 s (b .1)) _ (b .3) in
-      let d = then-inv (counted 4 0 s (c .1)) _ (c .3) in
+      let c = then-inv (sizedPart 1 1 s (b .1)) _ (b .3) in
+      let d = then-inv (sizedPart 4 0 s (c .1)) _ (c .3) in
       let v = ok-value (d .3) in
       let n = counted-length 1 1 (b .1) (c .2) in
       let m = counted-length 4 0 (c .1) (d .2) in
@@ -52,7 +52,7 @@ module _ (s : List ℕ) where
         size = sym (ap (λ (x : Entry). length (x .payload .bytes)) v) ∙ m ∙ ap (num 4 s) (name-end (b .1) (c .1) six (c .2) (ap (λ (x : Entry). x .name) v));
       }
     where
-      name-end : (p q : ℕ) {nm : Part} → p ≡ at + 6 → counted 1 1 s p ≡ ok nm q → nm ≡ e .name → q ≡ at + 6 + even (1 + length (e .name .bytes))
+      name-end : (p q : ℕ) {nm : Part} → p ≡ at + 6 → sizedPart 1 1 s p ≡ ok nm q → nm ≡ e .name → q ≡ at + 6 + even (1 + length (e .name .bytes))
       name-end p q z c is =
           let l = counted-lies s 1 1 p c in
           let n = ap (λ (x : Part). length (x .bytes)) is in

@@ -2,12 +2,12 @@
 use Prim.Native.Nat.{ℕ}
 use Rattle.algebra.specs.Table.{Verdict, accepted, refused}
 use Rattle.resource.specs.declared.Record.{Record}
-use Rattle.resource_read.specs.declared.Shown.{Shown}
-use Rattle.resource_read.specs.declared.Shown.the-variants as vs
+use Rattle.resource_read.specs.declared.RecordAnswer.{RecordAnswer}
+use Rattle.resource_read.specs.declared.RecordAnswer.the-variants as vs
 use Rattle.resource_read.specs.declared.Index.{Index}
 use Rattle.resource_read.specs.declared.Index.the-variants as vi
 
-abbrev pub toldShown : Shown → Verdict Record
+abbrev pub toldShown : RecordAnswer → Verdict Record
 toldShown (vs.Is r) = accepted r
 toldShown (vs.Refused x p) = refused x p 0 0
 

@@ -1,3 +1,3 @@
 pub mod Table
 pub mod Answer
-pub mod Parts
+pub mod scaffold

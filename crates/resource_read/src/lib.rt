@@ -12,13 +12,13 @@ ghost use Rattle.resource.specs.Rows.{recordOf, width, row};
 ghost use Rattle.resource_judge.specs.Answer.{told};
 ghost use Rattle.resource_read.specs.Table.{entryRow, tabled, noRecord, recordIn, nameOf, payloadOf, indexOf, foundIn};
 ghost use Rattle.resource_read.specs.Answer.{toldShown, toldIndex};
-ghost use Rattle.resource_read.specs.Parts.{rest, Sound, Small, behind};
+ghost use Rattle.resource_read.specs.scaffold.Parts.{rest, Sound, Small, behind};
 use resource::Record;
 use resource::WIDTH;
 use resource_judge::Answer;
 
 // A record, or a refusal.
-pub enum Shown {
+pub enum RecordAnswer {
     Is(Record),
     Refused { number: u32, place: usize },
 }
@@ -150,19 +150,19 @@ pub fn read(file: &[u8], table: &mut [u32]) -> Answer
 }
 
 // Record i of a section.
-pub fn record_at(file: &[u8], i: usize) -> Shown
+pub fn record_at(file: &[u8], i: usize) -> RecordAnswer
     ensures { λ r. ⌜ toldShown r ≡ recordIn i (resources (now (file .entry))) ⌝ }
 {
     match resource_judge::judge(file) {
-        Answer::Refused { number, place } => Shown::Refused { number, place },
+        Answer::Refused { number, place } => RecordAnswer::Refused { number, place },
         Answer::Accepted { blocks } => {
             if blocks <= i {
-                return Shown::Refused {
+                return RecordAnswer::Refused {
                     number: 12,
                     place: 0,
                 };
             }
-            Shown::Is(nth(file, i))
+            RecordAnswer::Is(nth(file, i))
         }
     }
 }
@@ -172,12 +172,12 @@ pub fn name_at(file: &[u8], i: usize) -> &[u8]
     ensures { λ r. ⌜ now r ≡ nameOf (now (file .entry)) (recordIn i (resources (now (file .entry)))) ⌝ }
 {
     match record_at(file, i) {
-        Shown::Is(given) => {
+        RecordAnswer::Is(given) => {
             let from = given.name;
             let end = from + given.letters;
             &file[from..end]
         }
-        Shown::Refused {
+        RecordAnswer::Refused {
             number: _,
             place: _,
         } => &file[..0],
@@ -189,12 +189,12 @@ pub fn data_at(file: &[u8], i: usize) -> &[u8]
     ensures { λ r. ⌜ now r ≡ payloadOf (now (file .entry)) (recordIn i (resources (now (file .entry)))) ⌝ }
 {
     match record_at(file, i) {
-        Shown::Is(given) => {
+        RecordAnswer::Is(given) => {
             let from = given.payload;
             let end = from + given.size;
             &file[from..end]
         }
-        Shown::Refused {
+        RecordAnswer::Refused {
             number: _,
             place: _,
         } => &file[..0],

@@ -6,6 +6,7 @@ use lib.Dec.{leb}
 use lib.ListN.{length, take}
 use lib.Seq.{drop-at}
 use native.Mathlib.Omega.{arith}
+use Rattle.algebra.specs.Chars.{chars}
 use Rattle.algebra.specs.Numbers.{joined, counted, be, At, Bytes, All}
 use Rattle.algebra.specs.Reader.{ok, atEnd, until, limit}
 use Rattle.algebra.specs.Store.{part}
@@ -23,7 +24,7 @@ use Rattle.resource.proofs.Laws.{countedBytes, length-counted, block-parts, blo
 use Rattle.resource.proofs.Lies.{block-lies}
 use Rattle.resource.proofs.Whole.{same, block-moves}
 use Rattle.resource_read.specs.Table.{entryRow}
-use Rattle.resource_records.specs.Writing.{given, blockIn, sizes}
+use Rattle.resource_write_judge.specs.Writing.{given, blockIn, sizes}
 use Rattle.resource_roundtrip.specs.Tie.{tabled, Fitting}
 
 -- ---- the table gives the records back
@@ -53,8 +54,8 @@ block-read s bytes at le {e} {q} h =
     let ds : List ℕ = e .payload .bytes in
     let x : List ℕ = countedBytes 1 1 us in
     let y : List ℕ = countedBytes 4 0 ds in
-    let all : At s at (be 4 0x3842_494D ++ (be 2 (e .id) ++ (x ++ y))) = subst (λ (b : List ℕ). At s at b) (block-parts (blockOf e)) (w .1) in
-    let a4 = at-after s at (be 4 0x3842_494D) (be 2 (e .id) ++ (x ++ y)) (at + 4) (ap (λ (k : ℕ). at + k) (length-be 4 0x3842_494D)) all in
+    let all : At s at (be 4 (chars "8BIM") ++ (be 2 (e .id) ++ (x ++ y))) = subst (λ (b : List ℕ). At s at b) (block-parts (blockOf e)) (w .1) in
+    let a4 = at-after s at (be 4 (chars "8BIM")) (be 2 (e .id) ++ (x ++ y)) (at + 4) (ap (λ (k : ℕ). at + k) (length-be 4 (chars "8BIM"))) all in
     let six : at + 4 + length (be 2 (e .id)) ≡ at + 6 = omega (arith, length-be 2 (e .id)) in
     let a6 = at-after s (at + 4) (be 2 (e .id)) (x ++ y) (at + 6) six a4 in
     let un = part-there s (at + 6) 1 1 us (e .name .first) (l .0 .name ∙ omega arith) (at-left s (at + 6) x y a6) in

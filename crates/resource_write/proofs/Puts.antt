@@ -10,6 +10,7 @@ use borrow.Author.Tests.{leb-true}
 use native.Mathlib.Omega.{arith}
 use native.Mathlib.Nat.{zero-add}
 use native.Mathlib.Decide.{ℕ-discrete}
+use Rattle.algebra.specs.Chars.{chars}
 use Rattle.algebra.specs.Numbers.{be, nums, joined}
 use Rattle.algebra.specs.Reader.{ok, refuse, pick, body, numberOf, limit}
 use Rattle.algebra.specs.Store.{stored, part}
@@ -23,9 +24,10 @@ use borrow.Author.Tests.{ltb-true}
 use Rattle.resource.specs.Grammar.{blockBytes, sectionBytes}
 use Rattle.resource.specs.declared.Record.{Record}
 use Rattle.resource.proofs.Laws.{countedBytes, block-parts, length-block}
-use Rattle.resource_records.specs.Writing.{givens, blockIn, sizeIn, sizes, partFault, recordFault}
-use Rattle.resource_records.specs.Parts.{RecordFits, RecordsFit}
-use Rattle.resource_records.proofs.Judging.{recordAt}
+use Rattle.resource_write_judge.specs.Writing.{blockIn, sizeIn, sizes, partFault, recordFault}
+use Rattle.resource_write_judge.specs.scaffold.Writing.{givens}
+use Rattle.resource_write_judge.specs.scaffold.Parts.{RecordFits, RecordsFit}
+use Rattle.resource_write_judge.proofs.Judging.{recordAt}
 
 -- ---- a part of the lent bytes
 
@@ -67,12 +69,12 @@ module _ (out run : List ℕ) (at k : ℕ) (room : at + (length run + (k + lengt
 
 -- ---- a block
 
-pub head-put : (out o₁ o₂ : List ℕ) (at id n : ℕ) → at + 7 ≤ length out → n < 256 → o₁ ≡ stored out at (be 4 0x3842_494D) → o₂ ≡ stored o₁ (at + 4) (be 2 id)
-    → set o₂ (at + 6) n ≡ sets out at (be 4 0x3842_494D ++ (be 2 id ++ be 1 n))
+pub head-put : (out o₁ o₂ : List ℕ) (at id n : ℕ) → at + 7 ≤ length out → n < 256 → o₁ ≡ stored out at (be 4 (chars "8BIM")) → o₂ ≡ stored o₁ (at + 4) (be 2 id)
+    → set o₂ (at + 6) n ≡ sets out at (be 4 (chars "8BIM") ++ (be 2 id ++ be 1 n))
 head-put out o₁ o₂ at id n h few e₁ e₂ =
-    let l₁ = length-kept o₁ out at (be 4 0x3842_494D) e₁ in
+    let l₁ = length-kept o₁ out at (be 4 (chars "8BIM")) e₁ in
     let six : at + 4 + 2 ≡ at + 6 = omega arith in
-    sym (peel-be 4 0x3842_494D out o₁ (be 2 id ++ be 1 n) at (at + 4) refl (omega arith) e₁ ∙ peel-be 2 id o₁ o₂ (be 1 n) (at + 4) (at + 6) six (omega arith) e₂ ∙ ap (λ (l : List ℕ). sets o₂ (at + 6) l) (be-1 n few))
+    sym (peel-be 4 (chars "8BIM") out o₁ (be 2 id ++ be 1 n) at (at + 4) refl (omega arith) e₁ ∙ peel-be 2 id o₁ o₂ (be 1 n) (at + 4) (at + 6) six (omega arith) e₂ ∙ ap (λ (l : List ℕ). sets o₂ (at + 6) l) (be-1 n few))
 
 module _ (text : List ℕ) (r : Record) (sound : recordFault text r ≡ 0) where
   record Sound : Type 0 where
@@ -128,26 +130,26 @@ module _ (text : List ℕ) (r : Record) (sound : recordFault text r ≡ 0) where
     payload-fits at p room h e = omega (arith, block-ends at p (p + 4 + (length ds + (0 + length ds) % 2)) e refl)
 
     pub block-put : (out o₁ o₂ o₃ o₄ : List ℕ) (at p : ℕ) → at + sizeIn r ≤ length out → p ≡ at + 7 + (length us + (1 + length us) % 2) → length o₂ ≡ length out
-        → o₁ ≡ sets out at (be 4 0x3842_494D ++ (be 2 (r .id) ++ be 1 (r .letters)))
+        → o₁ ≡ sets out at (be 4 (chars "8BIM") ++ (be 2 (r .id) ++ be 1 (r .letters)))
         → o₂ ≡ sets o₁ (at + 7) (us ++ be ((1 + length us) % 2) 0)
         → o₃ ≡ stored o₂ p (be 4 (r .size))
         → o₄ ≡ sets o₃ (p + 4) (ds ++ be ((0 + length ds) % 2) 0)
         → o₄ ≡ sets out at (blockBytes (blockIn text r))
     block-put out o₁ o₂ o₃ o₄ at p h e kept e₁ e₂ e₃ e₄ =
-        let nm : List ℕ = be 4 0x3842_494D ++ (be 2 (r .id) ++ be 1 (r .letters)) in
+        let nm : List ℕ = be 4 (chars "8BIM") ++ (be 2 (r .id) ++ be 1 (r .letters)) in
         let x : List ℕ = us ++ be ((1 + length us) % 2) 0 in
         let y : List ℕ = ds ++ be ((0 + length ds) % 2) 0 in
-        let ln : length nm ≡ 7 = omega (arith, length-append (be 4 0x3842_494D) (be 2 (r .id) ++ be 1 (r .letters)), length-append (be 2 (r .id)) (be 1 (r .letters)), length-be 4 0x3842_494D, length-be 2 (r .id), length-be 1 (r .letters)) in
+        let ln : length nm ≡ 7 = omega (arith, length-append (be 4 (chars "8BIM")) (be 2 (r .id) ++ be 1 (r .letters)), length-append (be 2 (r .id)) (be 1 (r .letters)), length-be 4 (chars "8BIM"), length-be 2 (r .id), length-be 1 (r .letters)) in
         let lx : length x ≡ length us + (1 + length us) % 2 = length-append us (be ((1 + length us) % 2) 0) ∙ ap (λ (k : ℕ). length us + k) (length-be ((1 + length us) % 2) 0) in
         let fits = payload-fits at p (length out) h e in
         let pl : at + 7 + (length us + (1 + length us) % 2) ≡ p = sym e in
         let parts : blockBytes (blockIn text r) ≡ nm ++ (x ++ (be 4 (r .size) ++ y)) = block-parts (blockIn text r) ∙ shape in
         e₄ ∙ sym (ap (λ (l : List ℕ). sets out at l) parts ∙ peel out o₁ nm (x ++ (be 4 (r .size) ++ y)) at 7 (at + 7) ln refl e₁ ∙ peel o₁ o₂ x (be 4 (r .size) ++ y) (at + 7) (length us + (1 + length us) % 2) p lx pl e₂ ∙ peel-be 4 (r .size) o₂ o₃ y p (p + 4) refl (omega (arith, fits, kept)) e₃)
       where
-        shape : be 4 0x3842_494D ++ (be 2 (r .id) ++ (countedBytes 1 1 (part text (r .name) (r .letters)) ++ countedBytes 4 0 (part text (r .payload) (r .size))))
-            ≡ (be 4 0x3842_494D ++ (be 2 (r .id) ++ be 1 (r .letters))) ++ ((us ++ be ((1 + length us) % 2) 0) ++ (be 4 (r .size) ++ (ds ++ be ((0 + length ds) % 2) 0)))
+        shape : be 4 (chars "8BIM") ++ (be 2 (r .id) ++ (countedBytes 1 1 (part text (r .name) (r .letters)) ++ countedBytes 4 0 (part text (r .payload) (r .size))))
+            ≡ (be 4 (chars "8BIM") ++ (be 2 (r .id) ++ be 1 (r .letters))) ++ ((us ++ be ((1 + length us) % 2) 0) ++ (be 4 (r .size) ++ (ds ++ be ((0 + length ds) % 2) 0)))
         shape =
-            ap₂ (λ (a b : List ℕ). be 4 0x3842_494D ++ (be 2 (r .id) ++ (a ++ b))) (ap (countedBytes 1 1) (sym eu) ∙ ap (λ (k : ℕ). be 1 k ++ (us ++ be ((1 + length us) % 2) 0)) (lent-lengths .0)) (ap (countedBytes 4 0) (sym ed) ∙ ap (λ (k : ℕ). be 4 k ++ (ds ++ be ((0 + length ds) % 2) 0)) (lent-lengths .1))
+            ap₂ (λ (a b : List ℕ). be 4 (chars "8BIM") ++ (be 2 (r .id) ++ (a ++ b))) (ap (countedBytes 1 1) (sym eu) ∙ ap (λ (k : ℕ). be 1 k ++ (us ++ be ((1 + length us) % 2) 0)) (lent-lengths .0)) (ap (countedBytes 4 0) (sym ed) ∙ ap (λ (k : ℕ). be 4 k ++ (ds ++ be ((0 + length ds) % 2) 0)) (lent-lengths .1))
             ∙ simp append-assoc
 
 -- ---- a loop over the records

@@ -10,8 +10,9 @@ ghost use Rattle.algebra.specs.Store.{part};
 ghost use Rattle.fields.specs.Answer.{toldWritten};
 ghost use Rattle.resource.specs.Grammar.{blockBytes, sectionBytes};
 ghost use Rattle.resource.specs.Rows.{width};
-ghost use Rattle.resource_records.specs.Writing.{givens, given, blockIn, sizeIn, partFault, written};
-ghost use Rattle.resource_records.specs.Parts.{RecordFits, RecordsFit};
+ghost use Rattle.resource_write_judge.specs.Writing.{given, blockIn, sizeIn, partFault, written};
+ghost use Rattle.resource_write_judge.specs.scaffold.Writing.{givens};
+ghost use Rattle.resource_write_judge.specs.scaffold.Parts.{RecordFits, RecordsFit};
 use fields::Written;
 use resource::Record;
 use resource::WIDTH;
@@ -71,7 +72,7 @@ fn put_blocks(out: &mut [u8], run: &[u32], text: &[u8], n: usize)
     let mut p: usize = 0;
     let mut i: usize = 0;
     while i < n {
-        p = put_block(out, p, text, resource_records::record_at(run, i));
+        p = put_block(out, p, text, resource_write_judge::record_at(run, i));
         i += 1;
     }
 }
@@ -80,7 +81,7 @@ fn put_blocks(out: &mut [u8], run: &[u32], text: &[u8], n: usize)
 pub fn write(records: &[u32], text: &[u8], out: &mut [u8]) -> Written
     ensures { λ r. ⌜ (toldWritten r, now (out .exit)) ≡ written (now (text .entry)) (given (now (records .entry))) (now (out .entry)) ⌝ }
 {
-    match resource_records::write_length(records, text) {
+    match resource_write_judge::write_length(records, text) {
         Written::Refused(x) => Written::Refused(x),
         Written::Bytes(size) => {
             if out.len() < size {

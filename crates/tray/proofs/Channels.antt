@@ -10,17 +10,18 @@ use lib.ListN.{length, getD}
 use lib.Dec.{eqb}
 use lib.Ieee.{binary32, ofBits}
 use lib.Ieee.Scale.{finite}
+use Rattle.algebra.specs.Chars.{chars}
 use Rattle.algebra.specs.Reader.{pick}
 use Rattle.colour.specs.Models.{modelOf}
 use Rattle.colour.specs.Channels.{inUnit}
 use Rattle.colour.specs.declared.model.Model.the-variants as model
-use Rattle.colour.specs.declared.model.Known.the-variants.{Is, Unknown}
+use Rattle.colour.specs.declared.model.KnownModel.the-variants.{Is, Unknown}
 use Rattle.convert.specs.Scale.{sampleOf, sampleOfBits}
 use Rattle.convert.specs.Convert.{Converted, gives, refused, andThen, sampleBy, sampleFound, toSample}
 use Rattle.convert.specs.Refusals.{Tagged, rgb, cmyk, gray}
 use Rattle.convert.proofs.Converting.{unit-sample}
 use Rattle.tray.specs.Tray.{inOrder}
-use Rattle.tray.specs.Parts.{First, unit, inked, converted, results, judged}
+use Rattle.tray.specs.scaffold.Parts.{First, unit, inked, converted, results, judged}
 use Rattle.tray.proofs.Laws.{all-given, one-refused, results-are, none-given, first-refused}
 
 -- ---- one channel
@@ -29,17 +30,17 @@ by-test : (b : Bool) (s y : ℕ) → pick b (gives s) (refused 5 0) ≡ gives y 
 by-test true s y e = (refl, cc)
 by-test false s y e = let z : _≡_ {A = ℕ} 0 1 = cc in absurd (omega arith)
 
-rgb-each : (b y : ℕ) → b < 2 ^ 32 → toSample 0x5247_4220 b ≡ gives y → y ≡ sampleOfBits 65535 b
+rgb-each : (b y : ℕ) → b < 2 ^ 32 → toSample (chars "RGB ") b ≡ gives y → y ≡ sampleOfBits 65535 b
 unfolding modelOf
 rgb-each b y small e = let t = by-test (inUnit (ofBits binary32 b)) (sampleOf 65535 (ofBits binary32 b)) y e in t .1 ∙ sym (unit-sample 65535 b small (t .0))
 
-cmyk-each : (b y : ℕ) → b < 2 ^ 32 → toSample 0x434d_594b b ≡ gives y → y ≡ inked b
+cmyk-each : (b y : ℕ) → b < 2 ^ 32 → toSample (chars "CMYK") b ≡ gives y → y ≡ inked b
 unfolding modelOf
 cmyk-each b y small e =
     let t = by-test (inUnit (ofBits binary32 b)) (65535 - sampleOf 65535 (ofBits binary32 b)) y e in
     t .1 ∙ ap (λ (s : ℕ). 65535 - s) (sym (unit-sample 65535 b small (t .0)))
 
-gray-each : (b y : ℕ) → b < 2 ^ 32 → toSample 0x4772_6179 b ≡ gives y → y ≡ sampleOfBits 10000 b
+gray-each : (b y : ℕ) → b < 2 ^ 32 → toSample (chars "Gray") b ≡ gives y → y ≡ sampleOfBits 10000 b
 unfolding modelOf
 gray-each b y small e = let t = by-test (inUnit (ofBits binary32 b)) (sampleOf 10000 (ofBits binary32 b)) y e in t .1 ∙ sym (unit-sample 10000 b small (t .0))
 
@@ -62,18 +63,18 @@ unit-no cmyk b e = ap (λ (z : Bool). sampleBy z model.Cmyk (ofBits binary32 b))
 unit-no gray b e = ap (λ (z : Bool). sampleBy z model.Gray (ofBits binary32 b)) e
 
 tagged : (t : ℕ) → converted t ≡ true → Tagged t
-tagged t h = go (eqb t 0x5247_4220) refl (eqb t 0x434d_594b) refl (eqb t 0x4772_6179) refl h
+tagged t h = go (eqb t (chars "RGB ")) refl (eqb t (chars "CMYK")) refl (eqb t (chars "Gray")) refl h
   where
-    go : (p : Bool) → eqb t 0x5247_4220 ≡ p → (q : Bool) → eqb t 0x434d_594b ≡ q → (r : Bool) → eqb t 0x4772_6179 ≡ r → ((p || q) || r) ≡ true → Tagged t
-    go true e q f r g h = subst Tagged (sym (eqb-true t 0x5247_4220 e)) rgb
-    go false e true f r g h = subst Tagged (sym (eqb-true t 0x434d_594b f)) cmyk
-    go false e false f true g h = subst Tagged (sym (eqb-true t 0x4772_6179 g)) gray
+    go : (p : Bool) → eqb t (chars "RGB ") ≡ p → (q : Bool) → eqb t (chars "CMYK") ≡ q → (r : Bool) → eqb t (chars "Gray") ≡ r → ((p || q) || r) ≡ true → Tagged t
+    go true e q f r g h = subst Tagged (sym (eqb-true t (chars "RGB ") e)) rgb
+    go false e true f r g h = subst Tagged (sym (eqb-true t (chars "CMYK") f)) cmyk
+    go false e false f true g h = subst Tagged (sym (eqb-true t (chars "Gray") g)) gray
     go false e false f false g h = let z : _≡_ {A = ℕ} 0 1 = cc in absurd (omega arith)
 
 -- a model that has no space refuses every channel
 never : (t b : ℕ) → converted t ≡ false → (n : ℕ) × (toSample t b ≡ refused n 0)
 unfolding modelOf
-never t b h = go (eqb t 0x5247_4220) (eqb t 0x434d_594b) (eqb t 0x4c41_4220) (eqb t 0x4772_6179) h
+never t b h = go (eqb t (chars "RGB ")) (eqb t (chars "CMYK")) (eqb t (chars "LAB ")) (eqb t (chars "Gray")) h
   where
     by-finite : (z : Bool) → (n : ℕ) × (sampleBy z model.Lab (ofBits binary32 b) ≡ refused n 0)
     by-finite true = (14, refl)
@@ -113,17 +114,17 @@ module _ (t : ℕ) (bs : List ℕ) where
     same : (u : ℕ) (P : Converted (List ℕ) → Type 0) → t ≡ u → P (inOrder (toSample u) 0 bs) → P (inOrder (toSample t) 0 bs)
     same u P e p = subst (λ (z : ℕ). P (inOrder (toSample z) 0 bs)) (sym e) p
 
-    pub rgb-results : t ≡ 0x5247_4220 → gives tt ≡ judged (inOrder (toSample t) 0 bs) → results (inOrder (toSample t) 0 bs) ≡ map (sampleOfBits 65535) bs
-    rgb-results k = same 0x5247_4220 (λ m. gives tt ≡ judged m → results m ≡ map (sampleOfBits 65535) bs) k (results-are (toSample 0x5247_4220) (sampleOfBits 65535) (λ b. b < 2 ^ 32) rgb-each 0 bs small)
+    pub rgb-results : t ≡ chars "RGB " → gives tt ≡ judged (inOrder (toSample t) 0 bs) → results (inOrder (toSample t) 0 bs) ≡ map (sampleOfBits 65535) bs
+    rgb-results k = same (chars "RGB ") (λ m. gives tt ≡ judged m → results m ≡ map (sampleOfBits 65535) bs) k (results-are (toSample (chars "RGB ")) (sampleOfBits 65535) (λ b. b < 2 ^ 32) rgb-each 0 bs small)
 
-    pub cmyk-results : t ≡ 0x434d_594b → gives tt ≡ judged (inOrder (toSample t) 0 bs) → results (inOrder (toSample t) 0 bs) ≡ map inked bs
-    cmyk-results k = same 0x434d_594b (λ m. gives tt ≡ judged m → results m ≡ map inked bs) k (results-are (toSample 0x434d_594b) inked (λ b. b < 2 ^ 32) cmyk-each 0 bs small)
+    pub cmyk-results : t ≡ chars "CMYK" → gives tt ≡ judged (inOrder (toSample t) 0 bs) → results (inOrder (toSample t) 0 bs) ≡ map inked bs
+    cmyk-results k = same (chars "CMYK") (λ m. gives tt ≡ judged m → results m ≡ map inked bs) k (results-are (toSample (chars "CMYK")) inked (λ b. b < 2 ^ 32) cmyk-each 0 bs small)
 
-    pub gray-results : t ≡ 0x4772_6179 → gives tt ≡ judged (inOrder (toSample t) 0 bs) → results (inOrder (toSample t) 0 bs) ≡ map (sampleOfBits 10000) bs
-    gray-results k = same 0x4772_6179 (λ m. gives tt ≡ judged m → results m ≡ map (sampleOfBits 10000) bs) k (results-are (toSample 0x4772_6179) (sampleOfBits 10000) (λ b. b < 2 ^ 32) gray-each 0 bs small)
+    pub gray-results : t ≡ chars "Gray" → gives tt ≡ judged (inOrder (toSample t) 0 bs) → results (inOrder (toSample t) 0 bs) ≡ map (sampleOfBits 10000) bs
+    gray-results k = same (chars "Gray") (λ m. gives tt ≡ judged m → results m ≡ map (sampleOfBits 10000) bs) k (results-are (toSample (chars "Gray")) (sampleOfBits 10000) (λ b. b < 2 ^ 32) gray-each 0 bs small)
 
-  pub other-results : (t ≡ 0x5247_4220 → ⊥) → (t ≡ 0x434d_594b → ⊥) → (t ≡ 0x4772_6179 → ⊥) → gives tt ≡ judged (inOrder (toSample t) 0 bs) → results (inOrder (toSample t) 0 bs) ≡ []
+  pub other-results : (t ≡ chars "RGB " → ⊥) → (t ≡ chars "CMYK" → ⊥) → (t ≡ chars "Gray" → ⊥) → gives tt ≡ judged (inOrder (toSample t) 0 bs) → results (inOrder (toSample t) 0 bs) ≡ []
   other-results r c g = none-given (toSample t) (λ b. never t b (unlike r c g)) 0 bs
     where
-      unlike : (t ≡ 0x5247_4220 → ⊥) → (t ≡ 0x434d_594b → ⊥) → (t ≡ 0x4772_6179 → ⊥) → converted t ≡ false
-      unlike r c g = rw (ne-eqb t 0x5247_4220 r, ne-eqb t 0x434d_594b c, ne-eqb t 0x4772_6179 g)
+      unlike : (t ≡ chars "RGB " → ⊥) → (t ≡ chars "CMYK" → ⊥) → (t ≡ chars "Gray" → ⊥) → converted t ≡ false
+      unlike r c g = rw (ne-eqb t (chars "RGB ") r, ne-eqb t (chars "CMYK") c, ne-eqb t (chars "Gray") g)

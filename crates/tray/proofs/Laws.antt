@@ -14,7 +14,7 @@ use lib.Seq.{sets, sets-eq, drop-cons}
 use Rattle.algebra.specs.Reader.{pick}
 use Rattle.convert.specs.Convert.{Converted, gives, refused, andThen}
 use Rattle.tray.specs.Tray.{atPosition, inOrder, lent}
-use Rattle.tray.specs.Parts.{Passed, First, results, judged}
+use Rattle.tray.specs.scaffold.Parts.{Passed, First, results, judged}
 
 -- ---- all pass, or one is the first to fail
 

@@ -15,7 +15,7 @@ use Rattle.convert.specs.Scale.{channelOf}
 use Rattle.convert.specs.Convert.{Converted, gives, refused, andThen, unmatched, toChannel}
 use Rattle.convert.proofs.Converting.{other-channel}
 use Rattle.tray.specs.Tray.{inOrder, toBitsOf}
-use Rattle.tray.specs.Parts.{First, low, plain, turned, results, judged}
+use Rattle.tray.specs.scaffold.Parts.{First, low, plain, turned, results, judged}
 use Rattle.tray.proofs.Laws.{all-given, one-refused, results-are, none-given, first-refused}
 
 -- ---- one sample

@@ -1,3 +1,2 @@
 pub mod Tray
-pub mod Parts
-pub mod Promise
+pub mod scaffold

@@ -9,7 +9,7 @@ ghost use Rattle.algebra.specs.Reader.{pick};
 ghost use Rattle.convert.specs.Convert.{gives, andThen, toSample};
 ghost use Rattle.convert.specs.Scale.{sampleOfBits};
 ghost use Rattle.tray.specs.Tray.{inOrder, samplesOf, told};
-ghost use Rattle.tray.specs.Parts.{Passed, First, unit, inked, converted, results, judged};
+ghost use Rattle.tray.specs.scaffold.Parts.{Passed, First, unit, inked, converted, results, judged};
 use crate::Tray;
 use colour::Model;
 use colour::is_channel;

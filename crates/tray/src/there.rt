@@ -7,7 +7,7 @@ ghost use lib.ListN.{length};
 ghost use lib.Seq.{sets};
 ghost use Rattle.convert.specs.Convert.{gives, andThen, toChannel};
 ghost use Rattle.tray.specs.Tray.{inOrder, toBitsOf, channelsOf, told};
-ghost use Rattle.tray.specs.Parts.{Passed, First, low, plain, turned, results, judged};
+ghost use Rattle.tray.specs.scaffold.Parts.{Passed, First, low, plain, turned, results, judged};
 use crate::Tray;
 use colour::CMYK;
 use colour::GRAY;

@@ -4,7 +4,8 @@ use mathlib.Core.Path.{_≡_, refl, sym, ap, ap₂, _∙_}
 use mathlib.Core.List.{List, [], _∷_}
 use lib.ListN.{length}
 use native.Mathlib.Omega.{arith}
-use Rattle.walk.specs.Walk.{Call, gives, over, refused, Step, placeAfter, call, inTurn, answers, followed, given}
+use Rattle.walk.specs.Walk.{Call, gives, over, refused, Step, placeAfter, call, inTurn}
+use Rattle.walk.specs.scaffold.Walk.{answers, followed, given}
 
 module _ {A : Type 0} (f : Step A) where
   -- a walk whose calls are the items of a list gives that list

@@ -69,19 +69,3 @@ seek wanted f (suc k) at = sought wanted (f at .0) (f at .1) (λ q. seek wanted 
 unfoldable pub only : {A : Type 0} → (A → Bool) → List A → List A
 only wanted [] = []
 only wanted (a ∷ more) = pick (wanted a) (a ∷ only wanted more) (only wanted more)
-
--- ---- what the first calls from a place answer
-
-unfoldable pub answers : {A : Type 0} → Step A → ℕ → ℕ → List (Call A)
-answers f zero at = []
-answers f (suc n) at = f at .0 ∷ answers f n (f at .1)
-
-abbrev pub followed : {A : Type 0} → Call A → ℕ → (ℕ → List A) → List A
-followed (gives a) q next = a ∷ next q
-followed over q next = []
-followed (refused x p) q next = []
-
--- the items that they give, up to a call that gives none
-unfoldable pub given : {A : Type 0} → Step A → ℕ → ℕ → List A
-given f zero at = []
-given f (suc n) at = followed (f at .0) (f at .1) (λ q. given f n q)

@@ -46,9 +46,9 @@ fn pages(root: &Path) -> Vec<String> {
 /// Each form is refused where its name is not there, and taken where it is.
 fn missing_is_seen(tree: &Tree) {
     for (there, line) in [
-        (true, "aco/Reading `twin`, `entry` and `second`"),
+        (true, "aco/Reading `repeatedField`, `entry` and `second`"),
         (false, "aco/Nothing"),
-        (false, "aco/Reading `twin`, `nothing`"),
+        (false, "aco/Reading `repeatedField`, `nothing`"),
         (true, "`aco_judge::judge`"),
         (false, "`aco_judge::nothing`"),
         (false, "`aco_judge::judge`, `nothing`"),
@@ -56,7 +56,7 @@ fn missing_is_seen(tree: &Tree) {
         (false, "`put_row` of `aco_judge`"),
         (false, "`put_row` of `aco_read` and `aco_judge`"),
         (true, "`refused-placed` of aco/Placed and ase/Placed"),
-        (false, "`twin` of aco/Placed"),
+        (false, "`repeatedField` of aco/Placed"),
         (true, "aco/one_colour_more"),
         (false, "aco/one_colour_less"),
         (false, "`no-such-theorem`"),

@@ -81,7 +81,8 @@ impl Tree {
             for path in files_under(&part) {
                 let names: Names = self.add_words(&path).lines().flat_map(defined).collect();
                 found.definitions.extend(names.iter().cloned());
-                if path.parent() == Some(&part) {
+                let folders = [part.clone(), part.join("scaffold")];
+                if folders.iter().any(|folder| path.parent() == Some(folder)) {
                     found.files.entry(stem(&path)).or_default().extend(names);
                 }
             }

@@ -3,7 +3,7 @@ use lib.ListN.{length}
 use Rattle.algebra.specs.Reader.{ok}
 use Rattle.fields.specs.Answer.{told64}
 use Rattle.acb.specs.Grammar.{Tag}
-use Rattle.acb_judge.specs.Answer.{toldKnown}
+use Rattle.acb_judge.specs.scaffold.Answer.{toldKnown}
 use Rattle.acb_judge.proofs.Judging.{known-no, known-is, closing-none, closing-short, closing-bad, closing-left, closing-is}
 use borrow.Author.Needs.{needs}
 use Rattle.acb_judge.proofs.closing_at.Statement.{statement}

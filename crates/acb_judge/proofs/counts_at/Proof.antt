@@ -2,8 +2,8 @@ use mathlib.Core.Path.{sym, ap, _∙_}
 use Rattle.fields.specs.Answer.{told16}
 use Rattle.algebra.proofs.Sequence.{step-no, step-on}
 use Rattle.acb.specs.Reading.{numbers}
-use Rattle.acb_judge.specs.Parts.{offsets}
-use Rattle.acb_judge.specs.Answer.{toldOpening}
+use Rattle.acb_judge.specs.scaffold.Parts.{offsets}
+use Rattle.acb_judge.specs.scaffold.Answer.{toldOpening}
 use borrow.Author.Needs.{needs}
 use Rattle.acb_judge.proofs.counts_at.Statement.{statement}
 use Rattle.acb_judge.proofs.counts_at.Tie as tie

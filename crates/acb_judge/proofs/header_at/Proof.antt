@@ -1,9 +1,9 @@
 use Rattle.acb.specs.Reading.{opening}
-use Rattle.acb_judge.specs.Parts.{headerFrom}
+use Rattle.acb_judge.specs.scaffold.Parts.{headerFrom}
 use mathlib.Core.Path.{sym, ap, _∙_}
 use Rattle.algebra.specs.Reader.{mapRes}
 use Rattle.algebra.proofs.Sequence.{step-no, step-on}
-use Rattle.acb_judge.specs.Answer.{toldOpening, headed}
+use Rattle.acb_judge.specs.scaffold.Answer.{toldOpening, headed}
 use Rattle.acb_judge.proofs.Judging.{map-then, header-from}
 use borrow.Author.Needs.{needs}
 use Rattle.acb_judge.proofs.header_at.Statement.{statement}

@@ -1,5 +1,5 @@
 use mathlib.Core.Path.{sym, ap, _∙_}
-use Rattle.acb_judge.specs.Answer.{toldHead}
+use Rattle.acb_judge.specs.scaffold.Answer.{toldHead}
 use Rattle.acb_judge.proofs.Judging.{too-long, bad-header, good-header}
 use borrow.Author.Needs.{needs}
 use Rattle.acb_judge.proofs.judge.Statement.{statement}

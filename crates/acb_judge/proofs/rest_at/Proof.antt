@@ -2,7 +2,8 @@ use mathlib.Core.Path.{sym, ap, _∙_}
 use native.Mathlib.Omega.{arith}
 use Rattle.algebra.specs.Table.{verdict}
 use Rattle.fields.specs.Answer.{toldStep}
-use Rattle.acb_judge.specs.Answer.{reported, toldClosing}
+use Rattle.acb_judge.specs.Answer.{reported}
+use Rattle.acb_judge.specs.scaffold.Answer.{toldClosing}
 use Rattle.acb_judge.proofs.Judging.{rest-no, rest-on, components-most}
 use borrow.Author.Needs.{needs}
 use Rattle.acb_judge.proofs.rest_at.Statement.{statement}

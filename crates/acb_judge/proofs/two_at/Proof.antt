@@ -1,7 +1,7 @@
 use mathlib.Core.Path.{refl, sym, ap, _∙_}
 use Rattle.names.specs.Answer.{toldName}
 use Rattle.algebra.proofs.Sequence.{step-no, step-on}
-use Rattle.acb_judge.specs.Parts.{two}
+use Rattle.acb_judge.specs.scaffold.Parts.{two}
 use borrow.Author.Needs.{needs}
 use Rattle.acb_judge.proofs.two_at.Statement.{statement}
 use Rattle.acb_judge.proofs.two_at.Tie as tie

@@ -1,7 +1,7 @@
 use borrow.Author.Needs.{needs}
 use mathlib.Core.Path.{sym, ap, _∙_}
-use Rattle.acb_show.specs.Answer.{toldPage}
-use Rattle.acb_show.specs.declared.page.Page.{Page}
+use Rattle.acb_shown_values.specs.Answer.{toldPage}
+use Rattle.acb_shown_values.specs.declared.page.Page.{Page}
 use Rattle.listing.specs.Buffer.{putAll}
 use Rattle.listing.proofs.Putting.{put-both, put-last}
 use Rattle.acb_list.specs.Listing.{page}

@@ -5,9 +5,9 @@ use Prim.Native.Nat.{ℕ, _+_, _-_, _≤_}
 use mathlib.Core.List.{List}
 use lib.ListN.{length}
 use mathlib.Core.Path.{_≡_, refl, sym, ap, _∙_}
-use Rattle.acb_show.specs.Answer.{Told, pageOf}
-use Rattle.acb_show.specs.Pages.{sampleOf}
-use Rattle.acb_view.specs.View.{dummiesIn}
+use Rattle.acb_shown_values.specs.Answer.{Told, pageOf}
+use Rattle.acb_shown_values.specs.Pages.{sampleOf}
+use Rattle.acb_shown_file.specs.View.{dummiesIn}
 use Rattle.listing.specs.Buffer.{putAll}
 use Rattle.acb_list.specs.Listing.{page, pagesFrom}
 use Rattle.acb_list.proofs.Listed.{pages-none, pages-turn}

@@ -9,8 +9,8 @@ use borrow.Author.Needs.{needs}
 use Rattle.acb_list.proofs.put_record.Statement.{statement}
 use Rattle.acb_list.proofs.put_record.Tie as tie
 
-lies-of-requires : tie.Need-lies-of-requires
-lies-of-requires c κs = search needs
+text-place-requires : tie.Need-text-place-requires
+text-place-requires c κs = search needs
 
 put-requires : tie.Need-put-requires
 put-requires c κs = search needs
@@ -50,7 +50,7 @@ returns c =
     let coded = shown .before .before .before .before .before in
     let first = coded .before .before .before .before .before in
     let a = first .before .before .before .before .before .before .before .args in
-    let units = named .before .name-part .ensures ∙ ap (λ (l : ℕ × ℕ). namePart (a .file .now) (l .0) (l .1)) (first .before .before .lies-of .ensures) in
+    let units = named .before .name-part .ensures ∙ ap (λ (l : ℕ × ℕ). namePart (a .file .now) (l .0) (l .1)) (first .before .before .text-place .ensures) in
     let one = put-both _ _ _ (put-one _ _ (first .put .ensures)) (coded .put-name .ensures) in
     let two = put-last _ _ _ (put-both _ _ _ one (shown .put-components .ensures)) (gap .put2 .ensures) in
     put-last _ _ _ (put-both _ _ _ two (named .put-name2 .ensures ∙ ap (λ (x : List ℕ). putAll (gap .put2 .last .0, gap .put2 .result) (name x)) units)) (c .before .before .put3 .ensures)
@@ -59,7 +59,7 @@ pub put-record-spec : {M : Type 1} → statement M
 put-record-spec =
     tie.close
     (tie.spec
-    lies-of-requires
+    text-place-requires
     put-requires
     slice-aggregate-put-name
     put-name-requires

@@ -5,14 +5,14 @@ use mathlib.Core.List.{List, _∷_}
 use mathlib.Core.Path.{_≡_, refl, sym, ap, ap₂, _∙_}
 use lib.ListN.{length}
 use Rattle.acb.specs.Reading.{componentsOf}
-use Rattle.acb.specs.Row.{Given}
-use Rattle.acb_read.specs.Answer.{Shown}
+use Rattle.acb.specs.Row.{RecordRow}
+use Rattle.acb_read.specs.Answer.{RecordPlaces}
 use Rattle.acb_read.specs.Walked.{step, givenIn, walked}
 use Rattle.acb_read.proofs.Walking.{walked-start, walked-turn, walked-end}
 use Rattle.listing.specs.Buffer.{putAll}
 use Rattle.listing.specs.Text.{lines}
 use Rattle.listing.proofs.Putting.{put-both}
-use Rattle.acb_list.specs.Parts.{record-text, given-line}
+use Rattle.acb_list.specs.scaffold.Parts.{record-text, given-line}
 use Rattle.acb_list.proofs.Listed.{line-put, lines-put}
 use Rattle.acb_list.proofs.put_records.Statement.{statement}
 use Rattle.acb_list.proofs.put_records.Tie as tie
@@ -29,7 +29,7 @@ components-of-requires c κs = search needs
 loop-holds : tie.Need-loop-holds Inv-loop μ-loop
 loop-holds c =
     let a = c .before .before .before .args in
-    (omega arith, refl, ap (λ (gs : List Given). putAll (a .out .now, a .n) (lines (given-line (a .file .now) (componentsOf (a .space))) 0 gs)) (walked-start (a .space) (a .file .now) (a .first) (a .count)))
+    (omega arith, refl, ap (λ (gs : List RecordRow). putAll (a .out .now, a .n) (lines (given-line (a .file .now) (componentsOf (a .space))) 0 gs)) (walked-start (a .space) (a .file .now) (a .first) (a .count)))
 
 step-at-requires : tie.Need-step-at-requires Inv-loop μ-loop
 step-at-requires c κs = search needs
@@ -55,9 +55,9 @@ loop-again c =
     let l = c .before .before .before .before .before .before .before .before .before .before .loop in
     let a = c .before .before .before .before .before .before .before .before .before .before .before .before .before .before .args in
     let s = a .file .now in
-    let n = ap (λ (w : Shown × ℕ). w .1) (st .ensures) in
+    let n = ap (λ (w : RecordPlaces × ℕ). w .1) (st .ensures) in
     let e = walked-turn (a .space) s (l .p) (a .count) (l .i) h ∙ ap (λ (q : ℕ). givenIn (step (a .space) s (l .p) .0) ∷ walked (a .space) s q (a .count - (l .i + 1))) (sym n) in
-    let x = put-both _ _ _ (num .ensures) (put .ensures ∙ ap₂ (λ (k : ℕ) (w : Shown × ℕ). putAll (num .last .0, num .result) (record-text s k (givenIn (w .0)))) (c .before .before .before .before .before .before .before .before .before .before .before .components-of .ensures) (st .ensures)) in
+    let x = put-both _ _ _ (num .ensures) (put .ensures ∙ ap₂ (λ (k : ℕ) (w : RecordPlaces × ℕ). putAll (num .last .0, num .result) (record-text s k (givenIn (w .0)))) (c .before .before .before .before .before .before .before .before .before .before .before .components-of .ensures) (st .ensures)) in
     (omega arith, search needs, line-put (given-line s (componentsOf (a .space))) _ (l .out, l .at) (l .i) (l .inv .2) e x)
 
 same-length : tie.Need-same-length Inv-loop μ-loop

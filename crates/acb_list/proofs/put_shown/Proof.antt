@@ -2,7 +2,7 @@ use borrow.Author.Needs.{needs}
 use Prim.Native.Nat.{ℕ}
 use mathlib.Core.List.{List}
 use mathlib.Core.Path.{ap, _∙_}
-use Rattle.acb_show.specs.Texts.{shownText}
+use Rattle.acb_shown_values.specs.Texts.{shownText}
 use Rattle.listing.specs.Buffer.{putAll}
 use Rattle.listing.specs.Text.{name}
 use Rattle.listing.proofs.Putting.{put-both, put-last}

@@ -6,8 +6,8 @@ use lib.Seq.{sets}
 use native.Mathlib.Omega.{arith}
 use borrow.Author.Needs.{needs}
 use Rattle.algebra.specs.Numbers.{joined}
-use Rattle.acb.specs.Row.{Given, width, numbers}
-use Rattle.acb_read.specs.Answer.{Shown}
+use Rattle.acb.specs.Row.{RecordRow, width, numbers}
+use Rattle.acb_read.specs.Answer.{RecordPlaces}
 use Rattle.acb_read.specs.Walked.{givenIn, walked}
 use Rattle.acb_read.proofs.Walking.{walked-start, walked-turn, walked-end, name-small, row-stored, rows-stored}
 use Rattle.acb_read.proofs.fill.Statement.{statement}
@@ -22,7 +22,7 @@ abbrev μ-loop : tie.MeasureT-loop
 loop-holds : tie.Need-loop-holds Inv-loop μ-loop
 loop-holds c =
     let a = c .before .before .args in
-    (omega arith, ap (λ (gs : List Given). sets (a .table .now) 0 (joined numbers gs)) (walked-start (a .space) (a .file .now) (a .first) (a .count)), refl)
+    (omega arith, ap (λ (gs : List RecordRow). sets (a .table .now) 0 (joined numbers gs)) (walked-start (a .space) (a .file .now) (a .first) (a .count)), refl)
 
 step-at-requires : tie.Need-step-at-requires Inv-loop μ-loop
 step-at-requires c κs = search needs
@@ -36,7 +36,7 @@ put-row-requires : tie.Need-put-row-requires Inv-loop μ-loop
 put-row-requires c κs =
     let st = c .before .before .before .before .before .before in
     let l = c .before .before .before .loop in
-    let e = ap (λ (w : Shown × ℕ). givenIn (w .0) .name .0) (c .before .step-at .ensures) in
+    let e = ap (λ (w : RecordPlaces × ℕ). givenIn (w .0) .name .0) (c .before .step-at .ensures) in
     (omega (arith, c .before .before .loop-test .taken, st .pre .1, l .inv .2), omega (arith, e, name-small (st .args .space) (st .args .file .now) (l .at) (st .pre .0)))
 
 add-i : tie.Need-add-i Inv-loop μ-loop
@@ -53,12 +53,12 @@ loop-again c =
     let l = c .before .before .before .before .before .before .loop in
     let a = c .before .before .before .before .before .before .before .before .before .args in
     let s = a .file .now in
-    let n = ap (λ (w : Shown × ℕ). w .1) (step .ensures) in
+    let n = ap (λ (w : RecordPlaces × ℕ). w .1) (step .ensures) in
     let z : width * (l .i + 1) ≡ width * l .i + width = omega arith in (
       omega arith,
       row-stored _ (l .table) _ (width * l .i) (width * (l .i + 1)) _ _
-          (l .inv .1 ∙ ap (λ (gs : List Given). sets (l .table) (width * l .i) (joined numbers gs)) (walked-turn (a .space) s (l .at) (a .count) (l .i) t))
-          (put .ensures ∙ ap (λ (w : Shown × ℕ). sets (l .table) (width * l .i) (numbers (givenIn (w .0)))) (step .ensures)) z
+          (l .inv .1 ∙ ap (λ (gs : List RecordRow). sets (l .table) (width * l .i) (joined numbers gs)) (walked-turn (a .space) s (l .at) (a .count) (l .i) t))
+          (put .ensures ∙ ap (λ (w : RecordPlaces × ℕ). sets (l .table) (width * l .i) (numbers (givenIn (w .0)))) (step .ensures)) z
           ∙ ap (λ (q : ℕ). sets (put .last .0) (width * (l .i + 1)) (joined numbers (walked (a .space) s q (a .count - (l .i + 1))))) (sym n),
       put .kept .0 ∙ l .inv .2,
     )

@@ -3,7 +3,7 @@ use mathlib.Core.Path.{_≡_, sym, ap, _∙_}
 use native.Mathlib.Omega.{arith}
 use borrow.Author.Needs.{needs}
 use Prim.Native.Nat.{ℕ}
-use Rattle.acb_read.specs.Answer.{Shown}
+use Rattle.acb_read.specs.Answer.{RecordPlaces}
 use Rattle.acb_read.specs.Walked.{passed}
 use Rattle.acb_read.proofs.Walking.{passed-start, passed-turn, passed-end}
 use Rattle.acb_read.proofs.place_at.Statement.{statement}
@@ -32,7 +32,7 @@ loop-again c =
     let l = c .before .before .loop in
     let a = c .before .before .before .before .args in
     let t = c .before .loop-test .taken in
-    let n = ap (λ (w : Shown × ℕ). w .1) (c .step-at .ensures) in
+    let n = ap (λ (w : RecordPlaces × ℕ). w .1) (c .step-at .ensures) in
     (omega arith, l .inv .1 ∙ passed-turn (a .space) (a .file .now) (l .p) (a .i) (l .k) t ∙ ap (λ (q : ℕ). passed (a .space) (a .file .now) q (a .i - (l .k + 1))) (sym n))
 
 returns : tie.Need-returns Inv-loop μ-loop

@@ -1,161 +1,79 @@
-use lib.ListN.{length-set}
-use native.Mathlib.Omega.{arith}
-use Rattle.acb_read.proofs.Records.{twelve-sets}
 use borrow.Author.Needs.{needs}
+use Prim.Native.Nat.{_+_, _-_, _≤_}
+use mathlib.Core.Path.{_≡_, refl, sym, _∙_}
+use native.Mathlib.Omega.{arith}
+use lib.ListN.{length, length-set, drop}
+use lib.Seq.{sets}
+use Rattle.algebra.proofs.Stores.{copy-start, copy-turn, copy-end}
 use Rattle.acb_read.proofs.put_numbers.Statement.{statement}
 use Rattle.acb_read.proofs.put_numbers.Tie as tie
 
-mul-table : tie.Need-mul-table
+abbrev Inv-loop : tie.InvT-loop
+Inv-loop table₀ to row i₀ table i = (i ≤ 12) × (sets table₀ to row ≡ sets table (to + i) (drop i row)) × (length table ≡ length table₀)
+
+abbrev μ-loop : tie.MeasureT-loop
+μ-loop table₀ to row i₀ table i = 12 - i
+
+loop-holds : tie.Need-loop-holds Inv-loop μ-loop
+loop-holds c = (omega arith, copy-start _ (c .args .t3) (c .args .table .now) (c .args .to) 0 refl, refl)
+
+mul-table : tie.Need-mul-table Inv-loop μ-loop
 mul-table c = search needs
 
-slice-write-table : tie.Need-slice-write-table
-slice-write-table c = search needs
+array-read-table : tie.Need-array-read-table Inv-loop μ-loop
+array-read-table c = search needs
 
-add-table : tie.Need-add-table
+add-table : tie.Need-add-table Inv-loop μ-loop
 add-table c = search needs
 
-mul-table-2 : tie.Need-mul-table-2
+mul-table-2 : tie.Need-mul-table-2 Inv-loop μ-loop
 mul-table-2 c = search needs
 
-slice-write-table-2 : tie.Need-slice-write-table-2
-slice-write-table-2 c = simp length-set (omega arith)
+slice-write-table : tie.Need-slice-write-table Inv-loop μ-loop
+slice-write-table c = search needs
 
-add-table-2 : tie.Need-add-table-2
-add-table-2 c = search needs
+add-i : tie.Need-add-i Inv-loop μ-loop
+add-i c = search needs
 
-mul-table-3 : tie.Need-mul-table-3
-mul-table-3 c = search needs
+loop-less : tie.Need-loop-less Inv-loop μ-loop
+loop-less c = search needs
 
-slice-write-table-3 : tie.Need-slice-write-table-3
-slice-write-table-3 c = simp length-set (omega arith)
+loop-again : tie.Need-loop-again Inv-loop μ-loop
+loop-again c =
+    let l = c .before .loop in
+    let s = c .before .before in
+    let a = s .args in
+    let twelve : length (s .args .t3) ≡ 12 = search needs in (
+      omega arith,
+      copy-turn _ (a .t3) (l .table) (a .to) (l .i) (l .inv .1) (omega (arith, twelve)),
+      length-set (l .table) (a .to + l .i) _ ∙ l .inv .2,
+    )
 
-add-table-3 : tie.Need-add-table-3
-add-table-3 c = search needs
+same-length : tie.Need-same-length Inv-loop μ-loop
+same-length c = c .before .loop .inv .2
 
-mul-table-4 : tie.Need-mul-table-4
-mul-table-4 c = search needs
-
-slice-write-table-4 : tie.Need-slice-write-table-4
-slice-write-table-4 c = simp length-set (omega arith)
-
-add-table-4 : tie.Need-add-table-4
-add-table-4 c = search needs
-
-mul-table-5 : tie.Need-mul-table-5
-mul-table-5 c = search needs
-
-slice-write-table-5 : tie.Need-slice-write-table-5
-slice-write-table-5 c = simp length-set (omega arith)
-
-add-table-5 : tie.Need-add-table-5
-add-table-5 c = search needs
-
-mul-table-6 : tie.Need-mul-table-6
-mul-table-6 c = search needs
-
-slice-write-table-6 : tie.Need-slice-write-table-6
-slice-write-table-6 c = simp length-set (omega arith)
-
-add-table-6 : tie.Need-add-table-6
-add-table-6 c = search needs
-
-mul-table-7 : tie.Need-mul-table-7
-mul-table-7 c = search needs
-
-slice-write-table-7 : tie.Need-slice-write-table-7
-slice-write-table-7 c = simp length-set (omega arith)
-
-add-table-7 : tie.Need-add-table-7
-add-table-7 c = search needs
-
-mul-table-8 : tie.Need-mul-table-8
-mul-table-8 c = search needs
-
-slice-write-table-8 : tie.Need-slice-write-table-8
-slice-write-table-8 c = simp length-set (omega arith)
-
-add-table-8 : tie.Need-add-table-8
-add-table-8 c = search needs
-
-mul-table-9 : tie.Need-mul-table-9
-mul-table-9 c = search needs
-
-slice-write-table-9 : tie.Need-slice-write-table-9
-slice-write-table-9 c = simp length-set (omega arith)
-
-add-table-9 : tie.Need-add-table-9
-add-table-9 c = search needs
-
-mul-table-10 : tie.Need-mul-table-10
-mul-table-10 c = search needs
-
-slice-write-table-10 : tie.Need-slice-write-table-10
-slice-write-table-10 c = simp length-set (omega arith)
-
-add-table-10 : tie.Need-add-table-10
-add-table-10 c = search needs
-
-mul-table-11 : tie.Need-mul-table-11
-mul-table-11 c = search needs
-
-slice-write-table-11 : tie.Need-slice-write-table-11
-slice-write-table-11 c = simp length-set (omega arith)
-
-add-table-11 : tie.Need-add-table-11
-add-table-11 c = search needs
-
-mul-table-12 : tie.Need-mul-table-12
-mul-table-12 c = search needs
-
-slice-write-table-12 : tie.Need-slice-write-table-12
-slice-write-table-12 c = simp length-set (omega arith)
-
-same-length : tie.Need-same-length
-same-length c = simp length-set
-
-returns : tie.Need-returns
+returns : tie.Need-returns Inv-loop μ-loop
 returns c =
-    let a = c .args in
-    twelve-sets (a .table .now) (a .to) _ _ _ _ _ _ _ _ _ _ _ _
+    let l = c .before .loop in
+    let s = c .before .before in
+    let a = s .args in
+    let twelve : length (s .args .t3) ≡ 12 = search needs in
+    sym (copy-end _ (a .t3) (l .table) (a .to) (l .i) (l .inv .1) (omega (arith, twelve, c .loop-test .left)))
 
 pub put-numbers-spec : {M : Type 1} → statement M
 put-numbers-spec =
     tie.close
     (tie.spec
+    Inv-loop
+    μ-loop
+    loop-holds
     mul-table
-    slice-write-table
+    array-read-table
     add-table
     mul-table-2
-    slice-write-table-2
-    add-table-2
-    mul-table-3
-    slice-write-table-3
-    add-table-3
-    mul-table-4
-    slice-write-table-4
-    add-table-4
-    mul-table-5
-    slice-write-table-5
-    add-table-5
-    mul-table-6
-    slice-write-table-6
-    add-table-6
-    mul-table-7
-    slice-write-table-7
-    add-table-7
-    mul-table-8
-    slice-write-table-8
-    add-table-8
-    mul-table-9
-    slice-write-table-9
-    add-table-9
-    mul-table-10
-    slice-write-table-10
-    add-table-10
-    mul-table-11
-    slice-write-table-11
-    add-table-11
-    mul-table-12
-    slice-write-table-12
+    slice-write-table
+    add-i
+    loop-less
+    loop-again
     same-length
     returns)

@@ -7,11 +7,11 @@ use borrow.Author.Needs.{needs}
 use Rattle.acb_read.proofs.put_row.Statement.{statement}
 use Rattle.acb_read.proofs.put_row.Tie as tie
 
-lies-of-requires : tie.Need-lies-of-requires
-lies-of-requires c κs = search needs
+text-place-requires : tie.Need-text-place-requires
+text-place-requires c κs = search needs
 
-cast-put-numbers : tie.Need-cast-put-numbers
-cast-put-numbers c = omega (arith, ap (λ (l : ℕ × ℕ). l .0) (c .before .before .lies-of .ensures), c .before .before .before .before .before .before .pre .1)
+cast-t11 : tie.Need-cast-t11
+cast-t11 c = omega (arith, ap (λ (l : ℕ × ℕ). l .0) (c .before .before .text-place .ensures), c .before .before .before .before .before .before .pre .1)
 
 array-read-wide : tie.Need-array-read-wide
 array-read-wide c = search needs
@@ -82,7 +82,7 @@ same-length c = search needs
 returns : tie.Need-returns
 returns c =
     let w = c .before .before in
-    let l = c .before .before .before .before .before .before .before .before .before .before .before .before .before .before .before .lies-of .ensures in
+    let l = c .before .before .before .before .before .before .before .before .before .before .before .before .before .before .before .text-place .ensures in
     let a = c .before .before .before .before .before .before .before .before .before .before .before .before .before .before .before .before .before .before .before .args in
     w .put-numbers .ensures
     ∙ λ i. sets (a .table .now) (a .to) (l i .0 ∷ l i .1 ∷ c .before .before .before .before .before .before .before .before .before .before .before .before .wide .ensures .0 i ∷ c .before .before .before .before .before .before .before .before .before .before .before .wide2 .ensures .0 i ∷ c .before .before .before .before .before .before .before .before .before .before .wide3 .ensures .0 i ∷ c .before .before .before .before .before .before .before .before .before .wide4 .ensures .0 i ∷ c .before .before .before .before .before .before .before .before .wide5 .ensures .0 i ∷ c .before .before .before .before .before .before .before .wide6 .ensures .0 i ∷ c .before .before .before .before .before .before .wide7 .ensures .0 i ∷ c .before .before .before .before .before .wide8 .ensures .0 i ∷ c .before .before .before .before .wide9 .ensures .0 i ∷ c .before .before .before .wide10 .ensures .0 i ∷ [])
@@ -91,8 +91,8 @@ pub put-row-spec : {M : Type 1} → statement M
 put-row-spec =
     tie.close
     (tie.spec
-    lies-of-requires
-    cast-put-numbers
+    text-place-requires
+    cast-t11
     array-read-wide
     wide-requires
     array-read-wide-2

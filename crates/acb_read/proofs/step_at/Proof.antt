@@ -4,7 +4,7 @@ use native.Mathlib.Omega.{arith}
 use Rattle.fields.specs.Answer.{told32}
 use Rattle.algebra.proofs.Laws.{field-next}
 use Rattle.acb.proofs.Laws.{components-some}
-use Rattle.acb_read.specs.Parts.{wholeAt}
+use Rattle.acb_read.specs.scaffold.Parts.{wholeAt}
 use Rattle.acb_read.proofs.Records.{step-short, step-cut, step-whole}
 use borrow.Author.Needs.{needs}
 use Rattle.acb_read.proofs.step_at.Statement.{statement}

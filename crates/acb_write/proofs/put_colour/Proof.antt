@@ -1,8 +1,8 @@
-use Rattle.acb_records.proofs.Judging.{colour-name}
+use Rattle.acb_write_judge.proofs.Judging.{colour-name}
 use Rattle.acb_write.proofs.Puts.{put-colour}
 use mathlib.Core.Path.{refl}
 use native.Mathlib.Omega.{arith}
-use Rattle.acb_records.specs.Parts.{toldRecord}
+use Rattle.acb_write_judge.specs.Parts.{toldRecord}
 use borrow.Author.Needs.{needs}
 use Rattle.acb_write.proofs.put_colour.Statement.{statement}
 use Rattle.acb_write.proofs.put_colour.Tie as tie

@@ -1,4 +1,4 @@
-use Rattle.acb_records.proofs.Judging.{record-whole, fit-start, fit-next, fit-rest, sizes-start, sizes-turn, sizes-end}
+use Rattle.acb_write_judge.proofs.Judging.{record-whole, fit-start, fit-next, fit-rest, sizes-start, sizes-turn, sizes-end}
 use Rattle.acb_write.proofs.Puts.{puts-start, puts-turn, puts-end}
 use lib.Seq.{sets}
 use lib.ListN.{length}
@@ -8,10 +8,11 @@ use native.Mathlib.Omega.{arith}
 use Prim.Native.Nat.{_+_, _-_, _≤_}
 use Rattle.algebra.specs.Numbers.{joined}
 use Rattle.acb.specs.Grammar.{colourBytes}
-use Rattle.acb_records.specs.Writing.{colourIn, sizes, sizeIn}
+use Rattle.acb_write_judge.specs.Writing.{colourIn, sizes, sizeIn}
 use Rattle.algebra.specs.Table.{rows}
-use Rattle.acb.specs.Row.{Given, width, taken}
-use Rattle.acb_records.specs.Parts.{givenAt, RecordFits, RecordsFit, toldRecord}
+use Rattle.acb.specs.Row.{RecordRow, width, taken}
+use Rattle.acb_write_judge.specs.Parts.{toldRecord}
+use Rattle.acb_write_judge.specs.scaffold.Parts.{givenAt, RecordFits, RecordsFit}
 use borrow.Author.Needs.{needs}
 use Rattle.acb_write.proofs.put_colours.Statement.{statement}
 use Rattle.acb_write.proofs.put_colours.Tie as tie
@@ -39,7 +40,7 @@ put-colour-requires c κs = let l = c .before .before .before .loop in
     let g = givenAt (a .run .now) (l .i) in
     let f = fit-next (a .text .now) (a .run .now) (a .n) (a .count) (l .i) (l .p) (length (a .out .now)) (c .before .before .loop-test .taken) (l .inv .2) in
     let r = subst (RecordFits (a .text .now) (a .n) g (l .p)) (sym (l .inv .3)) f in
-    subst (λ (k : Given). RecordFits (a .text .now) (a .n) k (l .p) (length (l .out))) (sym (c .record-at .ensures ∙ w)) r
+    subst (λ (k : RecordRow). RecordFits (a .text .now) (a .n) k (l .p) (length (l .out))) (sym (c .record-at .ensures ∙ w)) r
 
 add-i : tie.Need-add-i Inv-loop μ-loop
 add-i c = search needs
@@ -55,7 +56,7 @@ loop-again c = let l = c .before .before .before .before .before .before .loop i
     let g = c .before .before .before .record-at in
     let w = g .ensures ∙ record-whole (a .run .now) (a .count) (l .i) (s .pre .0) tk in
     let p = c .before .before .put-colour in
-    let e = p .ensures .0 ∙ ap (λ (x : Given). l .p + sizeIn (a .n) x) w in (
+    let e = p .ensures .0 ∙ ap (λ (x : RecordRow). l .p + sizeIn (a .n) x) w in (
       omega arith,
       puts-turn (a .run .now) (a .text .now) (a .n) _ (l .out) (a .count) (l .i) (l .p) (l .inv .1) (l .inv .2 .most) tk _ _ e (toldRecord (g .result)) w (p .ensures .1),
       fit-rest (a .text .now) (a .run .now) (a .n) (a .count) (l .i) (l .p) (length (a .out .now)) tk (l .inv .2) _ e,

@@ -1,4 +1,4 @@
-use Rattle.acb_records.proofs.Judging.{just-three, all-four}
+use Rattle.acb_write_judge.proofs.Judging.{just-three, all-four}
 use Rattle.acb_write.proofs.Puts.{three-stores, four-stores}
 use native.Mathlib.Omega.{arith}
 use lib.ListN.{length-set}
@@ -42,7 +42,7 @@ returns : tie.Need-returns
 returns c = let s = c .before .before .before .before in
     let a = s .args in
     let g = a .given in
-    three-stores (a .out .now) (a .at) (g .k) (g .l) (g .m) ∙ ap (λ (l : List ℕ). sets (a .out .now) (a .at) (joined (be 1) l)) (just-three (g .k) (g .l) (g .m) (g .n) (a .n) (c .if1 .taken))
+    three-stores (a .out .now) (a .at) (g .component0) (g .component1) (g .component2) ∙ ap (λ (l : List ℕ). sets (a .out .now) (a .at) (joined (be 1) l)) (just-three (g .component0) (g .component1) (g .component2) (g .component3) (a .n) (c .if1 .taken))
 
 cast-out-4 : tie.Need-cast-out-4
 cast-out-4 c = search needs
@@ -60,7 +60,7 @@ returns-2 : tie.Need-returns-2
 returns-2 c = let s = c .before .before .before .before .before in
     let a = s .args in
     let g = a .given in
-    four-stores (a .out .now) (a .at) (g .k) (g .l) (g .m) (g .n) ∙ ap (λ (l : List ℕ). sets (a .out .now) (a .at) (joined (be 1) l)) (all-four (g .k) (g .l) (g .m) (g .n) (a .n) (s .pre .1) (s .pre .2) (c .before .if1 .left))
+    four-stores (a .out .now) (a .at) (g .component0) (g .component1) (g .component2) (g .component3) ∙ ap (λ (l : List ℕ). sets (a .out .now) (a .at) (joined (be 1) l)) (all-four (g .component0) (g .component1) (g .component2) (g .component3) (a .n) (s .pre .1) (s .pre .2) (c .before .if1 .left))
 
 pub put-components-spec : {M : Type 1} → statement M
 put-components-spec =

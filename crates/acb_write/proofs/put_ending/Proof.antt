@@ -3,8 +3,8 @@ use native.Mathlib.Omega.{arith}
 use lib.Seq.{sets}
 use Rattle.acb.specs.Grammar.{endingBytes}
 use Rattle.acb.specs.Faults.{endingFault}
-use Rattle.acb_records.specs.Writing.{endingSize}
-use Rattle.acb_records.specs.Answer.{toldEnding}
+use Rattle.acb_write_judge.specs.Writing.{endingSize}
+use Rattle.acb_write_judge.specs.Answer.{toldEnding}
 use borrow.Author.Needs.{needs}
 use Rattle.acb_write.proofs.put_ending.Statement.{statement}
 use Rattle.acb_write.proofs.put_ending.Tie as tie

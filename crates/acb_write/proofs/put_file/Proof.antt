@@ -1,15 +1,15 @@
 use Rattle.algebra.proofs.Counted.{length-counted}
 use Rattle.acb_write.proofs.Puts.{put-file}
-use Rattle.acb_records.proofs.Outcomes.{no-fault, records-fit}
+use Rattle.acb_write_judge.proofs.Outcomes.{no-fault, records-fit}
 use mathlib.Core.Path.{_≡_, subst, ap}
 use native.Mathlib.Omega.{arith}
 use Prim.Native.Nat.{ℕ}
 use Rattle.acb_judge.specs.Answer.{toldHeader}
-use Rattle.acb_records.specs.Answer.{toldEnding}
-use Rattle.acb_records.specs.Writing.{sizes, sizeIn, headFault}
+use Rattle.acb_write_judge.specs.Answer.{toldEnding}
+use Rattle.acb_write_judge.specs.Writing.{sizes, sizeIn, headFault}
 use Rattle.algebra.specs.Table.{rows}
 use Rattle.acb.specs.Row.{width, taken}
-use Rattle.acb_records.specs.Parts.{givenAt}
+use Rattle.acb_write_judge.specs.scaffold.Parts.{givenAt}
 use borrow.Author.Needs.{needs}
 use Rattle.acb_write.proofs.put_file.Statement.{statement}
 use Rattle.acb_write.proofs.put_file.Tie as tie

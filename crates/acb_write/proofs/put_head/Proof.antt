@@ -1,4 +1,4 @@
-use Rattle.acb_records.proofs.Judging.{head-fine}
+use Rattle.acb_write_judge.proofs.Judging.{head-fine}
 use Rattle.acb_write.proofs.Puts.{put-head}
 use native.Mathlib.Omega.{arith}
 use Rattle.acb_judge.specs.Answer.{toldHeader}

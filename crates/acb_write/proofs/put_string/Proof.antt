@@ -1,4 +1,4 @@
-use Rattle.acb_records.proofs.Judging.{text-inside}
+use Rattle.acb_write_judge.proofs.Judging.{text-inside}
 use Rattle.acb_write.proofs.Puts.{put-string}
 use native.Mathlib.Omega.{arith}
 use Rattle.acb_judge.specs.Answer.{toldText}
@@ -17,7 +17,7 @@ mul-k c = search needs
 
 add-end : tie.Need-add-end
 add-end c = let s = c .before .before .before .before in
-    omega (arith, text-inside (s .args .text .now) (toldText (s .args .lies)) (s .pre .sound), c .wide .ensures .0, c .before .start-of .ensures, s .good)
+    omega (arith, text-inside (s .args .text .now) (toldText (s .args .string)) (s .pre .sound), c .wide .ensures .0, c .before .start-of .ensures, s .good)
 
 put-u32-requires : tie.Need-put-u32-requires
 put-u32-requires c κs = search needs
@@ -33,7 +33,7 @@ part-put-run-start c = search needs
 
 part-put-run-end : tie.Need-part-put-run-end
 part-put-run-end c = let s = c .before .before .before .before .before .before .before .before .before in
-    omega (arith, text-inside (s .args .text .now) (toldText (s .args .lies)) (s .pre .sound), c .before .before .before .before .before .wide .ensures .0, c .before .before .before .before .before .before .start-of .ensures)
+    omega (arith, text-inside (s .args .text .now) (toldText (s .args .string)) (s .pre .sound), c .before .before .before .before .before .wide .ensures .0, c .before .before .before .before .before .before .start-of .ensures)
 
 put-run-requires : tie.Need-put-run-requires
 put-run-requires c κs = search needs
@@ -51,7 +51,7 @@ returns : tie.Need-returns
 returns c = let s = c .before .before .before .before .before .before .before .before .before .before .before .before .before in
     let a = s .args in
     let w = c .before .before .before .before .before .before .before .before .before .wide in
-    (omega arith, put-string (a .text .now) (λ i. omega (arith, c .before .before .before .before .before .before .before .before .before .before .before .shared-slice-known .given i)) (toldText (a .lies)) (s .pre .sound) _ _ (c .before .before .before .before .before .before .before .before .before .before .start-of .ensures) (omega (arith, w .ensures .0)) (a .out .now) _ _ (a .at) (s .pre .inside) (c .before .before .before .before .before .before .before .put-u32 .ensures) (c .before .before .put-run .ensures))
+    (omega arith, put-string (a .text .now) (λ i. omega (arith, c .before .before .before .before .before .before .before .before .before .before .before .shared-slice-known .given i)) (toldText (a .string)) (s .pre .sound) _ _ (c .before .before .before .before .before .before .before .before .before .before .start-of .ensures) (omega (arith, w .ensures .0)) (a .out .now) _ _ (a .at) (s .pre .inside) (c .before .before .before .before .before .before .before .put-u32 .ensures) (c .before .before .put-run .ensures))
 
 pub put-string-spec : {M : Type 1} → statement M
 put-string-spec =

@@ -4,10 +4,10 @@ use Rattle.acb_write.proofs.start_of.Statement.{statement}
 use Rattle.acb_write.proofs.start_of.Tie as tie
 
 returns : tie.Need-returns
-returns c = sym (rw (eq-eqb (c .before .before .args .lies .units) 0 (c .if1 .taken)))
+returns c = sym (rw (eq-eqb (c .before .before .args .string .units) 0 (c .if1 .taken)))
 
 returns-2 : tie.Need-returns-2
-returns-2 c = sym (rw (ne-eqb (c .before .before .args .lies .units) 0 (c .if1 .left)))
+returns-2 c = sym (rw (ne-eqb (c .before .before .args .string .units) 0 (c .if1 .left)))
 
 pub start-of-spec : {M : Type 1} → statement M
 start-of-spec = tie.close (tie.spec returns returns-2)

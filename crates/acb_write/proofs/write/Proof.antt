@@ -1,15 +1,15 @@
 use Rattle.acb_write.proofs.Puts.{file-front}
-use Rattle.acb_records.proofs.Outcomes.{needed-bytes}
+use Rattle.acb_write_judge.proofs.Outcomes.{needed-bytes}
 use Rattle.algebra.proofs.Writing.{writes-no, writes-none, writes-all}
 use Rattle.fields.specs.Answer.{toldWritten}
 use mathlib.Core.Path.{sym, ap, _∙_}
 use native.Mathlib.Omega.{arith}
 use Rattle.acb_judge.specs.Answer.{toldHeader}
-use Rattle.acb_records.specs.Answer.{toldEnding}
+use Rattle.acb_write_judge.specs.Answer.{toldEnding}
 use Prim.Native.Nat.{_/_}
 use lib.ListN.{length}
 use Rattle.acb.specs.Grammar.{fileBytes}
-use Rattle.acb_records.specs.Writing.{bookIn, size, fault}
+use Rattle.acb_write_judge.specs.Writing.{bookIn, size, fault}
 use Rattle.algebra.specs.Table.{rows}
 use Rattle.acb.specs.Row.{width, taken}
 use borrow.Author.Needs.{needs}

@@ -7,16 +7,16 @@ use Rattle.names.specs.Answer.{toldName}
 use mathlib.Core.Logic.{⊎-elim}
 use lib.ListN.{getD}
 use Rattle.algebra.specs.Reader.{done, each, then}
-use Rattle.aco.specs.Reading.{twin, black}
-use Rattle.aco.specs.Raw.{rawColours}
-use Rattle.aco_judge.proofs.Judging.{entryOf, named, entry-start, entry-named, entry-refused, twin-short, twin-differs, twin-same, twins-same, raw-field}
+use Rattle.aco.specs.Reading.{repeatedField, zeroColour}
+use Rattle.aco.specs.scaffold.Raw.{rawColours}
+use Rattle.aco_judge.proofs.Judging.{entryOf, named, entry-start, entry-named, entry-refused, repeat-short, repeat-differs, repeat-same, repeats-same, raw-field}
 use Rattle.aco.proofs.Raw.{fields-raw}
 use Rattle.algebra.proofs.Laws.{turn-start, turn-end, inner-ok, inner-no, inner-end}
 use Rattle.aco_judge.proofs.entries_at.Statement.{statement}
 use Rattle.aco_judge.proofs.entries_at.Tie as tie
 
 abbrev Inv-loop : tie.InvT-loop
-Inv-loop file at n count i f₀ p₀ f p = (f ≤ 5) × (done (each n 0 (entryOf (rawColours n file 4)) file at) ≡ then (done (each (5 - f) f (twin i (getD (rawColours n file 4) i black)) file p)) (λ u q. named (rawColours n file 4) n file i q))
+Inv-loop file at n count i f₀ p₀ f p = (f ≤ 5) × (done (each n 0 (entryOf (rawColours n file 4)) file at) ≡ then (done (each (5 - f) f (repeatedField i (getD (rawColours n file 4) i zeroColour)) file p)) (λ u q. named (rawColours n file 4) n file i q))
 
 abbrev μ-loop : tie.MeasureT-loop
 μ-loop file at n count i f₀ p₀ f p = 5 - f
@@ -49,14 +49,14 @@ loop-holds c =
     let a = r .before .before .args in
     let s = a .file .now in
     let cs = rawColours (a .n) s 4 in
-    let col = getD cs (r .records .i) black in
+    let col = getD cs (r .records .i) zeroColour in
     let start = entry-start s cs _ (a .n) (r .records .i) (r .records .p) (r .records .inv .1) (t .records-test .taken) in
     ⊎-elim
     (λ w.
     let same = c .before .is-same .ensures (w .0 .taken) in
     rw (w .1, w .2) (
       omega arith,
-      twins-same s col (r .records .i) (r .records .p) _ (named cs (a .n) s (r .records .i)) (same .0)
+      repeats-same s col (r .records .i) (r .records .p) _ (named cs (a .n) s (r .records .i)) (same .0)
           (λ f h. same .1 f h ∙ sym (fields-raw (a .n) s 4 (r .records .i) f (t .records-test .taken) h)) start,
     ))
     (λ w. rw (w .1, w .2) (omega arith, start))
@@ -78,9 +78,9 @@ returns c =
     let r = call .before .before .before .before .before .before in
     let a = r .before .before .args in
     let cs = rawColours (a .n) (a .file .now) 4 in
-    let tw = twin (r .records .i) (getD cs (r .records .i) black) in
+    let tw = repeatedField (r .records .i) (getD cs (r .records .i) zeroColour) in
     sym (inner-no tw (a .file .now) _ (named cs (a .n) (a .file .now) (r .records .i)) 5 (l .f) (l .p) (l .inv .1) (omega (arith, call .before .loop-test .taken))
-    (twin-short (a .file .now) (getD cs (r .records .i) black) (r .records .i) (l .f) (l .p) (sym (ap (told16 (l .p)) (c .enum-told .given .1)) ∙ call .u16-at .ensures)))
+    (repeat-short (a .file .now) (getD cs (r .records .i) zeroColour) (r .records .i) (l .f) (l .p) (sym (ap (told16 (l .p)) (c .enum-told .given .1)) ∙ call .u16-at .ensures)))
 
 mul-u16-or-zero : tie.Need-mul-u16-or-zero Inv-loop μ-loop Inv-records μ-records
 mul-u16-or-zero c = search needs
@@ -112,11 +112,11 @@ loop-again c =
     let r = call .before .before .before .before .before .before in
     let a = r .before .before .args in
     let cs = rawColours (a .n) (a .file .now) 4 in
-    let tw = twin (r .records .i) (getD cs (r .records .i) black) in
+    let tw = repeatedField (r .records .i) (getD cs (r .records .i) zeroColour) in
     let same = raw-field (a .n) (a .file .now) (r .records .i) (l .f) _ (omega arith) (omega arith) (omega arith) (raw .u16-or-zero .ensures) in (
       omega arith,
       inner-ok tw (a .file .now) _ (named cs (a .n) (a .file .now) (r .records .i)) 5 (l .f) (l .p) (l .inv .1) (omega (arith, call .before .loop-test .taken)) _
-          (twin-same (a .file .now) (getD cs (r .records .i) black) (r .records .i) (l .f) (l .p) _ _ (sym (ap (told16 (l .p)) (v .v .given .1)) ∙ call .u16-at .ensures) (c .if2 .left ∙ same)),
+          (repeat-same (a .file .now) (getD cs (r .records .i) zeroColour) (r .records .i) (l .f) (l .p) _ _ (sym (ap (told16 (l .p)) (v .v .given .1)) ∙ call .u16-at .ensures) (c .if2 .left ∙ same)),
     )
 
 name32-at-requires : tie.Need-name32-at-requires Inv-loop μ-loop Inv-records μ-records
@@ -153,10 +153,10 @@ returns-3 c =
     let r = c .before .before in
     let a = r .before .before .args in
     let cs = rawColours (a .n) (a .file .now) 4 in
-    let tw = twin (r .records .i) (getD cs (r .records .i) black) in
+    let tw = repeatedField (r .records .i) (getD cs (r .records .i) zeroColour) in
     ⊎-elim (λ w. absurd (omega arith))
     (λ w. rw (w .13, w .12) (sym (inner-no tw (a .file .now) _ (named cs (a .n) (a .file .now) (r .records .i)) 5 (w .3 .f) (w .3 .p) (w .3 .inv .1) (w .4 .taken)
-    (twin-differs (a .file .now) (getD cs (r .records .i) black) (r .records .i) (w .3 .f) (w .3 .p) _ _ (sym (ap (told16 (w .3 .p)) (w .7 .given .1)) ∙ w .5 .ensures)
+    (repeat-differs (a .file .now) (getD cs (r .records .i) zeroColour) (r .records .i) (w .3 .f) (w .3 .p) _ _ (sym (ap (told16 (w .3 .p)) (w .7 .given .1)) ∙ w .5 .ensures)
     (λ e. w .11 .taken (e ∙ sym (raw-field (a .n) (a .file .now) (r .records .i) (w .3 .f) _ (omega arith) (omega arith) (omega (arith, w .4 .taken)) (w .10 .ensures))))))))
     (c .before .records-test .came)
 
@@ -165,7 +165,7 @@ returns-4 c =
     let r = c .before .before in
     let a = r .before .before .args in
     let cs = rawColours (a .n) (a .file .now) 4 in
-    let tw = twin (r .records .i) (getD cs (r .records .i) black) in
+    let tw = repeatedField (r .records .i) (getD cs (r .records .i) zeroColour) in
     ⊎-elim (λ w. rw (w .2) (sym (turn-end (entryOf cs) (a .file .now) _ (a .n) (r .records .i) (r .records .p) (r .records .inv .1) (w .0 .left)))) (λ w. absurd (omega arith)) (c .before .records-test .came)
 
 pub entries-at-spec : {M : Type 1} → statement M

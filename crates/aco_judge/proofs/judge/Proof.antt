@@ -1,7 +1,8 @@
 use mathlib.Core.Path.{sym, ap, _∙_}
 use native.Mathlib.Omega.{arith}
 use Rattle.algebra.specs.Table.{verdict}
-use Rattle.aco_judge.specs.Answer.{toldHeading, report}
+use Rattle.aco_judge.specs.Answer.{report}
+use Rattle.aco_judge.specs.scaffold.Answer.{toldHeading}
 use Rattle.aco_judge.proofs.Judging.{heading-is, aco-long, aco-heading, aco-count, aco-lists}
 use Rattle.algebra.specs.Reader.{fine}
 use borrow.Author.Needs.{needs}

@@ -1,7 +1,7 @@
 use mathlib.Core.Path.{sym, ap, _∙_}
 use native.Mathlib.Omega.{arith}
 use Rattle.fields.specs.Answer.{toldStep}
-use Rattle.aco_judge.specs.Answer.{toldWalk}
+use Rattle.aco_judge.specs.scaffold.Answer.{toldWalk}
 use Rattle.aco_judge.proofs.Judging.{colours-refused, colours-end, colours-within, lists-one, lists-two, lists-refused}
 use borrow.Author.Needs.{needs}
 use Rattle.aco_judge.proofs.lists_at.Statement.{statement}

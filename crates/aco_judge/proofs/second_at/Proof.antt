@@ -1,5 +1,5 @@
 use mathlib.Core.Path.{sym, ap, _∙_}
-use Rattle.aco_judge.specs.Answer.{toldHeading, toldWalk}
+use Rattle.aco_judge.specs.scaffold.Answer.{toldHeading, toldWalk}
 use borrow.Author.Tests.{eq-eqb, ne-eqb}
 use Rattle.aco_judge.proofs.Judging.{second-refused, second-differs, second-from}
 use borrow.Author.Needs.{needs}

@@ -6,7 +6,7 @@ use lib.ListN.{length}
 use Rattle.aco_walk.specs.Walking.{firstPlace, walk}
 use Rattle.listing.specs.Buffer.{putAll}
 use Rattle.listing.specs.Text.{lines}
-use Rattle.walk.specs.Walk.{given}
+use Rattle.walk.specs.scaffold.Walk.{given}
 use Rattle.aco_list.specs.Listing.{line}
 use Rattle.aco_list.proofs.Listed.{told-is, line-over, line-refused, line-turn, line-put, lines-start, lines-end}
 use Rattle.aco_list.proofs.put_colours.Statement.{statement}

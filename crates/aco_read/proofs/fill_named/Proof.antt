@@ -7,7 +7,7 @@ use Rattle.algebra.specs.Numbers.{joined}
 use Rattle.algebra.specs.Reader.{limit}
 use Rattle.algebra.proofs.Rows.{fill-turn, fill-end}
 use Rattle.colour.specs.declared.space.Colour.{Colour}
-use Rattle.aco.specs.Reading.{aco, unnamed, black}
+use Rattle.aco.specs.Reading.{aco, unnamed, zeroColour}
 use Rattle.aco.specs.Places.{entryPlace}
 use Rattle.aco.specs.Row.{width, numbers, withName, row}
 use Rattle.aco_read.specs.Table.{recordsOf}
@@ -108,7 +108,7 @@ loop-again c =
     let k = loaded u in
     let e = pr .put-row .ensures ∙ ap (λ (x : Colour). sets (l .table) (width * l .i) (numbers (withName x (l .p + 14) (u .u32-or-zero .result - 1)))) (co .colour-at .ensures) in (
       omega arith,
-      fill-turn width row (recordsOf (aco s)) _ (l .table) (l .i) (l .inv .1) (unnamed black) (omega (arith, length-records s (st .args .n) 2 (st .pre .0))) _ _ (ap numbers (k .is)) (row-wide s (4 + 10 * l .i) _ _) e,
+      fill-turn width row (recordsOf (aco s)) _ (l .table) (l .i) (l .inv .1) (unnamed zeroColour) (omega (arith, length-records s (st .args .n) 2 (st .pre .0))) _ _ (ap numbers (k .is)) (row-wide s (4 + 10 * l .i) _ _) e,
       pr .put-row .kept .0 ∙ l .inv .2,
       omega (arith, k .next),
     )

@@ -6,7 +6,7 @@ use native.Mathlib.Omega.{arith}
 use Rattle.algebra.specs.Numbers.{joined}
 use Rattle.algebra.proofs.Rows.{fill-turn, fill-end}
 use Rattle.colour.specs.declared.space.Colour.{Colour}
-use Rattle.aco.specs.Reading.{aco, unnamed, black}
+use Rattle.aco.specs.Reading.{aco, unnamed, zeroColour}
 use Rattle.aco.specs.Row.{width, numbers, withName, row}
 use Rattle.aco_read.specs.Table.{recordsOf}
 use Rattle.aco_read.proofs.Filling.{plain-in, plain-is, length-records}
@@ -59,7 +59,7 @@ loop-again c =
     let s = a .file .now in
     let e = pr .put-row .ensures ∙ ap (λ (k : Colour). sets (l .table) (width * l .i) (numbers (withName k 0 0))) (co .colour-at .ensures) in (
       omega arith,
-      fill-turn width row (recordsOf (aco s)) _ (l .table) (l .i) (l .inv .1) (unnamed black) (omega (arith, length-records s (a .n) 1 (st .pre .0))) _ _
+      fill-turn width row (recordsOf (aco s)) _ (l .table) (l .i) (l .inv .1) (unnamed zeroColour) (omega (arith, length-records s (a .n) 1 (st .pre .0))) _ _
           (ap numbers (plain-is s (a .n) 1 (st .pre .0) refl (l .i) (tn .loop-test .taken))) (row-wide s (4 + 10 * l .i) 0 0) e,
       pr .put-row .kept .0 ∙ l .inv .2,
     )

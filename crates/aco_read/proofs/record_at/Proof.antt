@@ -2,10 +2,10 @@ use mathlib.Core.Path.{sym, ap, _∙_}
 use native.Mathlib.Omega.{arith}
 use Rattle.algebra.specs.Table.{Verdict, seen}
 use Rattle.algebra.proofs.Table.{accepted-of, record-refused, record-none}
-use Rattle.aco.specs.Reading.{Entry, unnamed, black, aco}
+use Rattle.aco.specs.Reading.{Entry, unnamed, zeroColour, aco}
 use Rattle.aco.specs.Row.{givenOf}
 use Rattle.aco_judge.specs.Answer.{told, report}
-use Rattle.aco_read.specs.Table.{records, handed}
+use Rattle.aco_read.specs.Table.{records, byValue}
 use Rattle.aco_read.proofs.Answers.{count, counts}
 use borrow.Author.Needs.{needs}
 use Rattle.aco_read.proofs.record_at.Statement.{statement}
@@ -38,7 +38,7 @@ returns c =
     let j = v .before .before in
     let a = j .before .before .args in
     let k = accepted-of report (aco (a .file .now)) (sym (ap told (v .colours .given .1)) ∙ j .judge .ensures) in
-    c .none3 .ensures ∙ ap (λ (v : Verdict Entry). handed (seen givenOf v)) (record-none records report count counts (aco (a .file .now)) (unnamed black) (a .i) k (omega (arith, c .before .if1 .taken)))
+    c .none3 .ensures ∙ ap (λ (v : Verdict Entry). byValue (seen givenOf v)) (record-none records report count counts (aco (a .file .now)) (unnamed zeroColour) (a .i) k (omega (arith, c .before .if1 .taken)))
 
 found-requires : tie.Need-found-requires
 found-requires c κs =
@@ -52,13 +52,13 @@ returns-2 : tie.Need-returns-2
 returns-2 c =
     let x = c .before .before in
     let j = x .before .before in
-    c .none .ensures ∙ ap (λ (v : Verdict Entry). handed (seen givenOf v)) (record-refused records report count counts (aco (j .before .before .args .file .now)) (unnamed black) (j .before .before .args .i) (sym (ap told (x .number .given .1)) ∙ j .judge .ensures))
+    c .none .ensures ∙ ap (λ (v : Verdict Entry). byValue (seen givenOf v)) (record-refused records report count counts (aco (j .before .before .args .file .now)) (unnamed zeroColour) (j .before .before .args .i) (sym (ap told (x .number .given .1)) ∙ j .judge .ensures))
 
 returns-3 : tie.Need-returns-3
 returns-3 c =
     let x = c .before .before in
     let j = x .before .before in
-    c .none2 .ensures ∙ ap (λ (v : Verdict Entry). handed (seen givenOf v)) (record-refused records report count counts (aco (j .before .before .args .file .now)) (unnamed black) (j .before .before .args .i) (sym (ap told (x .place .given .1)) ∙ j .judge .ensures))
+    c .none2 .ensures ∙ ap (λ (v : Verdict Entry). byValue (seen givenOf v)) (record-refused records report count counts (aco (j .before .before .args .file .now)) (unnamed zeroColour) (j .before .before .args .i) (sym (ap told (x .place .given .1)) ∙ j .judge .ensures))
 
 returns-4 : tie.Need-returns-4
 returns-4 c = search needs

@@ -6,7 +6,7 @@ use native.Mathlib.Omega.{arith}
 use Rattle.algebra.specs.Reader.{Res, pick, ok, refuse}
 use Rattle.aco_chunks.specs.declared.Stage.{Stage}
 use Rattle.aco_chunks.specs.declared.Stage.the-variants as v
-use Rattle.aco_stream.specs.Answer.{toldItem}
+use Rattle.aco_stream.specs.scaffold.Answer.{toldItem}
 use Rattle.aco_chunks.specs.Chunks.{cut}
 use Rattle.aco_chunks.proofs.Small.{item-placed}
 use Rattle.aco_stream.proofs.cut_of.Statement.{statement}

@@ -49,11 +49,11 @@ returns-5 c =
 least-requires : tie.Need-least-requires
 least-requires c κs = search needs
 
-slice-aggregate-run : tie.Need-slice-aggregate-run
-slice-aggregate-run c = let a = c .before .before .before .before .before .before .before .before .before .before .before .before .args in let m = c .before .before .least in sym (length-take-le (m .result) (a .bytes .now) (m .ensures .1))
+slice-aggregate-feed-within : tie.Need-slice-aggregate-feed-within
+slice-aggregate-feed-within c = let a = c .before .before .before .before .before .before .before .before .before .before .before .before .args in let m = c .before .before .least in sym (length-take-le (m .result) (a .bytes .now) (m .ensures .1))
 
-run-requires : tie.Need-run-requires
-run-requires c κs =
+feed-within-requires : tie.Need-feed-within-requires
+feed-within-requires c κs =
     let a = c .before .before .before .before .before .before .before .before .before .before .before .before .args in
     let m = c .before .before .least in
     let n = length-take-le (m .result) (a .bytes .now) (m .ensures .1) in
@@ -69,7 +69,7 @@ returns-6 : tie.Need-returns-6
 returns-6 c =
     let a = c .before .before .before .before .before .before .before .before .before .before .before .before .before .before .before .before .args in
     let u = is-usable (a .state) (c .before .before .before .before .before .before .before .before .before .before .before .before .before .if1 .left) (omega (arith, c .before .before .before .before .before .before .before .before .before .before .before .before .size-of .ensures, c .before .before .before .before .before .before .before .before .before .before .if2 .left)) in
-    let r = c .before .before .before .run in
+    let r = c .before .before .before .feed-within in
     let m = c .before .before .before .before .before .before .least in
     let e = r .ensures .0 ∙ ap (λ (k : ℕ). chunk (progress (a .state) (a .store .now)) (take k (a .bytes .now))) (m .ensures .2 (c .if6 .taken)) in
     feeds-0 (a .state) (a .store .now) (a .bytes .now) u (is-roomy (a .store .now) (c .before .before .before .before .before .before .before .before .before .if3 .left)) _ (r .last .1 .0) (is-usable (r .result) (r .ensures .2) (r .ensures .1)) (chunk-over (progress (a .state) (a .store .now)) (a .bytes .now) (limit - a .state .total) (omega (arith, c .before .before .before .before .before .before .before .if5 .left)) (c .if6 .taken) (progress (r .result) (r .last .1 .0)) e) (r .ensures .3)
@@ -81,7 +81,7 @@ returns-7 : tie.Need-returns-7
 returns-7 c =
     let a = c .before .before .before .before .before .before .before .before .before .before .before .before .before .before .before .before .args in
     let u = is-usable (a .state) (c .before .before .before .before .before .before .before .before .before .before .before .before .before .if1 .left) (omega (arith, c .before .before .before .before .before .before .before .before .before .before .before .before .size-of .ensures, c .before .before .before .before .before .before .before .before .before .before .if2 .left)) in
-    let r = c .before .before .before .run in
+    let r = c .before .before .before .feed-within in
     let m = c .before .before .before .before .before .before .least in
     let e = r .ensures .0 ∙ ap (λ (k : ℕ). chunk (progress (a .state) (a .store .now)) (take k (a .bytes .now))) (m .ensures .3 (c .if6 .left)) ∙ ap (chunk (progress (a .state) (a .store .now))) (take-length (a .bytes .now)) in
     feeds-0 (a .state) (a .store .now) (a .bytes .now) u (is-roomy (a .store .now) (c .before .before .before .before .before .before .before .before .before .if3 .left)) (r .result) (r .last .1 .0) (is-usable (r .result) (r .ensures .2) (r .ensures .1)) e (r .ensures .3)
@@ -98,8 +98,8 @@ feed-in-spec =
     add-over
     returns-5
     least-requires
-    slice-aggregate-run
-    run-requires
+    slice-aggregate-feed-within
+    feed-within-requires
     add-next
     same-length
     returns-6

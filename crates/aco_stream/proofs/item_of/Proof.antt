@@ -7,7 +7,7 @@ use Rattle.algebra.specs.Reader.{pick, ok, refuse}
 use Rattle.aco_chunks.specs.declared.Stage.{Stage}
 use Rattle.aco_chunks.specs.declared.Stage.the-variants as v
 use Rattle.fields.specs.Answer.{toldStep, told16}
-use Rattle.aco_judge.specs.Answer.{toldHeading}
+use Rattle.aco_judge.specs.scaffold.Answer.{toldHeading}
 use Rattle.aco_chunks.specs.Chunks.{item}
 use Rattle.aco_stream.proofs.Fields.{first-many, first-off, first-is, second-other, second-off, second-is, colourItem-is, colourItem-off}
 use Rattle.aco_stream.proofs.item_of.Statement.{statement}

@@ -6,7 +6,7 @@ use native.Mathlib.Omega.{arith}
 use Rattle.algebra.specs.Reader.{pick, ok, refuse}
 use Rattle.aco_chunks.specs.declared.Stage.{Stage}
 use Rattle.aco_chunks.specs.declared.Stage.the-variants as v
-use Rattle.aco_stream.specs.Parts.{Sparing, unitsPassed}
+use Rattle.aco_stream.specs.scaffold.Parts.{Sparing, unitsPassed}
 use Rattle.aco_stream.proofs.passed.Statement.{statement}
 use Rattle.aco_stream.proofs.passed.Tie as tie
 use Rattle.aco_stream.proofs.passed.Reads as reads

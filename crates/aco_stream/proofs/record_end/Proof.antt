@@ -5,8 +5,8 @@ use lib.ListN.{take, drop}
 use Rattle.algebra.specs.Reader.{Res}
 use Rattle.aco_chunks.specs.declared.Stage.{Stage}
 use Rattle.aco_chunks.specs.Chunks.{entryHead, loaded}
-use Rattle.aco_stream.specs.Answer.{toldItem}
-use Rattle.aco_stream.specs.Parts.{Recorded, NamedAt}
+use Rattle.aco_stream.specs.scaffold.Answer.{toldItem}
+use Rattle.aco_stream.specs.scaffold.Parts.{Recorded, NamedAt}
 use borrow.Author.Needs.{needs}
 use Rattle.aco_stream.proofs.record_end.Statement.{statement}
 use Rattle.aco_stream.proofs.record_end.Tie as tie

@@ -1,5 +1,5 @@
 use mathlib.Core.Path.{sym, ap, _∙_}
-use Rattle.aco_stream.specs.Parts.{recordPassed}
+use Rattle.aco_stream.specs.scaffold.Parts.{recordPassed}
 use borrow.Author.Needs.{needs}
 use Rattle.aco_stream.proofs.record_passed.Statement.{statement}
 use Rattle.aco_stream.proofs.record_passed.Tie as tie

@@ -5,7 +5,7 @@ use Prim.Native.Nat.{ℕ, _+_, _*_, _-_, _≤_}
 use lib.ListN.{take, drop}
 use Rattle.fields.specs.Answer.{toldStep}
 use Rattle.aco_chunks.specs.Chunks.{colourItem}
-use Rattle.aco_stream.specs.Parts.{Sounds, isOk}
+use Rattle.aco_stream.specs.scaffold.Parts.{Sounds, isOk}
 use Rattle.aco_stream.proofs.Fields.{colourItem-is}
 use Rattle.aco_stream.proofs.Passing.{is-ok, sounds-more}
 use Rattle.aco_stream.proofs.sound_in.Statement.{statement}

@@ -6,7 +6,7 @@ use native.Mathlib.Omega.{arith}
 use Rattle.algebra.specs.Reader.{Res, pick, ok, refuse}
 use Rattle.aco_chunks.specs.declared.Stage.{Stage}
 use Rattle.aco_chunks.specs.declared.Stage.the-variants as v
-use Rattle.aco_stream.specs.Parts.{Sparing}
+use Rattle.aco_stream.specs.scaffold.Parts.{Sparing}
 use Rattle.aco_stream.proofs.spare.Statement.{statement}
 use Rattle.aco_stream.proofs.spare.Tie as tie
 use Rattle.aco_stream.proofs.spare.Reads as reads

@@ -7,7 +7,7 @@ use Rattle.algebra.specs.Reader.{pick, ok, refuse}
 use Rattle.aco_chunks.specs.declared.Stage.{Stage}
 use Rattle.aco_chunks.specs.declared.Stage.the-variants as v
 use Rattle.fields.specs.Answer.{toldStep}
-use Rattle.aco_stream.specs.Parts.{unitsPassed}
+use Rattle.aco_stream.specs.scaffold.Parts.{unitsPassed}
 use Rattle.aco_stream.proofs.Steps.{none-zero, some-zero}
 use Rattle.aco_stream.proofs.units_of.Statement.{statement}
 use Rattle.aco_stream.proofs.units_of.Tie as tie

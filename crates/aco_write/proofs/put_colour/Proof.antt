@@ -2,7 +2,7 @@ use Prim.Native.Nat.{ℕ, _+_, _-_}
 use native.Mathlib.Omega.{arith}
 use Rattle.aco.specs.Grammar.{colourBytes}
 use Rattle.aco.proofs.Whole.{length-colour}
-use Rattle.aco_records.specs.Parts.{plain}
+use Rattle.aco_write_judge.specs.scaffold.Parts.{plain}
 use Rattle.aco_write.proofs.Puts.{put-part}
 use borrow.Author.Needs.{needs, length-unmapped}
 use Rattle.aco_write.proofs.put_colour.Statement.{statement}

@@ -9,9 +9,9 @@ use Rattle.algebra.specs.Table.{rows}
 use Rattle.aco.specs.Grammar.{colourBytes}
 use Rattle.aco.specs.Row.{width, taken}
 use Rattle.aco.proofs.Whole.{length-colour}
-use Rattle.aco_records.specs.Writing.{swatchIn}
-use Rattle.aco_records.specs.Parts.{colourIn, plain}
-use Rattle.aco_records.proofs.Judging.{givenAt}
+use Rattle.aco_write_judge.specs.Writing.{swatchIn}
+use Rattle.aco_write_judge.specs.scaffold.Parts.{colourIn, plain}
+use Rattle.aco_write_judge.proofs.Judging.{givenAt}
 use Rattle.aco_write.proofs.Puts.{puts-start, puts-turn, puts-end, colour-bytes}
 use borrow.Author.Needs.{needs}
 use Rattle.aco_write.proofs.put_colours.Statement.{statement}

@@ -7,10 +7,10 @@ use native.Mathlib.Omega.{arith}
 use Rattle.algebra.specs.Numbers.{joined}
 use Rattle.algebra.specs.Table.{rows}
 use Rattle.aco.specs.Grammar.{entryBytes}
-use Rattle.aco.specs.Row.{Given, width, taken}
-use Rattle.aco_records.specs.Writing.{swatchIn}
-use Rattle.aco_records.specs.Parts.{EntryFits, EntriesFit}
-use Rattle.aco_records.proofs.Judging.{givenAt, fit-start, fit-next, fit-rest}
+use Rattle.aco.specs.Row.{RecordRow, width, taken}
+use Rattle.aco_write_judge.specs.Writing.{swatchIn}
+use Rattle.aco_write_judge.specs.scaffold.Parts.{EntryFits, EntriesFit}
+use Rattle.aco_write_judge.proofs.Judging.{givenAt, fit-start, fit-next, fit-rest}
 use Rattle.aco_write.proofs.Puts.{puts-start, puts-turn, puts-end, length-entry}
 use borrow.Author.Needs.{needs}
 use Rattle.aco_write.proofs.put_entries.Statement.{statement}
@@ -57,7 +57,7 @@ add-p-2 c =
     let s = r .before .before .before .before .before .before in
     let a = s .args in
     let tk = r .before .loop-test .taken in
-    let u = c .wide .ensures .0 ∙ ap (λ (g : Given). g .units) (r .record-at .ensures) in
+    let u = c .wide .ensures .0 ∙ ap (λ (g : RecordRow). g .units) (r .record-at .ensures) in
     omega (arith, fit-next (a .text .now) (a .run .now) (a .n) (l .i) (l .p) (length (a .out .now)) tk (l .inv .2), u, s .good .0 .0)
 
 add-i : tie.Need-add-i Inv-loop μ-loop
@@ -73,7 +73,7 @@ loop-again c =
     let s = r .before .before .before .before .before .before in
     let a = s .args in
     let tk = r .before .loop-test .taken in
-    let u = c .wide .ensures .0 ∙ ap (λ (g : Given). g .units) (r .record-at .ensures) in
+    let u = c .wide .ensures .0 ∙ ap (λ (g : RecordRow). g .units) (r .record-at .ensures) in
     let w : 16 + 2 * givenAt (a .run .now) (l .i) .units ≡ 16 + 2 * c .wide .result = omega (arith, u) in
     let pe = c .before .before .before .put-entry in (
       omega arith,

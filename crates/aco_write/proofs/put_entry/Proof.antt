@@ -5,8 +5,8 @@ use native.Mathlib.Omega.{arith}
 use Rattle.algebra.specs.Store.{stored, part}
 use Rattle.algebra.specs.Text.{countedUnits}
 use Rattle.aco.specs.Grammar.{colourBytes}
-use Rattle.aco_records.specs.Parts.{toldRecord, plain, start}
-use Rattle.aco_records.proofs.Judging.{name-inside}
+use Rattle.aco_write_judge.specs.scaffold.Parts.{toldRecord, plain, start}
+use Rattle.aco_write_judge.proofs.Judging.{name-inside}
 use Rattle.aco_write.proofs.Puts.{put-record}
 use borrow.Author.Needs.{needs}
 use Rattle.aco_write.proofs.put_entry.Statement.{statement}

@@ -1,6 +1,6 @@
 use Rattle.algebra.proofs.Counted.{length-counted}
 use native.Mathlib.Omega.{arith}
-use Rattle.aco_records.proofs.Judging.{givenAt, sizes-all}
+use Rattle.aco_write_judge.proofs.Judging.{givenAt, sizes-all}
 use Rattle.aco_write.proofs.Puts.{put-file}
 use borrow.Author.Needs.{needs}
 use Rattle.aco_write.proofs.put_lists.Statement.{statement}

@@ -5,14 +5,14 @@ use native.Mathlib.Omega.{arith}
 use lib.ListN.{length}
 use Rattle.algebra.specs.Table.{rows}
 use Rattle.aco.specs.Row.{width, taken}
-use Rattle.aco_records.specs.Writing.{swatchIn, size, fault}
-use Rattle.aco_records.proofs.Judging.{givenAt}
+use Rattle.aco_write_judge.specs.Writing.{swatchIn, size, fault}
+use Rattle.aco_write_judge.proofs.Judging.{givenAt}
 use Rattle.fields.specs.Answer.{toldWritten}
 use Rattle.aco_write.proofs.Puts.{file-front}
 use mathlib.Core.List.{map}
 use Rattle.aco.specs.Grammar.{twoLists}
 use Rattle.algebra.proofs.Writing.{writes-no, writes-none, writes-all}
-use Rattle.aco_records.proofs.Outcomes.{needed-bytes, no-fault}
+use Rattle.aco_write_judge.proofs.Outcomes.{needed-bytes, no-fault}
 use borrow.Author.Needs.{needs}
 use Rattle.aco_write.proofs.write.Statement.{statement}
 use Rattle.aco_write.proofs.write.Tie as tie

@@ -41,8 +41,8 @@ returns-2 c =
     let e = sym (ap (told16 (a .at)) (kk .kind .given .1)) ∙ kk .before .before .u16-at .ensures in
     sym (ap (mapRes (passed (a .depth))) (block-short-length (a .depth) (a .file .now) (a .at) _ _ e (sym (ap (told32 _) (c .enum-told2 .given .1)) ∙ c .before .before .u32-at .ensures)))
 
-is-type-requires : tie.Need-is-type-requires
-is-type-requires c κs = search needs
+is-block-type-requires : tie.Need-is-block-type-requires
+is-block-type-requires c κs = search needs
 
 returns-3 : tie.Need-returns-3
 returns-3 c =
@@ -51,7 +51,7 @@ returns-3 c =
     let a = kk .before .before .before .before .args in
     let e = sym (ap (told16 (a .at)) (kk .kind .given .1)) ∙ kk .before .before .u16-at .ensures in
     let f = sym (ap (told32 _) (nn .n .given .1)) ∙ nn .before .before .u32-at .ensures in
-    sym (ap (mapRes (passed (a .depth))) (block-unknown (a .depth) (a .file .now) (a .at) _ _ e _ _ f (sym (c .before .is-type .ensures) ∙ not-true _ (c .if1 .taken))))
+    sym (ap (mapRes (passed (a .depth))) (block-unknown (a .depth) (a .file .now) (a .at) _ _ e _ _ f (sym (c .before .is-block-type .ensures) ∙ not-true _ (c .if1 .taken))))
 
 sub-if2 : tie.Need-sub-if2
 sub-if2 c =
@@ -72,7 +72,7 @@ returns-4 c =
     let a = kk .before .before .before .before .args in
     let e = sym (ap (told16 (a .at)) (kk .kind .given .1)) ∙ kk .before .before .u16-at .ensures in
     let f = sym (ap (told32 _) (nn .n .given .1)) ∙ nn .before .before .u32-at .ensures in
-    sym (ap (mapRes (passed (a .depth))) (block-cut (a .depth) (a .file .now) (a .at) _ _ e _ _ f (sym (c .before .before .is-type .ensures) ∙ not-false _ (c .before .if1 .left)) (c .if2 .taken)))
+    sym (ap (mapRes (passed (a .depth))) (block-cut (a .depth) (a .file .now) (a .at) _ _ e _ _ f (sym (c .before .before .is-block-type .ensures) ∙ not-false _ (c .before .if1 .left)) (c .if2 .taken)))
 
 cast-content-at : tie.Need-cast-content-at
 cast-content-at c = search needs
@@ -94,7 +94,7 @@ content-at-requires c κs =
     let a = kk .before .before .before .before .args in
     let e = sym (ap (told16 (a .at)) (kk .kind .given .1)) ∙ kk .before .before .u16-at .ensures in
     let f = sym (ap (told32 _) (nn .n .given .1)) ∙ nn .before .before .u32-at .ensures in
-    room (a .depth) (a .file .now) (a .at) _ _ e _ _ f (sym (c .before .before .is-type .ensures) ∙ not-false _ (c .before .if1 .left)) (c .if2 .left)
+    room (a .depth) (a .file .now) (a .at) _ _ e _ _ f (sym (c .before .before .is-block-type .ensures) ∙ not-false _ (c .before .if1 .left)) (c .if2 .left)
 
 returns-5 : tie.Need-returns-5
 returns-5 c =
@@ -103,7 +103,7 @@ returns-5 c =
     let a = kk .before .before .before .before .args in
     let e = sym (ap (told16 (a .at)) (kk .kind .given .1)) ∙ kk .before .before .u16-at .ensures in
     let f = sym (ap (told32 _) (nn .n .given .1)) ∙ nn .before .before .u32-at .ensures in
-    c .content-at .ensures ∙ sym (ap (mapRes (passed (a .depth))) (block-held (a .depth) (a .file .now) (a .at) _ _ e _ _ f (sym (c .before .before .before .is-type .ensures) ∙ not-false _ (c .before .before .if1 .left)) (c .before .if2 .left)))
+    c .content-at .ensures ∙ sym (ap (mapRes (passed (a .depth))) (block-held (a .depth) (a .file .now) (a .at) _ _ e _ _ f (sym (c .before .before .before .is-block-type .ensures) ∙ not-false _ (c .before .before .if1 .left)) (c .before .if2 .left)))
 
 pub block-at-spec : {M : Type 1} → statement M
 block-at-spec =
@@ -117,7 +117,7 @@ block-at-spec =
     enum-known-n
     enum-told-2
     returns-2
-    is-type-requires
+    is-block-type-requires
     returns-3
     sub-if2
     cast-if2

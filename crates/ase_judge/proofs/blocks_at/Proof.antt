@@ -4,7 +4,8 @@ use Prim.Native.Nat.{_-_, _≤_}
 use borrow.Author.Needs.{needs}
 use Rattle.ase_judge.proofs.Judging.{rest, plus, rest-start, turn-ok, turn-no, rest-end}
 use Rattle.algebra.specs.Reader.{mapRes}
-use Rattle.ase_judge.specs.Answer.{tally, toldPassed}
+use Rattle.ase_judge.specs.Answer.{toldPassed}
+use Rattle.ase_judge.specs.scaffold.Answer.{tally}
 use Rattle.ase_judge.proofs.blocks_at.Statement.{statement}
 use Rattle.ase_judge.proofs.blocks_at.Tie as tie
 

@@ -6,7 +6,7 @@ use Rattle.algebra.specs.Reader.{done, each, judged}
 use Rattle.fields.specs.Answer.{told32}
 use borrow.Author.Needs.{needs}
 use Rattle.algebra.proofs.Laws.{turn-start, turn-ok, turn-no, turn-end, judged-short, judged-bad, judged-ok}
-use Rattle.ase_judge.specs.Parts.{channelIn}
+use Rattle.ase_judge.specs.scaffold.Parts.{channelIn}
 use Rattle.ase_judge.proofs.channels_at.Statement.{statement}
 use Rattle.ase_judge.proofs.channels_at.Tie as tie
 

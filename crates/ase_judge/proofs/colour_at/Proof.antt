@@ -9,14 +9,14 @@ use borrow.Author.Needs.{needs}
 use Rattle.ase_judge.proofs.colour_at.Statement.{statement}
 use Rattle.ase_judge.proofs.colour_at.Tie as tie
 
-slice-aggregate-shade-at : tie.Need-slice-aggregate-shade-at
-slice-aggregate-shade-at c = sym (length-take-le (c .before .before .args .end) (c .before .before .args .file .now) (c .before .before .pre .1))
+slice-aggregate-colour-content-at : tie.Need-slice-aggregate-colour-content-at
+slice-aggregate-colour-content-at c = sym (length-take-le (c .before .before .args .end) (c .before .before .args .file .now) (c .before .before .pre .1))
 
-add-shade-at : tie.Need-add-shade-at
-add-shade-at c = search needs
+add-colour-content-at : tie.Need-add-colour-content-at
+add-colour-content-at c = search needs
 
-shade-at-requires : tie.Need-shade-at-requires
-shade-at-requires c κs = search needs
+colour-content-at-requires : tie.Need-colour-content-at-requires
+colour-content-at-requires c κs = search needs
 
 add-inside-of : tie.Need-add-inside-of
 add-inside-of c = search needs
@@ -34,21 +34,21 @@ returns : tie.Need-returns
 returns c =
     let io = c .before .before .before in
     let a = io .before .before .before .before .args in
-    sym (colour-map (a .depth) (a .end) (a .file .now) (a .at) ∙ ap (mapRes (λ u. (a .depth, 1))) (ap (inside (a .at + 2) (a .end)) (sym (io .before .shade-at .ensures)) ∙ sym (io .inside-of .ensures) ∙ ap toldStep (c .before .number .given .1)))
+    sym (colour-map (a .depth) (a .end) (a .file .now) (a .at) ∙ ap (mapRes (λ u. (a .depth, 1))) (ap (inside (a .at + 2) (a .end)) (sym (io .before .colour-content-at .ensures)) ∙ sym (io .inside-of .ensures) ∙ ap toldStep (c .before .number .given .1)))
 
 returns-2 : tie.Need-returns-2
 returns-2 c =
     let io = c .before .before .before in
     let a = io .before .before .before .before .args in
-    sym (colour-map (a .depth) (a .end) (a .file .now) (a .at) ∙ ap (mapRes (λ u. (a .depth, 1))) (ap (inside (a .at + 2) (a .end)) (sym (io .before .shade-at .ensures)) ∙ sym (io .inside-of .ensures) ∙ ap toldStep (c .before .next .given .1)))
+    sym (colour-map (a .depth) (a .end) (a .file .now) (a .at) ∙ ap (mapRes (λ u. (a .depth, 1))) (ap (inside (a .at + 2) (a .end)) (sym (io .before .colour-content-at .ensures)) ∙ sym (io .inside-of .ensures) ∙ ap toldStep (c .before .next .given .1)))
 
 pub colour-at-spec : {M : Type 1} → statement M
 colour-at-spec =
     tie.close
     (tie.spec
-    slice-aggregate-shade-at
-    add-shade-at
-    shade-at-requires
+    slice-aggregate-colour-content-at
+    add-colour-content-at
+    colour-content-at-requires
     add-inside-of
     inside-of-requires
     enum-known-number

@@ -1,5 +1,5 @@
 use mathlib.Core.Path.{sym, ap, _∙_}
-use Rattle.ase_judge.specs.Answer.{toldHeading}
+use Rattle.ase_judge.specs.scaffold.Answer.{toldHeading}
 use Rattle.ase_judge.proofs.Judging.{too-long, bad-heading, after-heading}
 use borrow.Author.Needs.{needs}
 use Rattle.ase_judge.proofs.judge.Statement.{statement}

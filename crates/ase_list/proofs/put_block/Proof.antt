@@ -3,7 +3,7 @@ use mathlib.Core.Path.{sym, ap, _∙_}
 use Rattle.ase_walk.specs.Answer.{toldBlock}
 use Rattle.ase_walk.specs.declared.Block.{Block}
 use Rattle.listing.specs.Buffer.{putAll}
-use Rattle.ase_list.specs.Listing.{answer}
+use Rattle.ase_list.specs.scaffold.Listing.{answer}
 use Rattle.ase_list.proofs.Listed.{put-group, put-shown}
 use Rattle.ase_list.proofs.put_block.Statement.{statement}
 use Rattle.ase_list.proofs.put_block.Tie as tie

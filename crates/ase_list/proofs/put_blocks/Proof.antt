@@ -4,11 +4,11 @@ use native.Mathlib.Omega.{arith}
 use mathlib.Core.Path.{_≡_, refl, sym}
 use lib.ListN.{length}
 use Rattle.ase_walk.specs.Walking.{firstPlace}
-use Rattle.walk.specs.Walk.{answers}
+use Rattle.walk.specs.scaffold.Walk.{answers}
 use Rattle.listing.specs.Buffer.{putAll}
 use Rattle.listing.specs.Text.{lines}
 use Rattle.listing.proofs.Putting.{put-both, put-last}
-use Rattle.ase_list.specs.Listing.{answerLine, shownWalk}
+use Rattle.ase_list.specs.scaffold.Listing.{answerLine, shownWalk}
 use Rattle.ase_list.proofs.Listed.{lines-start, line-turn, lines-end}
 use Rattle.ase_list.proofs.put_blocks.Statement.{statement}
 use Rattle.ase_list.proofs.put_blocks.Tie as tie

@@ -1,6 +1,6 @@
 use borrow.Author.Needs.{needs}
 use native.Mathlib.Omega.{arith}
-use Rattle.ase_list.proofs.Listed.{few, put-shade}
+use Rattle.ase_list.proofs.Listed.{few, put-colour-content}
 use Rattle.ase_list.proofs.put_colour.Statement.{statement}
 use Rattle.ase_list.proofs.put_colour.Tie as tie
 
@@ -34,7 +34,7 @@ returns c =
     let h = t .before .before .before .before in
     let m = h .before .before .before .before .before .before in
     let a = m .before .before .before .before .before .args in
-    put-shade (a .out .now, a .n) (m .before .before .model .result) (h .before .traits .result) (h .before .before .bits .result) (a .colour) (a .kind) (a .name .now) (m .before .before .model .ensures) (h .before .traits .ensures) (h .before .before .bits .ensures) (m .put-model .ensures) (h .put-channels .ensures) (t .put-type .ensures) (c .before .before .put-name .ensures)
+    put-colour-content (a .out .now, a .n) (m .before .before .model .result) (h .before .traits .result) (h .before .before .bits .result) (a .colour) (a .kind) (a .name .now) (m .before .before .model .ensures) (h .before .traits .ensures) (h .before .before .bits .ensures) (m .put-model .ensures) (h .put-channels .ensures) (t .put-type .ensures) (c .before .before .put-name .ensures)
 
 pub put-colour-spec : {M : Type 1} → statement M
 put-colour-spec =

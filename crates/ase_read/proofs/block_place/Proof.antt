@@ -1,7 +1,7 @@
 use Prim.Native.Nat.{_-_, _≤_}
 use mathlib.Core.Path.{_≡_, sym, ap, _∙_}
 use native.Mathlib.Omega.{arith}
-use Rattle.ase_read.specs.Raw.{blockPlace}
+use Rattle.ase_read.specs.scaffold.Raw.{blockPlace}
 use Rattle.ase_read.proofs.Filling.{place-first, Here, here}
 use borrow.Author.Needs.{needs}
 use Rattle.ase_read.proofs.block_place.Statement.{statement}

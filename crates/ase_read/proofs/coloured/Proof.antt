@@ -2,7 +2,7 @@ use Prim.Native.Nat.{ℕ}
 use mathlib.Core.List.{[], _∷_}
 use mathlib.Core.Path.{sym, ap, _∙_}
 use Rattle.algebra.specs.Table.{accepted}
-use Rattle.ase.specs.Row.{Given, colour}
+use Rattle.ase.specs.Row.{RecordRow, colourRow}
 use native.Mathlib.Omega.{arith}
 use Rattle.ase_read.proofs.Answers.{is-made, colour-is}
 use borrow.Author.Needs.{needs}
@@ -28,8 +28,8 @@ returns : tie.Need-returns
 returns c =
     let f = c .before .before .before .before .before in
     let r = f .before .args .row in
-    ap (λ (g : Given). accepted g) (colour-is (r .model) (r .a) (r .b) (r .c) (r .d) (f .before .pre .0) _ (sym (f .from-tag .ensures) ∙ c .before .before .before .colour .given .1) (omega arith) (omega arith) (omega arith) (omega arith) _ _ _)
-    ∙ ap (λ (p : ℕ). accepted (colour p (r .units) (r .model) (r .a ∷ r .b ∷ r .c ∷ r .d ∷ []) (r .kind))) (c .before .wide .ensures .0)
+    ap (λ (g : RecordRow). accepted g) (colour-is (r .model) (r .a) (r .b) (r .c) (r .d) (f .before .pre .0) _ (sym (f .from-tag .ensures) ∙ c .before .before .before .colour .given .1) (omega arith) (omega arith) (omega arith) (omega arith) _ _ _)
+    ∙ ap (λ (p : ℕ). accepted (colourRow p (r .units) (r .model) (r .a ∷ r .b ∷ r .c ∷ r .d ∷ []) (r .kind))) (c .before .wide .ensures .0)
 
 returns-2 : tie.Need-returns-2
 returns-2 c =

@@ -4,10 +4,11 @@ use lib.ListN.{length, drop}
 use lib.Seq.{sets}
 use native.Mathlib.Omega.{arith}
 use Rattle.algebra.specs.Numbers.{joined}
-use Rattle.ase.specs.Reading.{stopped, ase}
+use Rattle.ase.specs.Reading.{groupEndRead, ase}
 use Rattle.ase.specs.Row.{width, numbers}
 use Rattle.ase_read.specs.Table.{row}
-use Rattle.ase_read.specs.Raw.{rawRow, blockPlace, entriesOf}
+use Rattle.ase_read.specs.Table.{entriesOf}
+use Rattle.ase_read.specs.scaffold.Raw.{rawRow, blockPlace}
 use Rattle.ase_read.proofs.Filling.{place-first, length-entries, count-small, Here, here}
 use Rattle.algebra.proofs.Rows.{fill-turn, fill-end}
 use borrow.Author.Needs.{needs}
@@ -63,7 +64,7 @@ loop-again c =
     let s = st .args .file .now in
     let k = known tn in (
       omega (arith, tn .loop-test .taken),
-      fill-turn width row (entriesOf (ase s)) _ (l .table) (l .i) (l .inv .1) stopped (omega (arith, tn .loop-test .taken, length-entries s (st .args .n) (st .pre .0))) _ _
+      fill-turn width row (entriesOf (ase s)) _ (l .table) (l .i) (l .inv .1) groupEndRead (omega (arith, tn .loop-test .taken, length-entries s (st .args .n) (st .pre .0))) _ _
           (ap numbers (k .is-row) ∙ ap (rawRow s (l .at)) (sym (b .ensures))) refl (pr .put-row .ensures),
       pr .put-row .kept .1 .1 .1 .0 ∙ l .inv .2,
       b .ensures ∙ k .next,

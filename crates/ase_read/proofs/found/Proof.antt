@@ -4,9 +4,9 @@ use mathlib.Core.List.{List}
 use lib.ListN.{getD, take}
 use native.Mathlib.Omega.{arith}
 use Rattle.algebra.specs.Table.{accepted, whole}
-use Rattle.ase.specs.Row.{Given, width, taken, noRecord, group, givenIn, givenOf}
+use Rattle.ase.specs.Row.{RecordRow, width, taken, noRecord, groupStartRow, givenIn, givenOf}
 use Rattle.ase.proofs.Row.{row-back}
-use Rattle.ase_read.specs.Raw.{nextBlock, loaded, rawRow}
+use Rattle.ase_read.specs.scaffold.Raw.{nextBlock, loaded, rawRow}
 use Rattle.ase_read.proofs.Filling.{entryAt, Here, here}
 use Rattle.ase_read.proofs.Answers.{Hue, is-group, is-close, is-colour, record-is}
 use borrow.Author.Needs.{needs}
@@ -62,7 +62,7 @@ returns c =
     let r = c .before .before in
     let st = r .before .before .before .before .before .before .before .before in
     record-is _ _ (st .args .i) (st .pre .0) (st .pre .1) _
-    (ap (λ (p : ℕ). group p (r .record-at .result .units)) (c .wide .ensures .0) ∙ is-group (r .record-at .result) (entryAt (st .args .file .now) (st .args .i)) (stored r) (c .before .match .keys1))
+    (ap (λ (p : ℕ). groupStartRow p (r .record-at .result .units)) (c .wide .ensures .0) ∙ is-group (r .record-at .result) (entryAt (st .args .file .now) (st .args .i)) (stored r) (c .before .match .keys1))
 
 returns-2 : tie.Need-returns-2
 returns-2 c =

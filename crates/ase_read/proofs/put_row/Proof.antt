@@ -1,7 +1,7 @@
 use mathlib.Core.Path.{sym, ap, _∙_}
 use lib.Seq.{sets, length-take-le}
 use native.Mathlib.Omega.{arith}
-use Rattle.ase.specs.Row.{Given, numbers}
+use Rattle.ase.specs.Row.{RecordRow, numbers}
 use borrow.Author.Needs.{needs}
 use Rattle.ase_read.proofs.put_row.Statement.{statement}
 use Rattle.ase_read.proofs.put_row.Tie as tie
@@ -24,7 +24,7 @@ same-length c = search needs
 returns : tie.Need-returns
 returns c =
     let a = c .before .before .before .before .before .before .before .before .args in
-    c .before .before .put-numbers .ensures ∙ ap (λ (g : Given). sets (a .table .now) (a .to) (numbers g)) (c .before .before .before .before .numbers-in .ensures)
+    c .before .before .put-numbers .ensures ∙ ap (λ (g : RecordRow). sets (a .table .now) (a .to) (numbers g)) (c .before .before .before .before .numbers-in .ensures)
 
 pub put-row-spec : {M : Type 1} → statement M
 put-row-spec =

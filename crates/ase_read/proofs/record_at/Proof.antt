@@ -2,7 +2,7 @@ use mathlib.Core.Path.{refl, sym, ap, _∙_}
 use lib.ListN.{length}
 use native.Mathlib.Omega.{arith}
 use Rattle.ase_judge.specs.Answer.{report, told}
-use Rattle.ase.specs.Reading.{stopped, ase}
+use Rattle.ase.specs.Reading.{groupEndRead, ase}
 use Rattle.algebra.specs.Table.{seen}
 use Rattle.algebra.proofs.Table.{record-refused, record-none}
 use Rattle.ase.specs.Row.{givenOf}
@@ -26,7 +26,7 @@ returns c =
     let j = v .before .before in
     let a = j .before .before .args in
     let m = ase (a .file .now) in
-    ap (seen givenOf) (record-none (λ es. es) length (λ k. k) (λ es. refl) m stopped (a .i) (judged-of m (sym (ap told (v .blocks2 .given .1)) ∙ j .judge .ensures)) (omega (arith, c .if1 .taken)))
+    ap (seen givenOf) (record-none (λ es. es) length (λ k. k) (λ es. refl) m groupEndRead (a .i) (judged-of m (sym (ap told (v .blocks2 .given .1)) ∙ j .judge .ensures)) (omega (arith, c .if1 .taken)))
 
 found-requires : tie.Need-found-requires
 found-requires c κs =
@@ -38,7 +38,7 @@ returns-2 : tie.Need-returns-2
 returns-2 c =
     let x = c .before in
     let j = x .before .before in
-    ap (seen givenOf) (record-refused (λ es. es) report (λ b. b .0) (λ es. refl) (ase (j .before .before .args .file .now)) stopped (j .before .before .args .i) (sym (ap told (x .number .given .1)) ∙ j .judge .ensures))
+    ap (seen givenOf) (record-refused (λ es. es) report (λ b. b .0) (λ es. refl) (ase (j .before .before .args .file .now)) groupEndRead (j .before .before .args .i) (sym (ap told (x .number .given .1)) ∙ j .judge .ensures))
 
 returns-3 : tie.Need-returns-3
 returns-3 c = search needs

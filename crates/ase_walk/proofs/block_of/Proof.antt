@@ -1,8 +1,8 @@
 use mathlib.Core.Path.{_≡_, sym, ap, _∙_}
 use lib.ListN.{take}
 use lib.Seq.{length-take-le}
-use Rattle.ase.specs.Row.{Given, givenOf, givenIn}
-use Rattle.ase.specs.declared.Numbers.{Numbers}
+use Rattle.ase.specs.Row.{RecordRow, givenOf, givenIn}
+use Rattle.ase.specs.declared.RowNumbers.{RowNumbers}
 use Rattle.ase_read.proofs.Filling.{numbers-loaded}
 use Rattle.ase_read.proofs.Answers.{Hue, is-group, is-close, is-colour}
 use Rattle.walk.specs.Walk.{gives}
@@ -13,7 +13,7 @@ use Rattle.ase_walk.proofs.block_of.Statement.{statement}
 use Rattle.ase_walk.proofs.block_of.Tie as tie
 
 -- the numbers that were loaded
-abbrev numbersAt : tie.After-units-of → Numbers
+abbrev numbersAt : tie.After-units-of → RowNumbers
 numbersAt c = record {
   block = c .before .before .before .before .before .before .before .before .before .u16-or-zero .result;
   first = c .before .place-of .result;
@@ -115,19 +115,19 @@ returns : tie.Need-returns
 returns c =
     let st = c .before .before .before .before .before .before .before .before .before .before .before .before .before in
     let s = st .args .file .now in
-    stands-shown s (st .args .at) (st .args .end) (st .pre .2) _ (ap (λ (v : Given). gives v) (is-group (numbersAt (c .before)) (st .pre .2 .0) (loaded (c .before)) (c .match .keys1)))
+    stands-shown s (st .args .at) (st .args .end) (st .pre .2) _ (ap (λ (v : RecordRow). gives v) (is-group (numbersAt (c .before)) (st .pre .2 .0) (loaded (c .before)) (c .match .keys1)))
 
 returns-2 : tie.Need-returns-2
 returns-2 c =
     let st = c .before .before .before .before .before .before .before .before .before .before .before .before .before in
     let s = st .args .file .now in
-    stands-shown s (st .args .at) (st .args .end) (st .pre .2) _ (ap (λ (v : Given). gives v) (is-close (numbersAt (c .before)) (st .pre .2 .0) (loaded (c .before)) (c .match .keys2)))
+    stands-shown s (st .args .at) (st .args .end) (st .pre .2) _ (ap (λ (v : RecordRow). gives v) (is-close (numbersAt (c .before)) (st .pre .2 .0) (loaded (c .before)) (c .match .keys2)))
 
 returns-3 : tie.Need-returns-3
 returns-3 c =
     let st = c .before .before .before .before .before .before .before .before .before .before .before .before .before .before in
     let s = st .args .file .now in
-    stands-shown s (st .args .at) (st .args .end) (st .pre .2) _ (c .coloured .ensures ∙ ap (λ (v : Given). gives v) (hue (c .before) .shows))
+    stands-shown s (st .args .at) (st .args .end) (st .pre .2) _ (c .coloured .ensures ∙ ap (λ (v : RecordRow). gives v) (hue (c .before) .shows))
 
 pub block-of-spec : {M : Type 1} → statement M
 block-of-spec =

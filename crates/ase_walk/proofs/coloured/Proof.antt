@@ -1,6 +1,6 @@
 use mathlib.Core.Path.{sym, ap, _∙_}
 use native.Mathlib.Omega.{arith}
-use Rattle.ase.specs.Row.{Given}
+use Rattle.ase.specs.Row.{RecordRow}
 use Rattle.ase_read.proofs.Answers.{is-made, colour-is}
 use Rattle.walk.specs.Walk.{gives}
 use borrow.Author.Needs.{needs}
@@ -20,7 +20,7 @@ returns : tie.Need-returns
 returns c =
     let f = c .before .before .before in
     let a = f .before .args in
-    ap (λ (v : Given). gives v) (colour-is (a .tag) (a .a) (a .b) (a .c) (a .d) (f .before .pre) _ (sym (f .from-tag .ensures) ∙ c .before .colour .given .1) (omega arith) (omega arith) (omega arith) (omega arith) _ _ _)
+    ap (λ (v : RecordRow). gives v) (colour-is (a .tag) (a .a) (a .b) (a .c) (a .d) (f .before .pre) _ (sym (f .from-tag .ensures) ∙ c .before .colour .given .1) (omega arith) (omega arith) (omega arith) (omega arith) _ _ _)
 
 returns-2 : tie.Need-returns-2
 returns-2 c =

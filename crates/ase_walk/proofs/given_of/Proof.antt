@@ -1,6 +1,7 @@
 use mathlib.Core.Path.{sym, ap, _∙_}
 use mathlib.Core.Bool.{true≢false}
-use Rattle.ase_walk.specs.Answer.{toldBlock, passes}
+use Rattle.ase_walk.specs.Answer.{toldBlock}
+use Rattle.ase_walk.specs.scaffold.Answer.{passes}
 use Rattle.ase_walk.specs.declared.Block.{Block}
 use borrow.Author.Needs.{needs}
 use Rattle.ase_walk.proofs.given_of.Statement.{statement}

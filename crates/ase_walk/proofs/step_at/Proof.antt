@@ -4,10 +4,10 @@ use Prim.Native.Nat.{_-_}
 use mathlib.Core.Path.{_≡_, refl, sym, ap, _∙_}
 use native.Mathlib.Omega.{arith}
 use lib.ListN.{length}
-use Rattle.ase.specs.Row.{Given}
+use Rattle.ase.specs.Row.{RecordRow}
 use Rattle.walk.specs.Walk.{Call}
 use Rattle.ase_walk.specs.Walking.{walk}
-use Rattle.ase_walk.specs.Answer.{handed}
+use Rattle.ase_walk.specs.Answer.{callAndPlace}
 use Rattle.ase_walk.proofs.Stepping.{passes-on, ends-here}
 use Rattle.ase_walk.proofs.step_at.Statement.{statement}
 use Rattle.ase_walk.proofs.step_at.Tie as tie
@@ -35,8 +35,8 @@ returns : tie.Need-returns Inv-loop μ-loop
 returns c =
     let b = c .before .before .before .block-at in
     let l = c .before .before .before .before .before in
-    ap (λ (x : Call Given). (x, b .result .next)) (c .given-of .ensures)
-    ∙ ends-here (l .before .before .args .file .now) (l .loop .p) _ _ (sym (c .before .before .is-group .ensures) ∙ not-true _ (c .before .if1 .taken)) (b .ensures) ∙ sym (ap handed (l .loop .inv))
+    ap (λ (x : Call RecordRow). (x, b .result .next)) (c .given-of .ensures)
+    ∙ ends-here (l .before .before .args .file .now) (l .loop .p) _ _ (sym (c .before .before .is-group .ensures) ∙ not-true _ (c .before .if1 .taken)) (b .ensures) ∙ sym (ap callAndPlace (l .loop .inv))
 
 loop-less : tie.Need-loop-less Inv-loop μ-loop
 loop-less c =
@@ -57,7 +57,7 @@ ended-at-requires c κs = omega (arith, c .loop-test .left)
 
 returns-2 : tie.Need-returns-2 Inv-loop μ-loop
 returns-2 c =
-    c .ended-at .ensures ∙ sym (ap handed (c .before .before .loop .inv))
+    c .ended-at .ensures ∙ sym (ap callAndPlace (c .before .before .loop .inv))
 
 pub step-at-spec : {M : Type 1} → statement M
 step-at-spec =

@@ -1,4 +1,4 @@
-use Rattle.ase_records.proofs.Judging.{size-least, size-colour, sound}
+use Rattle.ase_write_judge.proofs.Judging.{size-least, size-colour, sound}
 use Rattle.ase_write.proofs.Puts.{type-small, size-name, sound-name, sound-colour, put-stop, put-start, put-colour}
 use mathlib.Core.Path.{refl}
 use native.Mathlib.Omega.{arith}
@@ -64,20 +64,20 @@ returns-2 c =
     let f = sound (a .text .now) 1 g (s .pre .0 .sound) in
     put-start (a .text .now) g refl f (a .out .now) _ _ (a .at) (a .size) (s .pre .1) (s .pre .0 .inside) (c .before .before .before .before .before .before .before .before .before .before .before .before .before .before .put-u16 .ensures) (c .before .before .before .before .before .before .before .before .before .before .put-u32 .ensures) _ (c .before .before .before .before .put-name .ensures) (c .if2 .taken)
 
-add-put-shade : tie.Need-add-put-shade
-add-put-shade c = search needs
+add-put-after-name : tie.Need-add-put-after-name
+add-put-after-name c = search needs
 
 wide-requires : tie.Need-wide-requires
 wide-requires c κs = search needs
 
-mul-put-shade : tie.Need-mul-put-shade
-mul-put-shade c = search needs
+mul-put-after-name : tie.Need-mul-put-after-name
+mul-put-after-name c = search needs
 
-add-put-shade-2 : tie.Need-add-put-shade-2
-add-put-shade-2 c = search needs
+add-put-after-name-2 : tie.Need-add-put-after-name-2
+add-put-after-name-2 c = search needs
 
-put-shade-requires : tie.Need-put-shade-requires
-put-shade-requires c κs =
+put-after-name-requires : tie.Need-put-after-name-requires
+put-after-name-requires c κs =
     let s = c .before .before .before .before .before .before .before .before .before .before .before .before .before .before .before .before .before .before .before .before .before in
     let a = s .args in
     let g = givenIn (a .given) in
@@ -97,7 +97,7 @@ returns-3 c =
     let a = s .args in
     let g = givenIn (a .given) in
     let f = sound (a .text .now) 1 g (s .pre .0 .sound) in
-    put-colour (a .text .now) g refl f (a .out .now) _ _ (a .at) (a .size) (s .pre .1) (s .pre .0 .inside) (c .before .before .before .before .before .before .before .before .before .before .before .before .before .before .before .before .before .before .before .put-u16 .ensures) (c .before .before .before .before .before .before .before .before .before .before .before .before .before .before .before .put-u32 .ensures) _ (c .before .before .before .before .before .before .before .before .before .put-name .ensures) (c .before .before .before .before .before .before .before .before .before .before .before .if1 .left) (c .before .before .before .before .before .if2 .left) _ _ (c .before .before .before .wide .ensures .0) (c .before .before .put-shade .ensures)
+    put-colour (a .text .now) g refl f (a .out .now) _ _ (a .at) (a .size) (s .pre .1) (s .pre .0 .inside) (c .before .before .before .before .before .before .before .before .before .before .before .before .before .before .before .before .before .before .before .put-u16 .ensures) (c .before .before .before .before .before .before .before .before .before .before .before .before .before .before .before .put-u32 .ensures) _ (c .before .before .before .before .before .before .before .before .before .put-name .ensures) (c .before .before .before .before .before .before .before .before .before .before .before .if1 .left) (c .before .before .before .before .before .if2 .left) _ _ (c .before .before .before .wide .ensures .0) (c .before .before .put-after-name .ensures)
 
 pub put-block-spec : {M : Type 1} → statement M
 put-block-spec =
@@ -115,10 +115,10 @@ put-block-spec =
     put-name-requires
     same-length-2
     returns-2
-    add-put-shade
+    add-put-after-name
     wide-requires
-    mul-put-shade
-    add-put-shade-2
-    put-shade-requires
+    mul-put-after-name
+    add-put-after-name-2
+    put-after-name-requires
     same-length-3
     returns-3)

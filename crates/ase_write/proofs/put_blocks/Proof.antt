@@ -1,4 +1,4 @@
-use Rattle.ase_records.proofs.Judging.{fit-start, fit-next, fit-rest}
+use Rattle.ase_write_judge.proofs.Judging.{fit-start, fit-next, fit-rest}
 use Rattle.ase_write.proofs.Puts.{puts-start, puts-turn, puts-end}
 use lib.Seq.{sets}
 use mathlib.Core.List.{map}
@@ -7,8 +7,8 @@ use Rattle.ase.specs.Grammar.{blockBytes}
 use Rattle.algebra.specs.Table.{rowAt, rows}
 use Rattle.algebra.proofs.Table.{whole-in}
 use Rattle.ase.specs.Row.{width, taken, noRecord, givenIn}
-use Rattle.ase_records.specs.Writing.{blockIn, sizeIn}
-use Rattle.ase_records.specs.Parts.{RecordFits, RecordsFit}
+use Rattle.ase_write_judge.specs.Writing.{blockIn, sizeIn}
+use Rattle.ase_write_judge.specs.scaffold.Parts.{RecordFits, RecordsFit}
 use mathlib.Core.Path.{subst, _≡_, refl, sym, ap, _∙_}
 use native.Mathlib.Omega.{arith}
 use borrow.Author.Needs.{needs}

@@ -1,5 +1,5 @@
 use Rattle.algebra.proofs.Counted.{length-counted}
-use Rattle.ase_records.proofs.Judging.{sizes-all}
+use Rattle.ase_write_judge.proofs.Judging.{sizes-all}
 use Rattle.ase_write.proofs.Puts.{put-file}
 use native.Mathlib.Omega.{arith}
 use Rattle.algebra.specs.Table.{rowAt, rows}

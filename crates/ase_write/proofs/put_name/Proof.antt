@@ -1,9 +1,9 @@
-use Rattle.ase_records.proofs.Judging.{name-lies, name-inside}
+use Rattle.ase_write_judge.proofs.Judging.{name-lies, name-inside}
 use Rattle.ase_write.proofs.Puts.{put-name}
 use Rattle.algebra.specs.Store.{stored, part}
 use Rattle.algebra.specs.Text.{countedUnits}
 use Rattle.ase.specs.Row.{givenIn}
-use Rattle.ase_records.specs.Parts.{start}
+use Rattle.ase_write_judge.specs.scaffold.Parts.{start}
 use Prim.Native.Nat.{ℕ, _+_, _-_, _*_}
 use mathlib.Core.Path.{ap, _∙_}
 use native.Mathlib.Omega.{arith}

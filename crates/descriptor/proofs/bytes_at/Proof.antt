@@ -1,6 +1,6 @@
 use mathlib.Core.Path.{refl}
 use Rattle.fields.specs.Answer.{told32}
-use Rattle.descriptor.specs.Reading.{run}
+use Rattle.descriptor.specs.Reading.{rawBytes}
 use Rattle.descriptor.proofs.Fields.{after}
 use borrow.Author.Needs.{needs}
 use Rattle.descriptor.proofs.bytes_at.Statement.{statement}
@@ -16,7 +16,7 @@ enum-told : tie.Need-enum-told
 enum-told c = search needs
 
 returns : tie.Need-returns
-unfolding run
+unfolding rawBytes
 returns c =
     let call = c .before .before in
     after (told32 (call .before .before .args .at)) (call .u32-at .ensures) (c .enum-told .given .1) _ refl
@@ -28,7 +28,7 @@ run-at-requires : tie.Need-run-at-requires
 run-at-requires c κs = search needs
 
 returns-2 : tie.Need-returns-2
-unfolding run
+unfolding rawBytes
 returns-2 c =
     let nn = c .before .before in
     let call = nn .before .before in

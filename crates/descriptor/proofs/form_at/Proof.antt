@@ -1,4 +1,4 @@
-use Rattle.descriptor.specs.Answer.{readerOf}
+use Rattle.descriptor.specs.scaffold.Answer.{readerOf}
 use mathlib.Core.Path.{sym, ap, _∙_}
 use borrow.Author.Needs.{needs}
 use Rattle.descriptor.proofs.form_at.Statement.{statement}

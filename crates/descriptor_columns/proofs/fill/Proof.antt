@@ -5,7 +5,7 @@ use lib.ListN.{length, set, getD, length-set}
 use native.Mathlib.Omega.{arith}
 use borrow.Author.Needs.{needs}
 use Rattle.algebra.specs.Reader.{pick}
-use Rattle.descriptor_columns.specs.Filling.{rest}
+use Rattle.descriptor_columns.specs.scaffold.Filling.{rest}
 use Rattle.descriptor_columns.proofs.Levels.{level, nothing}
 use Rattle.descriptor_columns.proofs.Turns as T
 use Rattle.descriptor_columns.proofs.Turns.{Loop}

@@ -3,7 +3,7 @@ use mathlib.Core.Path.{_≡_, refl}
 use lib.ListN.{length}
 use native.Mathlib.Omega.{arith}
 use borrow.Author.Needs.{needs}
-use Rattle.descriptor_columns.specs.Filling.{rest}
+use Rattle.descriptor_columns.specs.scaffold.Filling.{rest}
 use Rattle.descriptor_columns.proofs.Valued as W
 use Rattle.descriptor_columns.proofs.fill_values.Statement.{statement}
 use Rattle.descriptor_columns.proofs.fill_values.Tie as tie

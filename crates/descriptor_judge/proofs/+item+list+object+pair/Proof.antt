@@ -11,8 +11,8 @@ use Rattle.algebra.proofs.Laws.{field-next}
 use Rattle.descriptor.specs.Reading.{list as list-sort, object as object-sort, reference as reference-sort, array as array-sort}
 use Rattle.descriptor.proofs.Ends.{accepted}
 use Rattle.descriptor.proofs.Tiling.{reach}
-use Rattle.descriptor_judge.specs.Cycle.{memberOf}
-use Rattle.descriptor_judge.specs.Counting.{walked}
+use Rattle.descriptor_judge.specs.scaffold.Cycle.{memberOf}
+use Rattle.descriptor_judge.specs.scaffold.Counting.{walked}
 use Rattle.descriptor_judge.proofs.Alike.{alike-member}
 use Rattle.descriptor_judge.proofs.Counting.{walked-no, holder-small, Going, going-start, turn, turn-no, turn-reach, all-read}
 use Rattle.descriptor_judge.proofs.Items.{item-holds, item-ends, item-stops, item-unknown, holder-short, holder-counts}

@@ -1,7 +1,7 @@
 use Rattle.descriptor.proofs.Ends.{accepted, class-past}
 use Rattle.algebra.proofs.Laws.{field-next}
 use Rattle.fields.specs.Answer.{told32, toldStep}
-use Rattle.descriptor_judge.specs.Counting.{walked}
+use Rattle.descriptor_judge.specs.scaffold.Counting.{walked}
 use Rattle.descriptor_judge.proofs.Counting.{walked-no}
 use Rattle.descriptor_judge.proofs.Steps.{array-cut, array-no, array-in}
 use native.Mathlib.Omega.{arith}

@@ -1,6 +1,6 @@
 use Rattle.descriptor.specs.Reading.{column}
 use Rattle.fields.specs.Answer.{told32, toldStep}
-use Rattle.descriptor_judge.specs.Counting.{walked, single}
+use Rattle.descriptor_judge.specs.scaffold.Counting.{walked, single}
 use Rattle.descriptor_judge.proofs.Counting.{walked-no, walked-plain}
 use Rattle.descriptor_judge.proofs.Steps.{array-deep, array-id, array-short, array-other, array-is}
 use mathlib.Core.Path.{sym, ap, _∙_}

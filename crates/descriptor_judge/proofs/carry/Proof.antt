@@ -1,6 +1,6 @@
 use mathlib.Core.Path.{sym, subst, _∙_}
 use borrow.Author.Needs.{needs}
-use Rattle.descriptor_judge.specs.Counting.{Small}
+use Rattle.descriptor_judge.specs.scaffold.Counting.{Small}
 use Rattle.descriptor_judge.proofs.carry.Statement.{statement}
 use Rattle.descriptor_judge.proofs.carry.Tie as tie
 

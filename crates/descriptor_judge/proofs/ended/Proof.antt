@@ -1,4 +1,4 @@
-use Rattle.descriptor_judge.specs.Answer.{closing}
+use Rattle.descriptor_judge.specs.scaffold.Answer.{closing}
 use borrow.Author.Tests.{eq-eqb, ne-eqb}
 use mathlib.Core.Path.{sym, ap, _∙_}
 use borrow.Author.Needs.{needs}

@@ -1,8 +1,8 @@
 use mathlib.Core.Path.{sym, ap, _∙_}
 use mathlib.Core.Bool.{Bool, true, false}
 use borrow.Author.Needs.{needs}
-use Rattle.descriptor_judge.specs.Cycle.{heldOf}
-use Rattle.descriptor_judge.specs.Counting.{walked}
+use Rattle.descriptor_judge.specs.scaffold.Cycle.{heldOf}
+use Rattle.descriptor_judge.specs.scaffold.Counting.{walked}
 use Rattle.descriptor_judge.proofs.Counting.{held-small}
 use Rattle.descriptor_judge.proofs.held.Statement.{statement}
 use Rattle.descriptor_judge.proofs.held.Tie as tie

@@ -1,7 +1,7 @@
-use Rattle.descriptor.specs.Answer.{known, readerOf}
+use Rattle.descriptor.specs.scaffold.Answer.{known, readerOf}
 use Rattle.descriptor.specs.Reading.{refValue}
 use Rattle.fields.specs.Answer.{told32}
-use Rattle.descriptor_judge.specs.Counting.{walked, single}
+use Rattle.descriptor_judge.specs.scaffold.Counting.{walked, single}
 use Rattle.descriptor_judge.proofs.Counting.{walked-no, walked-plain}
 use Rattle.descriptor_judge.proofs.Steps.{ref-deep, ref-short, ref-unknown, ref-is}
 use mathlib.Core.Path.{sym, ap, _∙_}

@@ -1,7 +1,8 @@
+use Rattle.algebra.specs.Chars.{chars}
 use Rattle.descriptor.specs.Reading.{item, objectOf}
 use Rattle.algebra.proofs.Laws.{field-next}
 use Rattle.fields.specs.Answer.{told32}
-use Rattle.descriptor_judge.specs.Counting.{walked, ownToo}
+use Rattle.descriptor_judge.specs.scaffold.Counting.{walked, ownToo}
 use Rattle.descriptor_judge.proofs.Counting.{walked-no, walked-headed}
 use Rattle.descriptor_judge.proofs.Steps.{root-short, root-other, root-is}
 use native.Mathlib.Omega.{arith}
@@ -42,7 +43,7 @@ returns-3 : tie.Need-returns-3
 returns-3 c =
     let a = c .before .before .before .before .before .before .before .before .args in
     c .with-own .ensures ∙ ap ownToo (c .before .object .ensures)
-    ∙ walked-headed 0x4f62_6a63 32 0 0 _ (objectOf (item 32) 32 0 (a .file .now) _)
+    ∙ walked-headed (chars "Objc") 32 0 0 _ (objectOf (item 32) 32 0 (a .file .now) _)
     ∙ sym (ap walked (root-is (a .file .now) 0 (sym (ap (told32 _) (c .before .before .before .before .version .given .1)) ∙ c .before .before .before .before .before .before .u32-at .ensures) (c .before .before .if1 .left)))
 
 pub root-spec : {M : Type 1} → statement M

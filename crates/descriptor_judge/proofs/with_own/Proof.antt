@@ -1,6 +1,6 @@
 use mathlib.Core.Path.{sym, ap}
 use borrow.Author.Needs.{needs}
-use Rattle.descriptor_judge.specs.Counting.{ownToo}
+use Rattle.descriptor_judge.specs.scaffold.Counting.{ownToo}
 use Rattle.descriptor_judge.proofs.Counting.{next-is, refused-is}
 use Rattle.descriptor_judge.proofs.with_own.Statement.{statement}
 use Rattle.descriptor_judge.proofs.with_own.Tie as tie

@@ -7,7 +7,7 @@ use borrow.Author.Needs.{needs}
 use Rattle.descriptor.specs.Reading.{Row}
 use Rattle.listing.specs.Buffer.{putAll}
 use Rattle.listing.specs.Text.{lines}
-use Rattle.descriptor_list.specs.Held.{Held}
+use Rattle.descriptor_list.specs.scaffold.Held.{Held}
 use Rattle.descriptor_list.specs.Listing.{line}
 use Rattle.descriptor_list.proofs.Listed.{row-turn, rows-end}
 use Rattle.descriptor_list.proofs.put_rows.Statement.{statement}

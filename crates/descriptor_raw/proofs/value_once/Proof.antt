@@ -2,9 +2,10 @@ use mathlib.Core.Path.{_≡_, refl, sym, ap, _∙_}
 use mathlib.Core.List.{List, [], _∷_}
 use native.Mathlib.Omega.{arith}
 use Prim.Native.Nat.{ℕ, _+_}
+use Rattle.algebra.specs.Chars.{chars}
 use Rattle.descriptor_raw.proofs.Laws as L
 use Rattle.descriptor.proofs.Keys.{at-keys, past-keys}
-use Rattle.descriptor.specs.Reading.{is, leaf, list, object, reference, array, skip, unicode, class, flag, double, enumerated, run, unitDouble, types, sortOf}
+use Rattle.descriptor.specs.Reading.{is, leaf, list, object, reference, array, skip, unicode, class, flag, double, enumerated, rawBytes, unitDouble, types, sortOf}
 use borrow.Author.Needs.{needs}
 use Rattle.descriptor_raw.proofs.value_once.Statement.{statement}
 use Rattle.descriptor_raw.proofs.value_once.Tie as tie
@@ -131,91 +132,91 @@ returns : tie.Need-returns
 unfolding sortOf
 returns c =
     let a = c .before .before .before .args in
-    L.as-leaf (a .file .now) (a .kind) (a .v) flag _ _ (c .leaf .ensures) (at-keys sortOf (is (leaf flag)) (0x626f_6f6c ∷ []) _ (refl, tt) (c .before .match .keys1)) (λ q e. L.flag-ends (a .file .now) (a .v) q e)
+    L.as-leaf (a .file .now) (a .kind) (a .v) flag _ _ (c .leaf .ensures) (at-keys sortOf (is (leaf flag)) (chars "bool" ∷ []) _ (refl, tt) (c .before .match .keys1)) (λ q e. L.flag-ends (a .file .now) (a .v) q e)
 
 -- src/lib.rt:117:1
 returns-2 : tie.Need-returns-2
 unfolding sortOf
 returns-2 c =
     let a = c .before .before .before .before .args in
-    L.as-leaf (a .file .now) (a .kind) (a .v) class _ _ (c .leaf2 .ensures) (at-keys sortOf (is (leaf class)) (0x476c_6243 ∷ 0x7479_7065 ∷ []) _ (refl, (refl, tt)) (c .before .before .match .keys2)) (c .before .class-end .ensures .ends)
+    L.as-leaf (a .file .now) (a .kind) (a .v) class _ _ (c .leaf2 .ensures) (at-keys sortOf (is (leaf class)) (chars "GlbC" ∷ chars "type" ∷ []) _ (refl, (refl, tt)) (c .before .before .match .keys2)) (c .before .class-end .ensures .ends)
 
 -- src/lib.rt:117:1
 returns-3 : tie.Need-returns-3
 unfolding sortOf
 returns-3 c =
     let a = c .before .before .before .args in
-    L.as-leaf (a .file .now) (a .kind) (a .v) double _ _ (c .leaf3 .ensures) (at-keys sortOf (is (leaf double)) (0x646f_7562 ∷ []) _ (refl, tt) (c .before .match .keys3)) (λ q e. L.double-ends (a .file .now) (a .v) q e)
+    L.as-leaf (a .file .now) (a .kind) (a .v) double _ _ (c .leaf3 .ensures) (at-keys sortOf (is (leaf double)) (chars "doub" ∷ []) _ (refl, tt) (c .before .match .keys3)) (λ q e. L.double-ends (a .file .now) (a .v) q e)
 
 -- src/lib.rt:117:1
 returns-4 : tie.Need-returns-4
 unfolding sortOf
 returns-4 c =
     let a = c .before .before .before .before .args in
-    L.as-leaf (a .file .now) (a .kind) (a .v) enumerated _ _ (c .leaf4 .ensures) (at-keys sortOf (is (leaf enumerated)) (0x656e_756d ∷ []) _ (refl, tt) (c .before .before .match .keys4)) (c .before .enumerated-end .ensures .ends)
+    L.as-leaf (a .file .now) (a .kind) (a .v) enumerated _ _ (c .leaf4 .ensures) (at-keys sortOf (is (leaf enumerated)) (chars "enum" ∷ []) _ (refl, tt) (c .before .before .match .keys4)) (c .before .enumerated-end .ensures .ends)
 
 -- src/lib.rt:117:1
 returns-5 : tie.Need-returns-5
 unfolding sortOf
 returns-5 c =
     let a = c .before .before .before .before .args in
-    L.as-leaf (a .file .now) (a .kind) (a .v) run _ _ (c .leaf5 .ensures) (at-keys sortOf (is (leaf run)) (0x5074_6820 ∷ 0x616c_6973 ∷ 0x7464_7461 ∷ []) _ (refl, (refl, (refl, tt))) (c .before .before .match .keys5)) (c .before .run-end .ensures .ends)
+    L.as-leaf (a .file .now) (a .kind) (a .v) rawBytes _ _ (c .leaf5 .ensures) (at-keys sortOf (is (leaf rawBytes)) (chars "Pth " ∷ chars "alis" ∷ chars "tdta" ∷ []) _ (refl, (refl, (refl, tt))) (c .before .before .match .keys5)) (c .before .run-end .ensures .ends)
 
 -- src/lib.rt:117:1
 returns-6 : tie.Need-returns-6
 unfolding sortOf
 returns-6 c =
     let a = c .before .before .before .args in
-    L.as-leaf (a .file .now) (a .kind) (a .v) (skip 4) _ _ (c .leaf6 .ensures) (at-keys sortOf (is (leaf (skip 4))) (0x6c6f_6e67 ∷ []) _ (refl, tt) (c .before .match .keys6)) (λ q e. L.skip-ends 4 (a .file .now) (a .v) q e)
+    L.as-leaf (a .file .now) (a .kind) (a .v) (skip 4) _ _ (c .leaf6 .ensures) (at-keys sortOf (is (leaf (skip 4))) (chars "long" ∷ []) _ (refl, tt) (c .before .match .keys6)) (λ q e. L.skip-ends 4 (a .file .now) (a .v) q e)
 
 -- src/lib.rt:117:1
 returns-7 : tie.Need-returns-7
 unfolding sortOf
 returns-7 c =
     let a = c .before .before .before .args in
-    L.as-leaf (a .file .now) (a .kind) (a .v) (skip 8) _ _ (c .leaf7 .ensures) (at-keys sortOf (is (leaf (skip 8))) (0x636f_6d70 ∷ []) _ (refl, tt) (c .before .match .keys7)) (λ q e. L.skip-ends 8 (a .file .now) (a .v) q e)
+    L.as-leaf (a .file .now) (a .kind) (a .v) (skip 8) _ _ (c .leaf7 .ensures) (at-keys sortOf (is (leaf (skip 8))) (chars "comp" ∷ []) _ (refl, tt) (c .before .match .keys7)) (λ q e. L.skip-ends 8 (a .file .now) (a .v) q e)
 
 -- src/lib.rt:117:1
 returns-8 : tie.Need-returns-8
 unfolding sortOf
 returns-8 c =
     let a = c .before .before .before .before .args in
-    L.as-leaf (a .file .now) (a .kind) (a .v) unicode _ _ (c .leaf8 .ensures) (at-keys sortOf (is (leaf unicode)) (0x5445_5854 ∷ []) _ (refl, tt) (c .before .before .match .keys8)) (c .before .text-end .ensures .ends)
+    L.as-leaf (a .file .now) (a .kind) (a .v) unicode _ _ (c .leaf8 .ensures) (at-keys sortOf (is (leaf unicode)) (chars "TEXT" ∷ []) _ (refl, tt) (c .before .before .match .keys8)) (c .before .text-end .ensures .ends)
 
 -- src/lib.rt:117:1
 returns-9 : tie.Need-returns-9
 unfolding sortOf
 returns-9 c =
     let a = c .before .before .before .args in
-    L.as-leaf (a .file .now) (a .kind) (a .v) unitDouble _ _ (c .leaf9 .ensures) (at-keys sortOf (is (leaf unitDouble)) (0x556e_7446 ∷ []) _ (refl, tt) (c .before .match .keys9)) (λ q e. L.unit-ends (a .file .now) (a .v) q e)
+    L.as-leaf (a .file .now) (a .kind) (a .v) unitDouble _ _ (c .leaf9 .ensures) (at-keys sortOf (is (leaf unitDouble)) (chars "UntF" ∷ []) _ (refl, tt) (c .before .match .keys9)) (λ q e. L.unit-ends (a .file .now) (a .v) q e)
 
 -- src/lib.rt:117:1
 returns-10 : tie.Need-returns-10
 unfolding sortOf
 returns-10 c =
     let a = c .before .before .before .args in
-    L.as-list (a .file .now) (a .kind) (a .v) _ (c .opens .ensures) (at-keys sortOf (is list) (0x566c_4c73 ∷ []) _ (refl, tt) (c .before .match .keys10))
+    L.as-list (a .file .now) (a .kind) (a .v) _ (c .opens .ensures) (at-keys sortOf (is list) (chars "VlLs" ∷ []) _ (refl, tt) (c .before .match .keys10))
 
 -- src/lib.rt:117:1
 returns-11 : tie.Need-returns-11
 unfolding sortOf
 returns-11 c =
     let a = c .before .before .before .before .args in
-    L.as-object (a .file .now) (a .kind) (a .v) _ _ _ (c .opens2 .ensures) (at-keys sortOf (is object) (0x476c_624f ∷ 0x4f62_6a63 ∷ []) _ (refl, (refl, tt)) (c .before .before .match .keys11)) (c .before .class-end2 .ensures)
+    L.as-object (a .file .now) (a .kind) (a .v) _ _ _ (c .opens2 .ensures) (at-keys sortOf (is object) (chars "GlbO" ∷ chars "Objc" ∷ []) _ (refl, (refl, tt)) (c .before .before .match .keys11)) (c .before .class-end2 .ensures)
 
 -- src/lib.rt:117:1
 returns-12 : tie.Need-returns-12
 unfolding sortOf
 returns-12 c =
     let a = c .before .before .before .args in
-    L.as-reference (a .file .now) (a .kind) (a .v) _ (c .opens3 .ensures) (at-keys sortOf (is reference) (0x6f62_6a20 ∷ []) _ (refl, tt) (c .before .match .keys12))
+    L.as-reference (a .file .now) (a .kind) (a .v) _ (c .opens3 .ensures) (at-keys sortOf (is reference) (chars "obj " ∷ []) _ (refl, tt) (c .before .match .keys12))
 
 -- src/lib.rt:117:1
 returns-13 : tie.Need-returns-13
 unfolding sortOf
 returns-13 c =
     let a = c .before .before .before .before .before .args in
-    L.as-array (a .file .now) (a .kind) (a .v) _ _ _ _ (c .before .before .u32-or-zero .ensures) (c .opens4 .ensures) (at-keys sortOf (is array) (0x4f62_4172 ∷ []) _ (refl, tt) (c .before .before .before .match .keys13)) (c .before .class-end3 .ensures)
+    L.as-array (a .file .now) (a .kind) (a .v) _ _ _ _ (c .before .before .u32-or-zero .ensures) (c .opens4 .ensures) (at-keys sortOf (is array) (chars "ObAr" ∷ []) _ (refl, tt) (c .before .before .before .match .keys13)) (c .before .class-end3 .ensures)
 
 -- src/lib.rt:117:1
 returns-14 : tie.Need-returns-14
@@ -223,7 +224,7 @@ unfolding sortOf
 returns-14 c =
     let a = c .before .before .before .args in
     let r = c .before .match .rest in
-    L.as-unknown (a .file .now) (a .kind) (a .v) _ (ap (λ h. h .kind) (c .leaf10 .ensures)) (ap (λ h. h .value) (c .leaf10 .ensures)) (past-keys ((0x626f_6f6c ∷ []) ∷ (0x476c_6243 ∷ 0x7479_7065 ∷ []) ∷ (0x646f_7562 ∷ []) ∷ (0x656e_756d ∷ []) ∷ (0x5074_6820 ∷ 0x616c_6973 ∷ 0x7464_7461 ∷ []) ∷ (0x6c6f_6e67 ∷ []) ∷ (0x636f_6d70 ∷ []) ∷ (0x5445_5854 ∷ []) ∷ (0x556e_7446 ∷ []) ∷ (0x566c_4c73 ∷ []) ∷ (0x476c_624f ∷ 0x4f62_6a63 ∷ []) ∷ (0x6f62_6a20 ∷ []) ∷ (0x4f62_4172 ∷ []) ∷ []) types _ tt (r .0 .0 .0 .0 .0 .0 .0 .0 .0 .0 .0 .0 .1, (r .0 .0 .0 .0 .0 .0 .0 .0 .0 .0 .0 .1, (r .0 .0 .0 .0 .0 .0 .0 .0 .0 .0 .1, (r .0 .0 .0 .0 .0 .0 .0 .0 .0 .1, (r .0 .0 .0 .0 .0 .0 .0 .0 .1, (r .0 .0 .0 .0 .0 .0 .0 .1, (r .0 .0 .0 .0 .0 .0 .1, (r .0 .0 .0 .0 .0 .1, (r .0 .0 .0 .0 .1, (r .0 .0 .0 .1, (r .0 .0 .1, (r .0 .1, (r .1, tt))))))))))))))
+    L.as-unknown (a .file .now) (a .kind) (a .v) _ (ap (λ h. h .kind) (c .leaf10 .ensures)) (ap (λ h. h .value) (c .leaf10 .ensures)) (past-keys ((chars "bool" ∷ []) ∷ (chars "GlbC" ∷ chars "type" ∷ []) ∷ (chars "doub" ∷ []) ∷ (chars "enum" ∷ []) ∷ (chars "Pth " ∷ chars "alis" ∷ chars "tdta" ∷ []) ∷ (chars "long" ∷ []) ∷ (chars "comp" ∷ []) ∷ (chars "TEXT" ∷ []) ∷ (chars "UntF" ∷ []) ∷ (chars "VlLs" ∷ []) ∷ (chars "GlbO" ∷ chars "Objc" ∷ []) ∷ (chars "obj " ∷ []) ∷ (chars "ObAr" ∷ []) ∷ []) types _ tt (r .0 .0 .0 .0 .0 .0 .0 .0 .0 .0 .0 .0 .1, (r .0 .0 .0 .0 .0 .0 .0 .0 .0 .0 .0 .1, (r .0 .0 .0 .0 .0 .0 .0 .0 .0 .0 .1, (r .0 .0 .0 .0 .0 .0 .0 .0 .0 .1, (r .0 .0 .0 .0 .0 .0 .0 .0 .1, (r .0 .0 .0 .0 .0 .0 .0 .1, (r .0 .0 .0 .0 .0 .0 .1, (r .0 .0 .0 .0 .0 .1, (r .0 .0 .0 .0 .1, (r .0 .0 .0 .1, (r .0 .0 .1, (r .0 .1, (r .1, tt))))))))))))))
 
 pub value-once-spec : {M : Type 1} → statement M
 value-once-spec =

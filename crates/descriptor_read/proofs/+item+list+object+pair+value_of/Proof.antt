@@ -12,7 +12,7 @@ use Rattle.descriptor.specs.Reading.{leaf, list as list-sort, object as object-
 use Rattle.descriptor.proofs.Ends.{accepted}
 use Rattle.descriptor.proofs.Tiling.{reach, value-past}
 use Rattle.descriptor.proofs.Fields.{then-no, then-to}
-use Rattle.descriptor_judge.specs.Cycle.{memberOf}
+use Rattle.descriptor_judge.specs.scaffold.Cycle.{memberOf}
 use Rattle.descriptor_judge.proofs.Steps as S
 use Rattle.descriptor_read.proofs.Steps.{item-value, value-is, value-unknown}
 use Rattle.descriptor_read.proofs.Going.{Going, going-start, going-length, turn, turn-no, all-done, done-no, done-eq, done-past, leaf-done, row-done, row-no}

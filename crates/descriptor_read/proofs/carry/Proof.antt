@@ -1,6 +1,6 @@
 use mathlib.Core.Path.{sym, subst, _∙_}
 use borrow.Author.Needs.{needs}
-use Rattle.descriptor_read.specs.Carried.{Small}
+use Rattle.descriptor_read.specs.scaffold.Carried.{Small}
 use Rattle.descriptor_read.proofs.carry.Statement.{statement}
 use Rattle.descriptor_read.proofs.carry.Tie as tie
 

@@ -1,4 +1,4 @@
-use Rattle.descriptor.specs.Answer.{endOf}
+use Rattle.descriptor.specs.scaffold.Answer.{endOf}
 use Rattle.fields.specs.Answer.{toldStep}
 use mathlib.Core.Path.{sym, ap}
 use borrow.Author.Needs.{needs}

@@ -1,5 +1,5 @@
 use Rattle.descriptor_read.proofs.Values.{row-refused, row-past, within, row-found}
-use Rattle.descriptor_read.specs.Values.{extentOf}
+use Rattle.descriptor_read.specs.scaffold.Values.{extentOf}
 use Rattle.descriptor_judge.specs.Answer.{told}
 use mathlib.Core.Path.{sym, ap, _∙_}
 use borrow.Author.Needs.{needs}

@@ -1,7 +1,7 @@
 use mathlib.Core.Path.{ap}
 use mathlib.Core.Bool.{Bool, true, false}
 use borrow.Author.Needs.{needs}
-use Rattle.descriptor_judge.specs.Cycle.{heldOf}
+use Rattle.descriptor_judge.specs.scaffold.Cycle.{heldOf}
 use Rattle.descriptor_read.proofs.Going.{done-eq}
 use Rattle.descriptor_read.proofs.Carried.{carry, held-small}
 use Rattle.descriptor_read.proofs.held.Statement.{statement}

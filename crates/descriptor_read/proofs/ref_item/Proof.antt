@@ -2,7 +2,7 @@ use Rattle.descriptor.proofs.Fields.{then-no, then-to}
 use Rattle.descriptor_read.proofs.Going.{done-no, done-eq, headed-no, closed}
 use Rattle.descriptor_judge.proofs.Steps.{ref-deep, ref-short, ref-unknown, ref-is}
 use Rattle.descriptor.proofs.Ends.{accepted, form-takes, ref-past}
-use Rattle.descriptor.specs.Answer.{known, readerOf}
+use Rattle.descriptor.specs.scaffold.Answer.{known, readerOf}
 use Rattle.descriptor.specs.Reading.{refValue}
 use Rattle.algebra.proofs.Laws.{field-next}
 use Rattle.fields.specs.Answer.{told32, toldStep}

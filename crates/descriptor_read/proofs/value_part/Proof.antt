@@ -1,5 +1,5 @@
 use Rattle.descriptor_read.proofs.Values.{part-no, part-inside, part-small, part-is}
-use Rattle.descriptor_read.specs.Values.{toldExtent}
+use Rattle.descriptor_read.specs.scaffold.Values.{toldExtent}
 use lib.ListN.{take, drop}
 use native.Mathlib.Omega.{arith}
 use mathlib.Core.Path.{_≡_, sym, ap, _∙_}

@@ -6,13 +6,13 @@ use borrow.Author.Needs.{needs}
 use Rattle.algebra.specs.Numbers.{nums}
 use Rattle.algebra.specs.Reader.{pick}
 use Rattle.algebra.specs.Text.{anyZero}
-use Rattle.algebra.specs.Lanes.{marked, every}
+use Rattle.algebra.specs.Lanes.{anyHighBit, every}
 use Rattle.algebra.proofs.Lanes.{fours-start, fours-on, fours-end}
 use Rattle.names.proofs.any_in_fours.Statement.{statement}
 use Rattle.names.proofs.any_in_fours.Tie as tie
 
 abbrev Inv-loop : tie.InvT-loop
-Inv-loop s at k found₀ i₀ found i = (i ≤ k) × (anyZero (nums 2 (4 * k) s at) ≡ pick (marked 4 found) true (anyZero (nums 2 (4 * (k - i)) s (at + 8 * i))))
+Inv-loop s at k found₀ i₀ found i = (i ≤ k) × (anyZero (nums 2 (4 * k) s at) ≡ pick (anyHighBit 4 found) true (anyZero (nums 2 (4 * (k - i)) s (at + 8 * i))))
 
 abbrev μ-loop : tie.MeasureT-loop
 μ-loop s at k found₀ i₀ found i = k - i
@@ -47,7 +47,7 @@ loop-again c =
     )
 
 returns : tie.Need-returns Inv-loop μ-loop
-unfolding marked every
+unfolding anyHighBit every
 returns c =
     let l = c .before .loop in
     let a = c .before .before .before .args in

@@ -5,13 +5,13 @@ use native.Mathlib.Omega.{arith}
 use borrow.Author.Needs.{needs}
 use Rattle.algebra.specs.Numbers.{nums}
 use Rattle.algebra.specs.Text.{anyZero}
-use Rattle.algebra.specs.Lanes.{marked}
+use Rattle.algebra.specs.Lanes.{anyHighBit}
 use Rattle.algebra.proofs.Lanes.{clear-start, glance-on, glance-end}
 use Rattle.names.proofs.is_clear.Statement.{statement}
 use Rattle.names.proofs.is_clear.Tie as tie
 
 abbrev Inv-loop : tie.InvT-loop
-Inv-loop s at found₀ i₀ found i = (i ≤ 32) × (marked 4 found ≡ false → anyZero (nums 2 (4 * i) s at) ≡ false)
+Inv-loop s at found₀ i₀ found i = (i ≤ 32) × (anyHighBit 4 found ≡ false → anyZero (nums 2 (4 * i) s at) ≡ false)
 
 abbrev μ-loop : tie.MeasureT-loop
 μ-loop s at found₀ i₀ found i = 32 - i

@@ -1,4 +1,5 @@
 use mathlib.Core.Path.{sym, ap, _∙_}
+use Rattle.algebra.specs.Chars.{chars}
 use Rattle.fields.specs.Answer.{told32, toldStep}
 use Rattle.resource_document.proofs.Finding.{start-done}
 use Rattle.algebra.proofs.Sequence.{step-no, step-on}
@@ -6,7 +7,7 @@ use borrow.Author.Tests.{eq-eqb, ne-eqb}
 use mathlib.Core.Bool.{Bool}
 use Rattle.algebra.specs.Reader.{unless}
 use Rattle.algebra.proofs.Laws.{judged-short, judged-bad, judged-ok}
-use Rattle.resource_document.specs.Reading.{marked}
+use Rattle.resource_document.specs.Reading.{fixedNumber}
 use borrow.Author.Needs.{needs}
 use Rattle.resource_document.proofs.start_at.Statement.{statement}
 use Rattle.resource_document.proofs.start_at.Tie as tie
@@ -23,12 +24,12 @@ enum-told c = search needs
 returns : tie.Need-returns
 returns c =
     let a = c .before .before .before .before .args in
-    step-no _ _ (sym (judged-short 4 (a .file .now) 0 (marked 0x3842_5053) (sym (ap (told32 _) (c .enum-told .given .1)) ∙ c .before .before .u32-at .ensures))) ∙ sym (start-done (a .file .now))
+    step-no _ _ (sym (judged-short 4 (a .file .now) 0 (fixedNumber (chars "8BPS")) (sym (ap (told32 _) (c .enum-told .given .1)) ∙ c .before .before .u32-at .ensures))) ∙ sym (start-done (a .file .now))
 
 returns-2 : tie.Need-returns-2
 returns-2 c =
     let a = c .before .before .before .before .before .before .args in
-    step-no _ _ (sym (judged-bad 4 (a .file .now) 0 (marked 0x3842_5053) 3 0 0 (sym (ap (told32 _) (c .before .before .v .given .1)) ∙ c .before .before .before .before .u32-at .ensures) (ap (λ (b : Bool). unless b 3) (ne-eqb _ _ (c .if1 .taken))))) ∙ sym (start-done (a .file .now))
+    step-no _ _ (sym (judged-bad 4 (a .file .now) 0 (fixedNumber (chars "8BPS")) 3 0 0 (sym (ap (told32 _) (c .before .before .v .given .1)) ∙ c .before .before .before .before .u32-at .ensures) (ap (λ (b : Bool). unless b 3) (ne-eqb _ _ (c .if1 .taken))))) ∙ sym (start-done (a .file .now))
 
 u16-is-requires : tie.Need-u16-is-requires
 u16-is-requires c κs = search needs
@@ -45,13 +46,13 @@ reserved-at-requires c κs = search needs
 returns-3 : tie.Need-returns-3
 returns-3 c =
     let a = c .before .before .before .before .before .before .before .before .before .before .args in
-    let one = sym (judged-ok 4 (a .file .now) 0 (marked 0x3842_5053) (sym (ap (told32 _) (c .before .before .before .before .before .before .v .given .1)) ∙ c .before .before .before .before .before .before .before .before .u32-at .ensures) (ap (λ (b : Bool). unless b 3) (eq-eqb _ _ (c .before .before .before .before .if1 .left)))) in
+    let one = sym (judged-ok 4 (a .file .now) 0 (fixedNumber (chars "8BPS")) (sym (ap (told32 _) (c .before .before .before .before .before .before .v .given .1)) ∙ c .before .before .before .before .before .before .before .before .u32-at .ensures) (ap (λ (b : Bool). unless b 3) (eq-eqb _ _ (c .before .before .before .before .if1 .left)))) in
     step-on _ _ one (step-no _ _ (sym (ap toldStep (c .before .x .given .1)) ∙ c .before .before .before .u16-is .ensures)) ∙ sym (start-done (a .file .now))
 
 returns-4 : tie.Need-returns-4
 returns-4 c =
     let a = c .before .before .before .before .before .before .before .before .before .before .before .args in
-    let one = sym (judged-ok 4 (a .file .now) 0 (marked 0x3842_5053) (sym (ap (told32 _) (c .before .before .before .before .before .before .before .v .given .1)) ∙ c .before .before .before .before .before .before .before .before .before .u32-at .ensures) (ap (λ (b : Bool). unless b 3) (eq-eqb _ _ (c .before .before .before .before .before .if1 .left)))) in
+    let one = sym (judged-ok 4 (a .file .now) 0 (fixedNumber (chars "8BPS")) (sym (ap (told32 _) (c .before .before .before .before .before .before .before .v .given .1)) ∙ c .before .before .before .before .before .before .before .before .before .u32-at .ensures) (ap (λ (b : Bool). unless b 3) (eq-eqb _ _ (c .before .before .before .before .before .if1 .left)))) in
     step-on _ _ one (step-on _ _ (sym (ap toldStep (c .before .before .b .given .1)) ∙ c .before .before .before .before .u16-is .ensures) (c .reserved-at .ensures)) ∙ sym (start-done (a .file .now))
 
 pub start-at-spec : {M : Type 1} → statement M

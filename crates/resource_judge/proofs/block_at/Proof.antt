@@ -5,7 +5,7 @@ use Rattle.algebra.proofs.Sequence.{step-no, step-on}
 use borrow.Author.Tests.{eq-eqb, ne-eqb}
 use mathlib.Core.Bool.{Bool}
 use Rattle.algebra.specs.Reader.{unless}
-use Rattle.resource.specs.Reading.{marked}
+use Rattle.resource.specs.Reading.{isSignature}
 use Rattle.algebra.proofs.Laws.{judged-short, judged-bad, judged-ok}
 use borrow.Author.Needs.{needs}
 use Rattle.resource_judge.proofs.block_at.Statement.{statement}
@@ -24,14 +24,14 @@ returns : tie.Need-returns
 returns c =
     let call = c .before .before in
     let a = call .before .before .args in
-    step-no _ _ (sym (judged-short 4 (a .file .now) (a .at) marked (sym (ap (told32 _) (c .enum-told .given .1)) ∙ call .u32-at .ensures))) ∙ sym (block-record (a .file .now) (a .at))
+    step-no _ _ (sym (judged-short 4 (a .file .now) (a .at) isSignature (sym (ap (told32 _) (c .enum-told .given .1)) ∙ call .u32-at .ensures))) ∙ sym (block-record (a .file .now) (a .at))
 
 returns-2 : tie.Need-returns-2
 returns-2 c =
     let v = c .before .before in
     let call = v .before .before in
     let a = call .before .before .args in
-    step-no _ _ (sym (judged-bad 4 (a .file .now) (a .at) marked 3 0 0 (sym (ap (told32 _) (v .signature .given .1)) ∙ call .u32-at .ensures) (ap (λ (b : Bool). unless b 3) (ne-eqb _ _ (c .if1 .taken))))) ∙ sym (block-record (a .file .now) (a .at))
+    step-no _ _ (sym (judged-bad 4 (a .file .now) (a .at) isSignature 3 0 0 (sym (ap (told32 _) (v .signature .given .1)) ∙ call .u32-at .ensures) (ap (λ (b : Bool). unless b 3) (ne-eqb _ _ (c .if1 .taken))))) ∙ sym (block-record (a .file .now) (a .at))
 
 u16-at-requires : tie.Need-u16-at-requires
 u16-at-requires c κs = search needs
@@ -48,7 +48,7 @@ returns-3 c =
     let v = two .before .before .before in
     let call = v .before .before in
     let a = call .before .before .args in
-    let one = sym (judged-ok 4 (a .file .now) (a .at) marked (sym (ap (told32 _) (v .signature .given .1)) ∙ call .u32-at .ensures) (ap (λ (b : Bool). unless b 3) (eq-eqb _ _ (two .before .if1 .left)))) in
+    let one = sym (judged-ok 4 (a .file .now) (a .at) isSignature (sym (ap (told32 _) (v .signature .given .1)) ∙ call .u32-at .ensures) (ap (λ (b : Bool). unless b 3) (eq-eqb _ _ (two .before .if1 .left)))) in
     step-on _ _ one (step-no _ _ (sym (ap (told16 _) (c .enum-told2 .given .1)) ∙ two .u16-at .ensures)) ∙ sym (block-record (a .file .now) (a .at))
 
 cast-parts-at : tie.Need-cast-parts-at
@@ -64,7 +64,7 @@ returns-4 c =
     let v = two .before .before .before in
     let call = v .before .before in
     let a = call .before .before .args in
-    let one = sym (judged-ok 4 (a .file .now) (a .at) marked (sym (ap (told32 _) (v .signature .given .1)) ∙ call .u32-at .ensures) (ap (λ (b : Bool). unless b 3) (eq-eqb _ _ (two .before .if1 .left)))) in
+    let one = sym (judged-ok 4 (a .file .now) (a .at) isSignature (sym (ap (told32 _) (v .signature .given .1)) ∙ call .u32-at .ensures) (ap (λ (b : Bool). unless b 3) (eq-eqb _ _ (two .before .if1 .left)))) in
     step-on _ _ one (step-on _ _ (sym (ap (told16 _) (i .id .given .1)) ∙ two .u16-at .ensures) (c .parts-at .ensures)) ∙ sym (block-record (a .file .now) (a .at))
 
 pub block-at-spec : {M : Type 1} → statement M

@@ -1,6 +1,6 @@
 use mathlib.Core.Path.{refl, sym, ap, _∙_}
-use Rattle.resource_judge.specs.Answer.{toldRun}
-use Rattle.resource_judge.specs.Answer.{toldRun, partsFrom}
+use Rattle.resource_judge.specs.scaffold.Answer.{toldRun}
+use Rattle.resource_judge.specs.scaffold.Answer.{toldRun, partsFrom}
 use Rattle.algebra.proofs.Sequence.{step-no, step-on}
 use borrow.Author.Needs.{needs}
 use Rattle.resource_judge.proofs.parts_at.Statement.{statement}

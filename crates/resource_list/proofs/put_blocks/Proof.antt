@@ -4,7 +4,7 @@ use Prim.Native.Nat.{_-_, _≤_}
 use lib.ListN.{length}
 use mathlib.Core.Path.{_≡_, refl, sym, ap, _∙_}
 use Rattle.resource_judge.specs.Answer.{toldFound}
-use Rattle.resource_read.specs.Parts.{rest, Sound}
+use Rattle.resource_read.specs.scaffold.Parts.{rest, Sound}
 use Rattle.resource_read.proofs.Going.{never}
 use Rattle.listing.specs.Buffer.{putAll}
 use Rattle.listing.specs.Text.{lines}

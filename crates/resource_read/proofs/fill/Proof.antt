@@ -5,7 +5,7 @@ use lib.Seq.{sets}
 use mathlib.Core.Path.{_≡_, refl, _∙_}
 use Rattle.algebra.specs.Numbers.{joined}
 use Rattle.resource.specs.Rows.{width}
-use Rattle.resource_read.specs.Parts.{rest}
+use Rattle.resource_read.specs.scaffold.Parts.{rest}
 use Rattle.resource_read.specs.Table.{entryRow}
 use Rattle.resource_read.proofs.Going.{turned, Filling, fill-end, fill-room, fill-kept, fill-next}
 use Rattle.resource_read.proofs.fill.Statement.{statement}

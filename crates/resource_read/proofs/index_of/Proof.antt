@@ -3,7 +3,7 @@ use native.Mathlib.Nat.{zero-add}
 use Prim.Native.Nat.{_+_, _-_, _≤_}
 use lib.ListN.{length}
 use mathlib.Core.Path.{_≡_, sym}
-use Rattle.resource_read.specs.Parts.{rest, Sound}
+use Rattle.resource_read.specs.scaffold.Parts.{rest, Sound}
 use Rattle.resource_read.specs.Table.{indexOf}
 use Rattle.resource_read.proofs.Going.{turned, index-end, index-here, index-next}
 use Rattle.resource_read.proofs.index_of.Statement.{statement}

@@ -5,7 +5,7 @@ use lib.ListN.{length, getD}
 use mathlib.Core.Path.{_≡_, refl, _∙_}
 use mathlib.Core.List.{map}
 use Rattle.resource.specs.Rows.{recordOf}
-use Rattle.resource_read.specs.Parts.{rest, Sound}
+use Rattle.resource_read.specs.scaffold.Parts.{rest, Sound}
 use Rattle.resource_read.specs.Table.{noRecord}
 use Rattle.resource_read.proofs.Going.{turned, nth-end, nth-here, nth-next}
 use Rattle.resource_read.proofs.nth.Statement.{statement}

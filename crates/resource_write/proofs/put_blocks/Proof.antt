@@ -6,9 +6,10 @@ use Prim.Native.Nat.{_-_, _≤_}
 use lib.ListN.{length}
 use lib.Seq.{sets}
 use Rattle.resource.specs.Grammar.{sectionBytes}
-use Rattle.resource_records.specs.Writing.{givens, blockIn}
+use Rattle.resource_write_judge.specs.Writing.{blockIn}
+use Rattle.resource_write_judge.specs.scaffold.Writing.{givens}
 use mathlib.Core.List.{map}
-use Rattle.resource_records.proofs.Judging.{record-whole}
+use Rattle.resource_write_judge.proofs.Judging.{record-whole}
 use Rattle.resource_write.proofs.put_blocks.Statement.{statement}
 use Rattle.resource_write.proofs.put_blocks.Tie as tie
 

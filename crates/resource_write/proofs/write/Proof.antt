@@ -3,9 +3,9 @@ use native.Mathlib.Omega.{arith}
 use Rattle.resource_write.proofs.Puts.{made-front}
 use Rattle.fields.specs.Answer.{toldWritten}
 use Rattle.resource.specs.Grammar.{sectionBytes}
-use Rattle.resource_records.specs.Writing.{given, blockIn, sizes, fault}
+use Rattle.resource_write_judge.specs.Writing.{given, blockIn, sizes, fault}
 use mathlib.Core.List.{map}
-use Rattle.resource_records.proofs.Judging.{no-fault}
+use Rattle.resource_write_judge.proofs.Judging.{no-fault}
 use Rattle.algebra.proofs.Writing.{needs-inv, writes-no, writes-none, writes-all}
 use borrow.Author.Needs.{needs}
 use Rattle.resource_write.proofs.write.Statement.{statement}

@@ -1,6 +1,6 @@
 use mathlib.Core.Path.{sym, ap}
 use Rattle.khuyurek.specs.Acb.{fullOf}
-use Rattle.acb_view.specs.Answer.{toldCount}
+use Rattle.acb_shown_file.specs.Answer.{toldCount}
 use borrow.Author.Needs.{needs}
 use Rattle.khuyurek.proofs.books.exported_full.Statement.{statement}
 use Rattle.khuyurek.proofs.books.exported_full.Tie as tie

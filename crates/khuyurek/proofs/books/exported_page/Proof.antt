@@ -1,6 +1,6 @@
 use mathlib.Core.Path.{sym, ap}
 use Rattle.khuyurek.specs.Acb.{pageOf}
-use Rattle.acb_show.specs.Answer.{toldPage}
+use Rattle.acb_shown_values.specs.Answer.{toldPage}
 use borrow.Author.Needs.{needs}
 use Rattle.khuyurek.proofs.books.exported_page.Statement.{statement}
 use Rattle.khuyurek.proofs.books.exported_page.Tie as tie

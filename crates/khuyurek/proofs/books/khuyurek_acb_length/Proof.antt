@@ -1,9 +1,9 @@
 use mathlib.Core.Path.{ap, ap₂, _∙_}
 use Rattle.acb.specs.Grammar.{Ending}
-use Rattle.acb_judge.specs.Answer.{Shown}
+use Rattle.acb_judge.specs.Answer.{HeaderPlaces}
 use Rattle.algebra.specs.Table.{whole}
 use Rattle.acb.specs.Row.{width, taken}
-use Rattle.acb_records.specs.Writing.{needed}
+use Rattle.acb_write_judge.specs.Writing.{needed}
 use Rattle.khuyurek.specs.Written.{writtenOf}
 use borrow.Author.Needs.{needs}
 use Rattle.khuyurek.proofs.books.khuyurek_acb_length.Statement.{statement}
@@ -26,7 +26,7 @@ returns c =
     let st = c .before .before .before .before .before .before in
     c .exported-length .ensures
     ∙ ap writtenOf (c .before .write-length .ensures)
-    ∙ ap₂ (λ (h : Shown) (t : Ending). writtenOf (needed (st .args .text .now) h t (whole width taken (st .args .records .now)))) (c .before .before .before .header-given .ensures) (c .before .before .tag-given .ensures)
+    ∙ ap₂ (λ (h : HeaderPlaces) (t : Ending). writtenOf (needed (st .args .text .now) h t (whole width taken (st .args .records .now)))) (c .before .before .before .header-given .ensures) (c .before .before .tag-given .ensures)
 
 pub khuyurek-acb-length-spec : {M : Type 1} → statement M
 khuyurek-acb-length-spec =

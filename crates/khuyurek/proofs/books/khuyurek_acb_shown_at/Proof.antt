@@ -9,8 +9,8 @@ use native.Mathlib.Omega.{arith}
 use Rattle.algebra.specs.Reader.{Res, ok, refuse, pick}
 use Rattle.colour.specs.Spaces.{cmyk}
 use Rattle.acb.specs.Reading.{Contents, componentsOf, acb}
-use Rattle.acb_view.specs.View.{Counted, counted, refusal, noValues, shownAt}
-use Rattle.acb_view.specs.Answer.{toldCount}
+use Rattle.acb_shown_file.specs.View.{Counted, counted, refusal, noValues, shownAt}
+use Rattle.acb_shown_file.specs.Answer.{toldCount}
 use Rattle.khuyurek.specs.Acb.{fourOf, showing, shownOf}
 use borrow.Author.Needs.{needs}
 use Rattle.khuyurek.proofs.books.khuyurek_acb_shown_at.Statement.{statement}

@@ -1,9 +1,9 @@
 use mathlib.Core.Path.{ap, ap₂, _∙_}
 use Rattle.acb.specs.Grammar.{Ending}
-use Rattle.acb_judge.specs.Answer.{Shown}
+use Rattle.acb_judge.specs.Answer.{HeaderPlaces}
 use Rattle.algebra.specs.Table.{whole}
 use Rattle.acb.specs.Row.{width, taken}
-use Rattle.acb_records.specs.Writing.{written}
+use Rattle.acb_write_judge.specs.Writing.{written}
 use Rattle.khuyurek.specs.Written.{wroteOf as sizedOf}
 use borrow.Author.Needs.{needs}
 use Rattle.khuyurek.proofs.books.khuyurek_acb_write.Statement.{statement}
@@ -28,7 +28,7 @@ returns : tie.Need-returns
 returns c =
     let st = c .before .before .before .before .before .before .before .before .before .before in
     let wrote = ap sizedOf (c .before .before .before .write .ensures)
-    ∙ ap₂ (λ (h : Shown) (t : Ending). sizedOf (written (st .args .text .now) h t (whole width taken (st .args .records .now)) (st .args .out .now))) (c .before .before .before .before .before .before .header-given .ensures) (c .before .before .before .before .before .tag-given .ensures)
+    ∙ ap₂ (λ (h : HeaderPlaces) (t : Ending). sizedOf (written (st .args .text .now) h t (whole width taken (st .args .records .now)) (st .args .out .now))) (c .before .before .before .before .before .before .header-given .ensures) (c .before .before .before .before .before .tag-given .ensures)
     in
     rw (c .exported-length .ensures) wrote
 

@@ -1,5 +1,6 @@
 use Prim.Native.Nat.{ℕ}
 use mathlib.Core.Path.{sym, ap, _∙_}
+use Rattle.algebra.specs.Chars.{chars}
 use Rattle.khuyurek.specs.Descriptor.{kinded, typedAs}
 use borrow.Author.Needs.{needs}
 use Rattle.khuyurek.proofs.descriptors.exported_typed.Statement.{statement}
@@ -57,7 +58,7 @@ enum-known-t-6 : tie.Need-enum-known-t-6
 enum-known-t-6 c = search needs
 
 returns : tie.Need-returns
-returns c = c .kinded .ensures ∙ ap (λ (b : ℕ). kinded 0x626f_6f6c 0 b) (c .before .flag-of .ensures) ∙ sym (ap typedAs (c .before .before .before .t .given .1))
+returns c = c .kinded .ensures ∙ ap (λ (b : ℕ). kinded (chars "bool") 0 b) (c .before .flag-of .ensures) ∙ sym (ap typedAs (c .before .before .before .t .given .1))
 
 returns-2 : tie.Need-returns-2
 returns-2 c = c .kinded2 .ensures ∙ sym (ap typedAs (c .before .before .t2 .given .1))
@@ -66,10 +67,10 @@ returns-3 : tie.Need-returns-3
 returns-3 c = c .kinded3 .ensures ∙ sym (ap typedAs (c .before .before .t3 .given .1))
 
 returns-4 : tie.Need-returns-4
-returns-4 c = c .kinded4 .ensures ∙ ap (λ (b : ℕ). kinded 0x646f_7562 0 b) (c .before .bits-of .ensures) ∙ sym (ap typedAs (c .before .before .before .t4 .given .1))
+returns-4 c = c .kinded4 .ensures ∙ ap (λ (b : ℕ). kinded (chars "doub") 0 b) (c .before .bits-of .ensures) ∙ sym (ap typedAs (c .before .before .before .t4 .given .1))
 
 returns-5 : tie.Need-returns-5
-returns-5 c = c .kinded5 .ensures ∙ ap (λ (b : ℕ). kinded 0x556e_7446 (c .before .before .before .t5 .given .0 .0) b) (c .before .bits-of2 .ensures) ∙ sym (ap typedAs (c .before .before .before .t5 .given .1))
+returns-5 c = c .kinded5 .ensures ∙ ap (λ (b : ℕ). kinded (chars "UntF") (c .before .before .before .t5 .given .0 .0) b) (c .before .bits-of2 .ensures) ∙ sym (ap typedAs (c .before .before .before .t5 .given .1))
 
 returns-6 : tie.Need-returns-6
 returns-6 c = c .kinded6 .ensures ∙ sym (ap typedAs (c .before .enum-told .given .1))

@@ -3,7 +3,7 @@ use mathlib.Core.Path.{_≡_, sym, _∙_}
 use native.Mathlib.Omega.{arith}
 use lib.ListN.{length}
 use borrow.Author.Tests.{eqb-true}
-use Rattle.tray.specs.Parts.{Passed, unit}
+use Rattle.tray.specs.scaffold.Parts.{Passed, unit}
 use Rattle.tray.proofs.Laws.{passed-more, or-none, marked-none}
 use borrow.Author.Needs.{needs}
 use Rattle.tray.proofs.back.all_unit.Statement.{statement}

@@ -4,7 +4,7 @@ use native.Mathlib.Omega.{arith}
 use mathlib.Core.List.{map}
 use lib.ListN.{length, drop}
 use lib.Seq.{sets}
-use Rattle.tray.specs.Parts.{inked}
+use Rattle.tray.specs.scaffold.Parts.{inked}
 use Rattle.tray.proofs.Laws.{fill-turn, fill-end}
 use borrow.Author.Needs.{needs}
 use Rattle.tray.proofs.back.fill_cmyk.Statement.{statement}

@@ -3,7 +3,7 @@ use mathlib.Core.Path.{sym, _∙_}
 use native.Mathlib.Omega.{arith}
 use lib.ListN.{length}
 use borrow.Author.Tests.{not-true, not-false}
-use Rattle.tray.specs.Parts.{Passed, unit}
+use Rattle.tray.specs.scaffold.Parts.{Passed, unit}
 use Rattle.tray.proofs.Laws.{passed-more, all-first}
 use borrow.Author.Needs.{needs}
 use Rattle.tray.proofs.back.first_outside.Statement.{statement}

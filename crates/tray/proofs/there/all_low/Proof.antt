@@ -3,7 +3,7 @@ use mathlib.Core.Path.{_≡_}
 use native.Mathlib.Omega.{arith}
 use lib.ListN.{length}
 use borrow.Author.Tests.{eqb-true, le-leb}
-use Rattle.tray.specs.Parts.{Passed, low}
+use Rattle.tray.specs.scaffold.Parts.{Passed, low}
 use Rattle.tray.proofs.Laws.{passed-more}
 use borrow.Author.Needs.{needs}
 use Rattle.tray.proofs.there.all_low.Statement.{statement}

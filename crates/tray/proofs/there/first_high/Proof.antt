@@ -2,7 +2,7 @@ use Prim.Native.Nat.{_-_, _≤_}
 use native.Mathlib.Omega.{arith}
 use lib.ListN.{length}
 use borrow.Author.Tests.{le-leb, lt-leb}
-use Rattle.tray.specs.Parts.{Passed, low}
+use Rattle.tray.specs.scaffold.Parts.{Passed, low}
 use Rattle.tray.proofs.Laws.{passed-more, all-first}
 use borrow.Author.Needs.{needs}
 use Rattle.tray.proofs.there.first_high.Statement.{statement}

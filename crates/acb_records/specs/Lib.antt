@@ -1,4 +1,0 @@
-pub mod Writing
-pub mod Parts
-pub mod Answer
-pub mod Refusals

@@ -1,0 +1,5 @@
+pub mod Writing
+pub mod Parts
+pub mod Answer
+pub mod Refusals
+pub mod scaffold

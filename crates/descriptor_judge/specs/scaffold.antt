@@ -1,0 +1,4 @@
+-- Definitions that only private contracts and proofs cite: nothing here must be believed.
+pub mod Answer
+pub mod Counting
+pub mod Cycle
