@@ -11,7 +11,7 @@ use Rattle.colour.specs.Spaces.{full}
 use Rattle.colour.specs.declared.model.Model.{Model}
 use Rattle.convert.specs.Convert.{Converted, gives, refused, andThen, toChannel, toSample, Counterparts, back}
 use Rattle.convert.proofs.Theorems.{all-return}
-use Rattle.tray.specs.scaffold.Promise.{Each, FirstOf}
+use Rattle.tray.specs.Promise.{Each, FirstOf}
 use Rattle.tray.specs.Tray.{atPosition, inOrder, toBitsOf}
 
 module _ (f : ℕ → Converted ℕ) where

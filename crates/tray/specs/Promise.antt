@@ -1,4 +1,3 @@
--- Scaffolding: the form in which the code goes; cited by private contracts and by proofs.
 -- What a run gives or why it is refused, by the positions of its elements: words of the theorems. Nothing here converts.
 use Prim.Native.Nat.{ℕ, _<_}
 use mathlib.Core.Path.{_≡_}
