@@ -25,7 +25,7 @@ use Rattle.acb_read.specs.Table.{entriesOf, blank, nameBytesIn}
 use Rattle.acb_read.specs.Answer as read
 use Rattle.acb_shown_values.specs.Texts.{shownStart, shownText}
 use Rattle.acb_shown_values.specs.Components.{shownComponent}
-use Rattle.acb_shown_file.specs.View.{Counted, counted, refusal, valuesOf, noValues, shownAt, noName, bytesOf, fullName, fullLength, puts, fullNameAt}
+use Rattle.acb_shown_file.specs.View.{CountAnswer, counted, refusal, valuesOf, noValues, shownAt, noName, bytesOf, fullName, fullLength, puts, fullNameAt}
 
 -- ---- three runs stored one after the other
 
@@ -218,7 +218,7 @@ module _ (m : Res Contents) (i : ℕ) {x p r f : ℕ} (e : refused x p r f ≡ v
 -- ---- the shown components of a record of a space, one by one
 
 pub values-by : (x : ℕ) (ks : List ℕ) (t : Bool) → eqb (componentsOf x) 4 ≡ t → {a b c d : ℤ} {n : ℕ} → a ≡ shownComponent x 0 (getD ks 0 0) → b ≡ shownComponent x 1 (getD ks 1 0) → c ≡ shownComponent x 2 (getD ks 2 0)
-    → d ≡ pick t (shownComponent x 3 (getD ks 3 0)) (pos 0) → n ≡ componentsOf x → _≡_ {A = List ℤ × Counted} (a ∷ b ∷ c ∷ d ∷ [], counted n) (valuesOf x ks, counted (componentsOf x))
+    → d ≡ pick t (shownComponent x 3 (getD ks 3 0)) (pos 0) → n ≡ componentsOf x → _≡_ {A = List ℤ × CountAnswer} (a ∷ b ∷ c ∷ d ∷ [], counted n) (valuesOf x ks, counted (componentsOf x))
 values-by x ks t e ea eb ec ed en =
     let f = ed ∙ ap (λ (y : Bool). pick y (shownComponent x 3 (getD ks 3 0)) (pos 0)) (sym e) in
     λ i. (ea i ∷ eb i ∷ ec i ∷ f i ∷ [], counted (en i))

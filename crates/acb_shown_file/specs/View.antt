@@ -18,9 +18,9 @@ use Rattle.acb_shown_values.specs.Pages.{sampleOf}
 use Rattle.acb_shown_values.specs.Answer.{Told, refused, pageOf}
 
 -- how many, or a refusal's number and place
-pub data Counted : Type 0 where
-  counted : ℕ → Counted
-  refusal : ℕ → ℕ → Counted
+pub data CountAnswer : Type 0 where
+  counted : ℕ → CountAnswer
+  refusal : ℕ → ℕ → CountAnswer
 
 -- ---- components
 
@@ -35,7 +35,7 @@ abbrev pub noValues : List ℤ
 noValues = pos 0 ∷ pos 0 ∷ pos 0 ∷ pos 0 ∷ []
 
 -- the shown components of record i, and how many they are; the file's own refusal first, then 12 where it has no such record
-abbrev pub shownAt : ℕ → Res Contents → List ℤ × Counted
+abbrev pub shownAt : ℕ → Res Contents → List ℤ × CountAnswer
 shownAt i (refuse x p r f) = (noValues, refusal x p)
 shownAt i (ok c q) =
     pick (ltb i (length (c .entries)))
@@ -82,14 +82,14 @@ unfoldable pub fullName : List ℕ → Contents → Entry → List ℕ
 fullName s c e = shownText (bytesOf s (prefixOf c)) ++ (bytesOf s (e .name) ++ shownText (bytesOf s (suffixOf c)))
 
 -- the length of the full name of record i
-abbrev pub fullLength : List ℕ → ℕ → Res Contents → Counted
+abbrev pub fullLength : List ℕ → ℕ → Res Contents → CountAnswer
 fullLength s i (refuse x p r f) = refusal x p
 fullLength s i (ok c q) = pick (ltb i (length (c .entries))) (counted (length (fullName s c (getD (c .entries) i blank)))) (refusal 12 0)
 
 -- a full name written into lent bytes, which keep their contents past it; 11 comes last, and a refusal changes nothing
-abbrev pub puts : List ℕ → List ℕ → Counted × List ℕ
+abbrev pub puts : List ℕ → List ℕ → CountAnswer × List ℕ
 puts full out = pick (leb (length full) (length out)) (counted (length full), full ++ drop (length full) out) (refusal 11 0, out)
 
-abbrev pub fullNameAt : List ℕ → ℕ → Res Contents → List ℕ → Counted × List ℕ
+abbrev pub fullNameAt : List ℕ → ℕ → Res Contents → List ℕ → CountAnswer × List ℕ
 fullNameAt s i (refuse x p r f) out = (refusal x p, out)
 fullNameAt s i (ok c q) out = pick (ltb i (length (c .entries))) (puts (fullName s c (getD (c .entries) i blank)) out) (refusal 12 0, out)

@@ -12,26 +12,7 @@ use native.Mathlib.Omega.{arith}
 use Rattle.algebra.specs.Reader.{pick}
 use Rattle.acb_shown_values.specs.Pages.{is, none, nonDummies, numbered, sampleFrom, sampleOf}
 use Rattle.acb_shown_values.specs.Answer.{record-is, refused, pageOf}
-
--- how many of some records are no dummies
-unfoldable pub countShown : List Bool → ℕ
-countShown [] = 0
-countShown (d ∷ ds) = pick d (countShown ds) (suc (countShown ds))
-
--- n records from the first of page p on
-abbrev pub fromPage : ℕ → ℕ → ℕ → List Bool → List Bool
-fromPage size p n ds = take n (drop (p * size) ds)
-
--- record i is the one that page p shows
-pub record Shows (size offset p : ℕ) (ds : List Bool) (i : ℕ) : Type 0 where
-  -- a record of the page
-  pub from : p * size ≤ i
-  pub to : i < p * size + size
-  pub there : i < length ds
-  -- and no dummy
-  pub real : getD ds i true ≡ false
-  -- with `offset` records of the page before it that are no dummies, or all the others if there are fewer
-  pub before : countShown (fromPage size p (i - p * size) ds) ≡ min offset (countShown (fromPage size p size ds) - 1)
+use Rattle.acb_shown_values.specs.Promise.{countShown, fromPage, Shows}
 
 -- ---- the records that are no dummies
 

@@ -15,20 +15,7 @@ use Rattle.algebra.specs.Numbers.{num, Bytes}
 use Rattle.algebra.proofs.Laws.{num-split}
 use Rattle.algebra.proofs.Places.{num-lt}
 use Rattle.acb_shown_values.specs.Texts.{hasKey, behindEquals, shownStart, shownText}
-
--- unit k of a string is `=`
-abbrev EqualsAt : List ℕ → ℕ → Type 0
-EqualsAt s k = num 2 s (2 * k) ≡ 0x003D
-
--- unit k of a string is there, is `=`, and no unit before it is
-pub record First (s : List ℕ) (k : ℕ) : Type 0 where
-  pub inside : 2 * k + 2 ≤ length s
-  pub here : EqualsAt s k
-  pub before : (j : ℕ) → j < k → EqualsAt s j → ⊥
-
--- no unit of a string is `=`
-pub record Without (s : List ℕ) : Type 0 where
-  pub nowhere : (j : ℕ) → 2 * j + 2 ≤ length s → EqualsAt s j → ⊥
+use Rattle.acb_shown_values.specs.Promise.{EqualsAt, First, Without}
 
 -- ---- the search
 

@@ -3,3 +3,4 @@ pub mod Components
 pub mod Pages
 pub mod Answer
 pub mod Nearest
+pub mod Promise

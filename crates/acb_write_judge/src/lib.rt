@@ -43,7 +43,7 @@ pub enum Ending {
     Other,
 }
 
-// Record k of a run that has it; nothing else knows how a run lays it out.
+// Record k of a run that has it; no other function takes one out of a run.
 fn whole_at(run: &[u32], k: usize) -> Record
     requires { ⌜ width * k + width ≤ length (now run) ⌝ }
     ensures { λ r. ⌜ toldRecord r ≡ givenAt (now (run .entry)) k ⌝ }

@@ -57,7 +57,7 @@ fn colour_at(file: &[u8], at: usize) -> Colour
     }
 }
 
-// Stores a record's numbers from `to`. Nothing else knows how a table lays it out.
+// Stores a record's numbers from `to`. No other function stores one.
 fn put_row(table: &mut [u32], to: usize, colour: Colour, place: u32, units: u32)
     requires { ⌜ to + width ≤ length (now table) ⌝ }
     ensures { λ _. ⌜ now (table .exit) ≡ sets (now (table .entry)) to (numbers (withName colour place units)) ⌝ }

@@ -38,7 +38,7 @@ fn number_at(row: &[u32], j: usize) -> u32
     row[j]
 }
 
-// The record of a row. Nothing else knows in which order a run has a record's numbers. Lent a row
+// The record of a row. No other function takes one out of a row. Lent a row
 // of known length, it makes no test.
 pub fn record_of(row: &[u32]) -> Record
     ensures { λ r. ⌜ toldRecord r ≡ taken (now (row .entry)) ⌝ }

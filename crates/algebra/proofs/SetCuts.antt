@@ -7,7 +7,7 @@ use native.Mathlib.Omega.{arith}
 use native.Mathlib.Nat.{mul-one, add-zero}
 use Rattle.algebra.specs.Numbers.{be, Bytes}
 use Rattle.algebra.specs.Reader.{ok, refuse, Reader, field, body, Judged, judged, _>>=_, each, done}
-use Rattle.algebra.specs.Sets.{Field, Size, Number, number, Seq, seq, Counted, counted, Run}
+use Rattle.algebra.specs.Sets.{Field, Size, Number, number, Seq, seq, Prefixed, prefixed, Run}
 use Rattle.algebra.specs.Cut.{total, notWhole, Stub}
 use Rattle.algebra.specs.Wide.{Wide, oneWide, seqWide, countedWide, runWide}
 use Rattle.algebra.proofs.Laws.{body-short}
@@ -59,14 +59,14 @@ seq-cutting {A} {B} {X} {Y} {v} {w} {s} {p} {q} r c d = record { span = span; cu
         step-cut s at (p s at) _ x y (v x m) (w y n) (c .span x m) (c .cut at x m) (λ f g. let u = r .complete at x m f in rw (u .1) (d .cut (at + length x) y n g)) h
 
 -- a count of 32 bits, and then what it says
-pub counted-cutting : {A : Type 0} {Y : ℕ → Field} {w : (n : ℕ) → Wide (Y n)} {s : List ℕ} {q : ℕ → Reader A} → Bytes s → ((n : ℕ) → Cutting (Y n) (w n) s (q n)) → Cutting (Counted Y) (countedWide Y w) s (field 4 >>= q)
+pub counted-cutting : {A : Type 0} {Y : ℕ → Field} {w : (n : ℕ) → Wide (Y n)} {s : List ℕ} {q : ℕ → Reader A} → Bytes s → ((n : ℕ) → Cutting (Y n) (w n) s (q n)) → Cutting (Prefixed Y) (countedWide Y w) s (field 4 >>= q)
 counted-cutting {A} {Y} {w} {s} {q} bytes d = record { span = span; cut = cut }
   where
-    span : (b : List ℕ) (x : Counted Y b) → total (countedWide Y w b x) ≡ length b
-    span b (counted n {y} small m) = seq-spans (be 4 n) y (4 ∷ []) (w n y m) (number-spans 4 {Ok = λ v. Unit} .span n tt) (d n .span y m)
+    span : (b : List ℕ) (x : Prefixed Y b) → total (countedWide Y w b x) ≡ length b
+    span b (prefixed n {y} small m) = seq-spans (be 4 n) y (4 ∷ []) (w n y m) (number-spans 4 {Ok = λ v. Unit} .span n tt) (d n .span y m)
 
-    cut : (at : ℕ) (b : List ℕ) (x : Counted Y b) → Stub s at b → (field 4 >>= q) s at ≡ refuse 2 (notWhole (countedWide Y w b x) at (length s)) 0 0
-    cut at b (counted n {y} small m) h =
+    cut : (at : ℕ) (b : List ℕ) (x : Prefixed Y b) → Stub s at b → (field 4 >>= q) s at ≡ refuse 2 (notWhole (countedWide Y w b x) at (length s)) 0 0
+    cut at b (prefixed n {y} small m) h =
         step-cut s at (field 4 s at) _ (be 4 n) y (4 ∷ []) (w n y m) (number-spans 4 {Ok = λ v. Unit} .span n tt) (field-cuts s 4 {Ok = λ v. Unit} .cut at n tt)
         (λ f g. let u = field-exact s bytes 4 .reads at n small f in rw (u .1 ∙ ap (λ (k : ℕ). ok k (at + length (be 4 n))) (u .2)) (d n .cut (at + length (be 4 n)) y m g)) h
 

@@ -12,7 +12,7 @@ use Rattle.algebra.specs.Numbers.{nums, be, At, Bytes}
 use Rattle.algebra.specs.Reader.{Res, Reader, ok, then, field, body, Judged, fine, unless, judged, _>>=_, each, done}
 use Rattle.algebra.specs.Store.{part}
 use Rattle.algebra.specs.Algebra.{Exact}
-use Rattle.algebra.specs.Sets.{Field, Size, Number, number, Seq, seq, Counted, counted, When, Run}
+use Rattle.algebra.specs.Sets.{Field, Size, Number, number, Seq, seq, Prefixed, prefixed, When, Run}
 use Rattle.algebra.proofs.Laws.{field-in, body-in}
 use Rattle.algebra.proofs.Places.{length-be, at-in, at-next, at-left, at-right, at-part, length-part, at-same, num-lt, num-be, be-num}
 use Rattle.algebra.proofs.Inverse.{then-inv, unless-fine, field-inv, body-inv, each-none, each-inv, done-inv, ok-place}
@@ -126,35 +126,35 @@ module _ {s : List ℕ} (w : ℕ) {P : ℕ → Type 0} {m : Reader ℕ} (number-
 
 -- a number of 32 bits, and then what it says
 module _ {A : Type 0} {s : List ℕ} {P : ℕ → Type 0} {m : Reader ℕ} (number-is : Numbers s 4 P m) {Y : ℕ → Field} {k : ℕ → Reader A} (rest : (n : ℕ) → Reads (Y n) s (k n)) where
-  counted-ends : (at : ℕ) (b : List ℕ) → Counted (λ n. When (P n) (Y n)) b → At s at b → (a : A) × ((m >>= k) s at ≡ ok a (at + length b))
-  counted-ends at b (counted n {y = y} small p) h =
+  counted-ends : (at : ℕ) (b : List ℕ) → Prefixed (λ n. When (P n) (Y n)) b → At s at b → (a : A) × ((m >>= k) s at ≡ ok a (at + length b))
+  counted-ends at b (prefixed n {y = y} small p) h =
       let f = number-whole 4 number-is at n small (p .0) (at-left s at (be 4 n) y h) in
       let l : length (be 4 n) ≡ 4 = length-be 4 n in
       let r = rest n .complete (at + length (be 4 n)) y (p .1) (at-right s at (be 4 n) y h) in
       let e : at + length (be 4 n) + length y ≡ at + length (be 4 n ++ y) = omega (arith, length-append (be 4 n) y) in
       (r .0, ap (λ (x : Res ℕ). then x (λ a n. k a s n)) (f ∙ ap (λ (z : ℕ). ok n (at + z)) (sym l)) ∙ r .1 ∙ ap (λ (z : ℕ). ok (r .0) z) e)
 
-  counted-back : Sound (Counted (λ n. When (P n) (Y n))) s (m >>= k)
+  counted-back : Sound (Prefixed (λ n. When (P n) (Y n))) s (m >>= k)
   counted-back at le a q e =
       let t = then-inv (m s at) _ e in
       let i = number-sound 4 number-is at (t .0) (t .1) le (t .2) in
       let n : ℕ = t .0 in
       let l : length (be 4 n) ≡ 4 = length-be 4 n in
       let r = rest n .sound (t .1) (i .inside) a q (t .3) in
-      (be 4 n ++ r .0, counted n (i .small) (i .holds, r .1), at-next s at (be 4 n) (r .0) (t .1) (omega (arith, i .next)) (i .stands) (r .2), omega (arith, length-append (be 4 n) (r .0), r .3, i .next))
+      (be 4 n ++ r .0, prefixed n (i .small) (i .holds, r .1), at-next s at (be 4 n) (r .0) (t .1) (omega (arith, i .next)) (i .stands) (r .2), omega (arith, length-append (be 4 n) (r .0), r .3, i .next))
 
-  pub when-reads : Reads (Counted (λ n. When (P n) (Y n))) s (m >>= k)
+  pub when-reads : Reads (Prefixed (λ n. When (P n) (Y n))) s (m >>= k)
   when-reads = record { complete = counted-ends; sound = counted-back }
 
 -- the same, whatever the number is
-pub counted-reads : {A : Type 0} {s : List ℕ} → Bytes s → {Y : ℕ → Field} {k : ℕ → Reader A} → ((n : ℕ) → Reads (Y n) s (k n)) → Reads (Counted Y) s (field 4 >>= k)
-counted-reads {s = s} bytes {Y} rest = same-reads (when-reads (field-numbers s bytes 4) rest) (Counted Y) to from
+pub counted-reads : {A : Type 0} {s : List ℕ} → Bytes s → {Y : ℕ → Field} {k : ℕ → Reader A} → ((n : ℕ) → Reads (Y n) s (k n)) → Reads (Prefixed Y) s (field 4 >>= k)
+counted-reads {s = s} bytes {Y} rest = same-reads (when-reads (field-numbers s bytes 4) rest) (Prefixed Y) to from
   where
-    to : (b : List ℕ) → Counted (λ n. When Unit (Y n)) b → Counted Y b
-    to b (counted n l h) = counted n l (h .1)
+    to : (b : List ℕ) → Prefixed (λ n. When Unit (Y n)) b → Prefixed Y b
+    to b (prefixed n l h) = prefixed n l (h .1)
 
-    from : (b : List ℕ) → Counted Y b → Counted (λ n. When Unit (Y n)) b
-    from b (counted n l h) = counted n l (tt, h)
+    from : (b : List ℕ) → Prefixed Y b → Prefixed (λ n. When Unit (Y n)) b
+    from b (prefixed n l h) = prefixed n l (tt, h)
 
 -- ---- sequence
 

@@ -21,8 +21,8 @@ pub data Seq (X Y : Field) : List ℕ → Type 0 where
   seq : {x y : List ℕ} → X x → Y y → Seq X Y (x ++ y)
 
 -- a number of 32 bits, and then what it says
-pub data Counted (Y : ℕ → Field) : List ℕ → Type 0 where
-  counted : (n : ℕ) {y : List ℕ} → n < 256 ^ 4 → Y n y → Counted Y (be 4 n ++ y)
+pub data Prefixed (Y : ℕ → Field) : List ℕ → Type 0 where
+  prefixed : (n : ℕ) {y : List ℕ} → n < 256 ^ 4 → Y n y → Prefixed Y (be 4 n ++ y)
 
 -- X, where P holds
 abbrev pub When : Type 0 → Field → Field

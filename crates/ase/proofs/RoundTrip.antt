@@ -60,6 +60,14 @@ refused-damaged {s} bytes short {z} {p} {r} {f} e = go (file-or s bytes short)
         let x = refuse-same (damaged-refused d bytes short) e in
         (subst₂ (λ (n m : ℕ). Damaged s n m) (x .0) (x .1) d, sym (x .2), sym (x .3))
 
+-- a file is damaged in one way only
+pub damaged-unique : {s : List ℕ} → Bytes s → length s ≤ 16777216 → {z p y q : ℕ} → Damaged s z p → Damaged s y q → (z ≡ y) × (p ≡ q)
+damaged-unique bytes short d e = let x = refuse-same (damaged-refused d bytes short) (damaged-refused e bytes short) in (x .0, x .1)
+
+-- no file of the grammar is damaged
+pub allowed-undamaged : {bs : List Block} {s : List ℕ} → File bs s → {z p : ℕ} → Damaged s z p → ⊥
+allowed-undamaged (file {bs} allowed nested short) d = clash (sym (damaged-refused d (bytes-file bs) short) ∙ file-reads bs allowed nested short .1)
+
 -- ---- what a writer may write
 
 -- of blocks that fit their fields, the reader refuses what was written by the number of their first fault, and accepts it where they have none

@@ -101,7 +101,7 @@ fn numbers_in(part: &[u8], at: usize) -> RowNumbers
     }
 }
 
-// Stores a row; nothing else knows its order. The stores stand by themselves, so that their proof
+// Stores a row; no other function stores one. The stores stand by themselves, so that their proof
 // knows of nothing else.
 fn put_numbers(table: &mut [u32], to: usize, row: RowNumbers)
     requires { ⌜ to + width ≤ length (now table) ⌝ }

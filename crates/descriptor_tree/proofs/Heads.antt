@@ -12,7 +12,7 @@ use Rattle.algebra.proofs.Places.{length-be, at-in, at-left, at-right, at-next}
 use Rattle.algebra.proofs.Inverse.{clash, then-inv, ok-value, ok-place}
 use Rattle.descriptor.specs.Reading.{Known, is, unknown, known, id, class, flag, double, enumerated, rawBytes, unicode, unitDouble, skip, Sort, leaf, list, object, reference, array, types, sortOf, forms, formOf, Row, headed, plain, siblings, children, refValue, refItem, arrayPair, item, pair, beside}
 use Rattle.algebra.specs.Refusal.{among}
-use Rattle.algebra.specs.Sets.{Size, Seq, number, counted}
+use Rattle.algebra.specs.Sets.{Size, Seq, number, prefixed}
 use Rattle.descriptor_tree.specs.Grammar.{Class, Leaf, Form, IdBody, Id, Units, Text, Raw, Double}
 use Rattle.algebra.specs.Sets.Seq.{seq}
 use Rattle.descriptor_tree.specs.Tree.{Place, Item}
@@ -243,10 +243,10 @@ beside-none P cs h t never = go (beside cs t) refl
 
 -- a value of each type and form
 some-id : Id (be 4 0 ++ (0 ∷ 0 ∷ 0 ∷ 0 ∷ []))
-some-id = counted 0 (omega arith) (IdBody.char refl)
+some-id = prefixed 0 (omega arith) (IdBody.char refl)
 
 some-text : Text (be 4 0 ++ [])
-some-text = counted 0 (omega arith) Units.none
+some-text = prefixed 0 (omega arith) Units.none
 
 some-class : Class ((be 4 0 ++ []) ++ (be 4 0 ++ (0 ∷ 0 ∷ 0 ∷ 0 ∷ [])))
 some-class = seq some-text some-id
@@ -255,7 +255,7 @@ some-double : Double (be 8 0)
 some-double = number 0 (omega arith) (omega arith)
 
 some-raw : Raw (be 4 0 ++ [])
-some-raw = counted 0 (omega arith) refl
+some-raw = prefixed 0 (omega arith) refl
 
 abbrev four : List ℕ
 four = 0 ∷ 0 ∷ 0 ∷ 0 ∷ []
@@ -288,7 +288,7 @@ no-type = beside-none ItemType types (
                     (
                       leafy (Leaf.text some-text),
                       (
-                        leafy (Leaf.unitDouble (counted (chars "#Ang") (omega arith) (among refl, some-double))),
+                        leafy (Leaf.unitDouble (prefixed (chars "#Ang") (omega arith) (among refl, some-double))),
                         (
                           ItemType.type (Item.list 0 (omega arith)),
                           (

@@ -7,7 +7,7 @@ use native.Mathlib.Omega.{arith}
 use Rattle.algebra.specs.Chars.{chars}
 use Rattle.algebra.specs.Numbers.{be}
 use Rattle.algebra.proofs.Places.{length-be}
-use Rattle.algebra.specs.Sets.{Field, Number, Counted}
+use Rattle.algebra.specs.Sets.{Field, Number, Prefixed}
 use Rattle.descriptor_tree.specs.Grammar.{IdBody, Id, Class, Leaf}
 use Rattle.algebra.specs.Sets.Number.{number}
 use Rattle.algebra.specs.Sets.Seq.{seq}
@@ -18,7 +18,7 @@ use Rattle.descriptor_tree.specs.Tree.{Place, Item, Member, head}
 number-size : {w : ℕ} {P : ℕ → Type 0} {b : List ℕ} → Number w P b → length b ≡ w
 number-size {w} (number n l p) = length-be w n
 
-counted-size : {Y : ℕ → Field} {b : List ℕ} → Counted Y b → 4 ≤ length b
+counted-size : {Y : ℕ → Field} {b : List ℕ} → Prefixed Y b → 4 ≤ length b
 counted-size (counted n {y = y} l h) = omega (arith, length-append (be 4 n) y, length-be 4 n)
 
 pub id-size : {b : List ℕ} → Id b → 5 ≤ length b

@@ -9,7 +9,7 @@ use native.Mathlib.Omega.{arith}
 use Rattle.algebra.specs.Chars.{chars}
 use Rattle.algebra.specs.Numbers.{num, be, At, Bytes}
 use Rattle.algebra.specs.Reader.{Res}
-use Rattle.algebra.specs.Sets.{Size, number, seq, counted}
+use Rattle.algebra.specs.Sets.{Size, number, seq, prefixed}
 use Rattle.algebra.proofs.Places.{length-be, at-in, at-left, at-after, at-same, num-lt, be-num, num-be}
 use Rattle.descriptor.specs.Reading.{Row, descriptor}
 use Rattle.descriptor_read.specs.declared.Typed.the-variants as vt
@@ -46,7 +46,7 @@ module _ (s : List ℕ) (octets : Bytes s) where
   leaf-says {b = b} (Leaf.large l) v h = subst (λ (c : List ℕ). Says (chars "comp") c (vt.Comp (num 8 s v))) (sym (a-number 8 v b l h)) (Says.comp (num 8 s v) (num-lt s octets 8 v))
   leaf-says {b = b} (Leaf.raw x) v h = Says.other refl
   leaf-says {b = b} (Leaf.text x) v h = Says.other refl
-  leaf-says (Leaf.unitDouble (counted u {y = y} few (of, number n small l))) v h =
+  leaf-says (Leaf.unitDouble (prefixed u {y = y} few (of, number n small l))) v h =
       let e : v + length (be 4 u) ≡ v + 4 = ap (λ (k : ℕ). v + k) (length-be 4 u) in
       let a : num 4 s v ≡ u = num-be s 4 v u few (at-left s v (be 4 u) (be 8 n) h) in
       let d : num 8 s (v + 4) ≡ n = num-be s 8 (v + 4) n small (at-after s v (be 4 u) (be 8 n) (v + 4) e h) in

@@ -6,7 +6,7 @@ use mathlib.Core.List.{List, [], _∷_, _++_}
 use lib.ListN.{length}
 use Rattle.algebra.specs.Chars.{chars}
 use Rattle.algebra.specs.Refusal.{Of}
-use Rattle.algebra.specs.Sets.{Field, Size, Number, Seq, Counted, When, Run}
+use Rattle.algebra.specs.Sets.{Field, Size, Number, Seq, Prefixed, When, Run}
 
 -- ---- primitives
 
@@ -16,7 +16,7 @@ pub data IdBody : ℕ → List ℕ → Type 0 where
   string : {n : ℕ} {b : List ℕ} → 0 < n → length b ≡ n → IdBody n b
 
 abbrev pub Id : Field
-Id = Counted IdBody
+Id = Prefixed IdBody
 
 -- Unicode string: a count, then the units of two bytes; none, or the last is zero
 pub data Units : ℕ → List ℕ → Type 0 where
@@ -24,7 +24,7 @@ pub data Units : ℕ → List ℕ → Type 0 where
   closed : (n : ℕ) (b : List ℕ) → length b ≡ n * 2 → Units (suc n) (b ++ (0 ∷ 0 ∷ []))
 
 abbrev pub Text : Field
-Text = Counted Units
+Text = Prefixed Units
 
 -- a name and an ID
 abbrev pub Class : Field
@@ -36,7 +36,7 @@ Enumerated = Seq Id Id
 
 -- a length, and that many bytes
 abbrev pub Raw : Field
-Raw = Counted Size
+Raw = Prefixed Size
 
 -- 0 or 1
 abbrev pub Boolean : Field
@@ -54,7 +54,7 @@ abbrev pub Measure : ℕ → Type 0
 Measure u = Of measures u
 
 abbrev pub UnitDouble : Field
-UnitDouble = Counted (λ u. When (Measure u) Double)
+UnitDouble = Prefixed (λ u. When (Measure u) Double)
 
 -- ---- values by type and form
 
@@ -96,4 +96,4 @@ ArrayMeasure u = Of arrayMeasures u
 
 -- the unit doubles of a pair: a unit, a count that is the number m of objects, and as many doubles
 abbrev pub UnitDoubles : ℕ → Field
-UnitDoubles m = Counted (λ u. When (ArrayMeasure u) (Counted (λ n. When (n ≡ m) (Run Double n))))
+UnitDoubles m = Prefixed (λ u. When (ArrayMeasure u) (Prefixed (λ n. When (n ≡ m) (Run Double n))))

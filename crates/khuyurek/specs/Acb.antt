@@ -11,7 +11,7 @@ use Rattle.acb_judge.specs.Answer.{HeaderPlaces, Report}
 use Rattle.acb_read.specs.Answer as record-of
 use Rattle.acb_shown_values.specs.Pages.{sampleOf}
 use Rattle.acb_shown_values.specs.Answer.{Told, record-is, refused as noPage, pageOf as sampled}
-use Rattle.acb_shown_file.specs.View.{dummiesIn, Counted, counted, refusal as refusalView}
+use Rattle.acb_shown_file.specs.View.{dummiesIn, CountAnswer, counted, refusal as refusalView}
 use Rattle.acb.specs.Row.{RecordRow}
 use Rattle.acb_write_judge.specs.Writing.{needed, written}
 use Rattle.khuyurek.specs.declared.books.AcbText.{AcbText}
@@ -86,19 +86,19 @@ abbrev pub fourOf : List ℤ → List ℤ
 fourOf vs = getD vs 0 (pos 0) ∷ getD vs 1 (pos 0) ∷ getD vs 2 (pos 0) ∷ getD vs 3 (pos 0) ∷ []
 
 -- what the components show, and how many they are
-abbrev pub showing : List ℤ → Counted → AcbShown
+abbrev pub showing : List ℤ → CountAnswer → AcbShown
 showing vs (counted n) = record { number = 0; count = n; place = 0; values = vs }
 showing vs (refusalView x p) = record { number = x; count = 0; place = p; values = vs }
 
-abbrev pub shownOf : List ℤ × Counted → AcbShown
+abbrev pub shownOf : List ℤ × CountAnswer → AcbShown
 shownOf w = showing (fourOf (w .0)) (w .1)
 
-abbrev pub fullOf : Counted → AcbFull
+abbrev pub fullOf : CountAnswer → AcbFull
 fullOf (counted n) = record { number = 0; size = n; place = 0 }
 fullOf (refusalView x p) = record { number = x; size = 0; place = p }
 
 -- the same, and what the lent bytes then hold
-abbrev pub fullReadOf : Counted × List ℕ → AcbFull × List ℕ
+abbrev pub fullReadOf : CountAnswer × List ℕ → AcbFull × List ℕ
 fullReadOf w = (fullOf (w .0), w .1)
 
 abbrev pub pageOf : Told → AcbPage

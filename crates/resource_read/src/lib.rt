@@ -52,7 +52,7 @@ fn given_at(file: &[u8], at: usize) -> Record
     }
 }
 
-// Stores a record's numbers from `to`: nothing else knows how a table lays them out.
+// Stores a record's numbers from `to`: no other function stores them.
 fn put_row(table: &mut [u32], to: usize, given: Record)
     requires { ⌜ (to + width ≤ length (now table)) × Small given ⌝ }
     ensures { λ _. ⌜ now (table .exit) ≡ sets (now (table .entry)) to (row given) ⌝ }

@@ -20,7 +20,7 @@ use fields::Written;
 use resource::Record;
 use resource::WIDTH;
 
-// Record k of a run that has it; nothing else knows how a run lays it out.
+// Record k of a run that has it; no other function takes one out of a run.
 fn whole_at(run: &[u32], k: usize) -> Record
     requires { ⌜ width * k + width ≤ length (now run) ⌝ }
     ensures { λ r. ⌜ (r ≡ taken (rowAt width (now (run .entry)) k)) × Counted r ⌝ }

@@ -9,14 +9,14 @@ use native.Mathlib.Omega.{arith}
 use Rattle.algebra.specs.Reader.{Res, ok, refuse, pick}
 use Rattle.colour.specs.Spaces.{cmyk}
 use Rattle.acb.specs.Reading.{Contents, componentsOf, acb}
-use Rattle.acb_shown_file.specs.View.{Counted, counted, refusal, noValues, shownAt}
+use Rattle.acb_shown_file.specs.View.{CountAnswer, counted, refusal, noValues, shownAt}
 use Rattle.acb_shown_file.specs.Answer.{toldCount}
 use Rattle.khuyurek.specs.Acb.{fourOf, showing, shownOf}
 use borrow.Author.Needs.{needs}
 use Rattle.khuyurek.proofs.books.khuyurek_acb_shown_at.Statement.{statement}
 use Rattle.khuyurek.proofs.books.khuyurek_acb_shown_at.Tie as tie
 
-abbrev count-of : Counted → ℕ
+abbrev count-of : CountAnswer → ℕ
 count-of (counted n) = n
 count-of (refusal x p) = 0
 
@@ -29,7 +29,7 @@ few-components x = go (eqb x cmyk) where
 few : (i : ℕ) (m : Res Contents) → count-of (shownAt i m .1) ≤ 4
 few i (refuse x p r f) = let z : 0 ≤ 4 = omega arith in z
 few i (ok c q) = go (ltb i (length (c .entries))) _ (few-components (c .header .numbers .space)) where
-  go : (b : Bool) (vs : List ℤ) {n : ℕ} → n ≤ 4 → count-of (pick {A = List ℤ × Counted} b (vs, counted n) (noValues, refusal 12 0) .1) ≤ 4
+  go : (b : Bool) (vs : List ℤ) {n : ℕ} → n ≤ 4 → count-of (pick {A = List ℤ × CountAnswer} b (vs, counted n) (noValues, refusal 12 0) .1) ≤ 4
   go true vs h = h
   go false vs h = let z : 0 ≤ 4 = omega arith in z
 
@@ -50,9 +50,9 @@ cast-t11 c =
     let r = c .before .before .before .before .before in
     let a = r .before .before .args in
     let told : counted (c .before .count .given .0 .0) ≡ shownAt (a .i) (acb (a .file .now)) .1 =
-    sym (ap toldCount (c .before .count .given .1)) ∙ ap (λ (w : List ℤ × Counted). w .1) (r .shown-at .ensures)
+    sym (ap toldCount (c .before .count .given .1)) ∙ ap (λ (w : List ℤ × CountAnswer). w .1) (r .shown-at .ensures)
     in
-    record { fits = fitting (subst (λ (k : Counted). count-of k ≤ 4) (sym told) (few (a .i) (acb (a .file .now)))) }
+    record { fits = fitting (subst (λ (k : CountAnswer). count-of k ≤ 4) (sym told) (few (a .i) (acb (a .file .now)))) }
 
 enum-known-count-2 : tie.Need-enum-known-count-2
 enum-known-count-2 c = search needs
