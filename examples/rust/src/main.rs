@@ -1,4 +1,4 @@
-//! Lists a colour file of any of the four kinds: `list_file FILE`. The status is
+//! Lists a colour file of ACO, ASE, ACB and descriptor files: `list_file FILE`. The status is
 //! 1 where the file is refused and 2 where it cannot be read.
 
 use std::io::Write;
