@@ -21,14 +21,10 @@ use Rattle.aco_stream.specs.declared.Stream.{Stream}
 use Rattle.aco_chunks.specs.Chunks.{FileVerdict, Progress, chunk, chunks, begin, answer}
 use Rattle.aco_chunks.specs.Promise.{join, soundColours, held}
 use Rattle.aco_stream.specs.Answer.{progress, usable, roomy, room, known, Starts, StartsBy, Feeds, FeedsBy, Finishes, FinishesBy}
+use Rattle.aco_stream.specs.Promise.{Runs, Agrees}
 use Rattle.aco_stream.proofs.Calls.{is-roomy, known-near}
 use Rattle.aco_chunks.proofs.Cutting.{any-cutting}
 use Rattle.aco_chunks.proofs.Small.{few-sound}
-
--- chunks fed one after the other, each with the stream and the store that the one before gave back; ns are the numbers that they are answered
-abbrev pub Runs : Stream → List ℕ → List (List ℕ) → List ℕ → Stream → List ℕ → Type 0
-Runs s store [] ns t after = (t ≡ s) × (after ≡ store) × (ns ≡ [])
-Runs s store (c ∷ cs) ns t after = (u : Stream) × (mid : List ℕ) × (n : ℕ) × Feeds s store c u n mid × (more : List ℕ) × (ns ≡ n ∷ more) × Runs u mid cs more t after
 
 -- what is known between two chunks
 pub record Between (s : Stream) (store₀ store : List ℕ) : Type 0 where
@@ -65,15 +61,7 @@ file-known s = go (aco s) refl
         let n = few (refused-placed s e .0) in
         sym (known-near x p r f (λ z. omega (arith, n .0)) (n .1))
 
-pub record Agrees (cs : List (List ℕ)) (store : List ℕ) (n : ℕ) (ns : List ℕ) (w : FileVerdict) (after : List ℕ) : Type 0 where
-  -- the start is answered 0, and so is every chunk
-  pub started : n ≡ 0
-  pub fed : All (λ k x. x ≡ 0) 0 ns
-  -- the end is answered what the whole file is found to be
-  pub answers : w ≡ verdict report (aco (join cs))
-  -- the store begins with the sound colours of list 1, and past them holds what it held
-  pub holds : after ≡ held (soundColours (join cs)) (join cs) store
-
+-- chunks cut anywhere, empty ones among them, and any store of at least 40,960 bytes
 pub calls-agree : (cs : List (List ℕ)) (store : List ℕ) → 40960 ≤ length store → (s : Stream) (n : ℕ) → Starts store s n → (ns : List ℕ) (t : Stream) (after : List ℕ) → Runs s store cs ns t after → (z : Stream) (w : FileVerdict) → Finishes t after z w → Agrees cs store n ns w after
 calls-agree cs store l s n b ns t after r z w f =
     let b′ : StartsBy true store s n = subst (λ (b : Bool). StartsBy b store s n) (is-roomy store l) b in

@@ -1,6 +1,7 @@
 -- A stream of aco_stream in numbers, for every number in each place; each exported call promises what aco_stream promises of the stream that the numbers are.
 use Prim.Native.Nat.{ℕ}
-use mathlib.Core.List.{List}
+use mathlib.Core.Path.{_≡_}
+use mathlib.Core.List.{List, [], _∷_}
 use mathlib.Core.Bool.{Bool, true, false}
 use lib.Dec.{eqb, ltb}
 use lib.ListN.{take}
@@ -10,7 +11,7 @@ use Rattle.aco_chunks.specs.declared.Stage.{Stage}
 use Rattle.aco_chunks.specs.declared.Stage.the-variants as v
 use Rattle.aco_chunks.specs.Chunks.{answer}
 use Rattle.aco_stream.specs.declared.Stream.{Stream}
-use Rattle.aco_stream.specs.Answer.{progress, usable, roomy, room, known}
+use Rattle.aco_stream.specs.Answer.{progress, usable, roomy, room, known, Feeds}
 use Rattle.khuyurek.specs.declared.stream.AcoStream.{AcoStream}
 use Rattle.khuyurek.specs.declared.stream.AcoFinished.{AcoFinished}
 use Rattle.khuyurek.specs.Aco.{answerOf}
@@ -64,3 +65,8 @@ finishedBy false large x store = record { answer = answerOf (refused 5 0 0 0); s
 
 abbrev pub finishedOf : AcoStream → List ℕ → AcoFinished
 finishedOf x store = finishedBy (usable (streamOf x)) (roomy store) x store
+
+-- chunks fed one after the other, each with the numbers and the store that the call before handed back
+abbrev pub FedInTurn : AcoStream → List ℕ → List (List ℕ) → List ℕ → AcoStream → List ℕ → Type 0
+FedInTurn x store [] ns y after = (y ≡ x) × (after ≡ store) × (ns ≡ [])
+FedInTurn x store (c ∷ cs) ns y after = (u : AcoStream) × (mid : List ℕ) × (n : ℕ) × Feeds (streamOf x) store c (streamOf u) n mid × (more : List ℕ) × (ns ≡ n ∷ more) × FedInTurn u mid cs more y after
