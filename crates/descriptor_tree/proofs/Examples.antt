@@ -94,11 +94,11 @@ nested-heads = refl
 
 key-id : Id key
 unfolding be
-key-id = Prefixed.counted 1 {y = 0x61 ∷ []} (omega arith) (IdBody.string {n = 1} (omega arith) refl)
+key-id = Prefixed.prefixed 1 {y = 0x61 ∷ []} (omega arith) (IdBody.string {n = 1} (omega arith) refl)
 
 class-class : Class class
 unfolding be
-class-class = Seq.seq {x = 0 ∷ 0 ∷ 0 ∷ 0 ∷ []} (Prefixed.counted 0 {y = []} (omega arith) Units.none) key-id
+class-class = Seq.seq {x = 0 ∷ 0 ∷ 0 ∷ 0 ∷ []} (Prefixed.prefixed 0 {y = []} (omega arith) Units.none) key-id
 
 -- every number of a list is a byte
 abbrev Each : List ℕ → Type 0
@@ -133,23 +133,23 @@ p12-file =
 
 letter-id : (x : ℕ) → Id (letter x)
 unfolding be
-letter-id x = Prefixed.counted 1 {y = x ∷ []} (omega arith) (IdBody.string {n = 1} (omega arith) refl)
+letter-id x = Prefixed.prefixed 1 {y = x ∷ []} (omega arith) (IdBody.string {n = 1} (omega arith) refl)
 
 four-id : (t : ℕ) → Id (four t)
-four-id t = Prefixed.counted 0 {y = be 4 t} (omega arith) (IdBody.char (length-be 4 t))
+four-id t = Prefixed.prefixed 0 {y = be 4 t} (omega arith) (IdBody.char (length-be 4 t))
 
 column-is : UnitDoubles 2 column
 column-is =
-    Prefixed.counted (chars "#Pxl") (omega arith) (
+    Prefixed.prefixed (chars "#Pxl") (omega arith) (
       among refl,
-      Prefixed.counted 2 (omega arith) (
+      Prefixed.prefixed 2 (omega arith) (
         omega arith,
         Seq.seq {x = be 8 0x3FF0_0000_0000_0000} (Number.number 0x3FF0_0000_0000_0000 (omega arith) (omega arith)) (Seq.seq {x = be 8 0xC000_0000_0000_0000} {y = []} (Number.number 0xC000_0000_0000_0000 (omega arith) (omega arith)) refl),
       ),
     )
 
 percents-is : Leaf (chars "UntF") percents
-percents-is = Leaf.unitDouble (Prefixed.counted (chars "#Prc") (omega arith) (among refl, Number.number 0x4059_0000_0000_0000 (omega arith) (omega arith)))
+percents-is = Leaf.unitDouble (Prefixed.prefixed (chars "#Prc") (omega arith) (among refl, Number.number 0x4059_0000_0000_0000 (omega arith) (omega arith)))
 
 references-allowed : Allowed Place.forms 4 references
 references-allowed = (Place.nowhere, omega arith, Member.form (Seq.seq class-class (Form.enumerated (Seq.seq (letter-id 0x74) (four-id (chars "valu"))))), tt, tt)

@@ -11,7 +11,7 @@ use Rattle.algebra.specs.Sets.{Field, Number, Prefixed}
 use Rattle.descriptor_tree.specs.Grammar.{IdBody, Id, Class, Leaf}
 use Rattle.algebra.specs.Sets.Number.{number}
 use Rattle.algebra.specs.Sets.Seq.{seq}
-use Rattle.algebra.specs.Sets.Counted.{counted}
+use Rattle.algebra.specs.Sets.Prefixed.{prefixed}
 use Rattle.descriptor_tree.specs.Grammar.IdBody.{char, string}
 use Rattle.descriptor_tree.specs.Tree.{Place, Item, Member, head}
 
@@ -19,10 +19,10 @@ number-size : {w : ℕ} {P : ℕ → Type 0} {b : List ℕ} → Number w P b →
 number-size {w} (number n l p) = length-be w n
 
 counted-size : {Y : ℕ → Field} {b : List ℕ} → Prefixed Y b → 4 ≤ length b
-counted-size (counted n {y = y} l h) = omega (arith, length-append (be 4 n) y, length-be 4 n)
+counted-size (prefixed n {y = y} l h) = omega (arith, length-append (be 4 n) y, length-be 4 n)
 
 pub id-size : {b : List ℕ} → Id b → 5 ≤ length b
-id-size (counted n {y = y} l h) = omega (arith, length-append (be 4 n) y, length-be 4 n, body h)
+id-size (prefixed n {y = y} l h) = omega (arith, length-append (be 4 n) y, length-be 4 n, body h)
   where
     body : {n : ℕ} {b : List ℕ} → IdBody n b → 1 ≤ length b
     body (char e) = omega arith
