@@ -6,12 +6,12 @@ ghost use mathlib.Core.List.{map};
 ghost use Rattle.algebra.specs.Reader.{done, each, judged, mapRes};
 ghost use Rattle.algebra.specs.Table.{verdict};
 ghost use Rattle.algebra.specs.Text.{place};
-ghost use Rattle.fields.specs.Answer.{toldStep};
+ghost use Rattle.fields.specs.Answer.{toldFieldEnd};
 ghost use Rattle.names.specs.Answer.{toldName};
 ghost use Rattle.acb.specs.Reading.{string, colour, isSpace, componentsOf, pageSize, space, opening, strings, numbers, header, closing, acb};
 ghost use Rattle.acb_judge.specs.scaffold.Parts.{two, offsets, headerFrom, rest, knownTag};
 ghost use Rattle.acb_judge.specs.Answer.{textPlace, report, reported, told, toldHeader};
-ghost use Rattle.acb_judge.specs.scaffold.Answer.{toldOpening, toldTwo, toldStrings, toldCounts, toldHead, headed, toldKnown, toldClosing};
+ghost use Rattle.acb_judge.specs.scaffold.Answer.{toldIdentifier, toldTwo, toldStrings, toldCounts, toldHead, headed, toldKnown, toldClosing};
 use acb::LIMIT;
 use acb::PROCESS;
 use acb::SIGNATURE;
@@ -123,7 +123,7 @@ fn string_at(file: &[u8], at: usize) -> NameAt
 // The record of n components at `at`. A missing component is missing at the file's end.
 fn colour_at(file: &[u8], at: usize, n: usize) -> FieldEnd
     requires { ⌜ n ≤ 4 ⌝ }
-    ensures { λ r. ⌜ toldStep r ≡ done (colour n (now (file .entry)) at) ⌝ }
+    ensures { λ r. ⌜ toldFieldEnd r ≡ done (colour n (now (file .entry)) at) ⌝ }
 {
     match string_at(file, at) {
         NameAt::Refused(x, p) => FieldEnd::Refused(x, p),
@@ -143,7 +143,7 @@ fn colour_at(file: &[u8], at: usize, n: usize) -> FieldEnd
 // The `count` records of n components from `at`.
 fn colours_at(file: &[u8], at: usize, count: u16, n: usize) -> FieldEnd
     requires { ⌜ n ≤ 4 ⌝ }
-    ensures { λ r. ⌜ toldStep r ≡ done (each count 0 (λ i. colour n) (now (file .entry)) at) ⌝ }
+    ensures { λ r. ⌜ toldFieldEnd r ≡ done (each count 0 (λ i. colour n) (now (file .entry)) at) ⌝ }
 {
     let mut p = at;
     let mut i: u16 = 0;
@@ -187,7 +187,7 @@ pub fn components_of(space: u16) -> usize
 
 // `8BCB`, 1, and the identifier.
 fn opening_at(file: &[u8]) -> IdentifierAt
-    ensures { λ r. ⌜ toldOpening r ≡ opening (now (file .entry)) 0 ⌝ }
+    ensures { λ r. ⌜ toldIdentifier r ≡ opening (now (file .entry)) 0 ⌝ }
 {
     let Number32::Is(signature, a) = fields::u32_at(file, 0) else {
         return IdentifierAt::Refused(2, 0);
@@ -244,7 +244,7 @@ fn strings_at(file: &[u8], at: usize) -> Strings
 
 // A 16-bit number that is not 0, else 5.
 fn size_at(file: &[u8], at: usize) -> IdentifierAt
-    ensures { λ r. ⌜ toldOpening r ≡ judged 2 pageSize (now (file .entry)) at ⌝ }
+    ensures { λ r. ⌜ toldIdentifier r ≡ judged 2 pageSize (now (file .entry)) at ⌝ }
 {
     let Number16::Is(size, next) = fields::u16_at(file, at) else {
         return IdentifierAt::Refused(2, at);
@@ -257,7 +257,7 @@ fn size_at(file: &[u8], at: usize) -> IdentifierAt
 
 // A space, else 4.
 fn space_at(file: &[u8], at: usize) -> IdentifierAt
-    ensures { λ r. ⌜ toldOpening r ≡ judged 2 space (now (file .entry)) at ⌝ }
+    ensures { λ r. ⌜ toldIdentifier r ≡ judged 2 space (now (file .entry)) at ⌝ }
 {
     let Number16::Is(space, next) = fields::u16_at(file, at) else {
         return IdentifierAt::Refused(2, at);

@@ -8,7 +8,7 @@ ghost use Rattle.acb.specs.Reading.{componentsOf, acb};
 ghost use Rattle.acb_judge.specs.Answer.{toldText, toldHeader, toldTag};
 ghost use Rattle.acb_shown_values.specs.Answer.{toldPage};
 ghost use Rattle.listing.specs.Buffer.{putAll};
-ghost use Rattle.acb_read.specs.Answer.{toldSwatch};
+ghost use Rattle.acb_read.specs.Answer.{toldRecord};
 ghost use Rattle.acb_read.specs.Walked.{givenIn, walked};
 ghost use Rattle.acb_shown_file.specs.View.{dummiesIn};
 ghost use Rattle.listing.specs.Text.{word, lines, taken};
@@ -119,7 +119,7 @@ fn put_components(out: &mut [u8], n: usize, values: &[u8], components: usize) ->
 // What stands in a record's line after its number. The six bytes of the code are listed as those of a name
 // would be.
 fn put_record(out: &mut [u8], n: usize, file: &[u8], swatch: BookRecord, components: usize) -> usize
-    ensures { λ r. ⌜ (now (out .exit), r) ≡ putAll (now (out .entry), n) (record-text (now (file .entry)) components (givenIn (toldSwatch swatch))) ⌝ }
+    ensures { λ r. ⌜ (now (out .exit), r) ≡ putAll (now (out .entry), n) (record-text (now (file .entry)) components (givenIn (toldRecord swatch))) ⌝ }
 {
     let code = swatch.code;
     let values = swatch.components;

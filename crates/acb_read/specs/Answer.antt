@@ -28,9 +28,9 @@ abbrev pub recordPlaces : Verdict Entry → RecordPlaces
 recordPlaces (accepted e) = shownBy (givenOf e) (accepted (givenOf e .name))
 recordPlaces (refused x p r f) = shownBy (taken []) (refused x p r f)
 
-abbrev pub toldSwatch : BookRecord → RecordPlaces
-toldSwatch w = record { name = toldPlace (w .name); code = w .code; components = w .components }
+abbrev pub toldRecord : BookRecord → RecordPlaces
+toldRecord w = record { name = toldPlace (w .name); code = w .code; components = w .components }
 
 -- the same, and the next place
-abbrev pub toldStep : RecordStep → RecordPlaces × ℕ
-toldStep w = (toldSwatch (w .swatch), w .next)
+abbrev pub toldRecordStep : RecordStep → RecordPlaces × ℕ
+toldRecordStep w = (toldRecord (w .swatch), w .next)

@@ -11,7 +11,7 @@ ghost use Rattle.acb.specs.Reading.{acb};
 ghost use Rattle.acb.specs.Row.{width, numbers, row};
 ghost use Rattle.acb_judge.specs.Answer.{toldText, report, told};
 ghost use Rattle.acb_read.specs.Table.{entriesOf, blank, nameBytesIn};
-ghost use Rattle.acb_read.specs.Answer.{toldPlace, recordPlaces, toldSwatch, toldStep};
+ghost use Rattle.acb_read.specs.Answer.{toldPlace, recordPlaces, toldRecord, toldRecordStep};
 ghost use Rattle.acb_read.specs.Walked.{step, passed, namePlaceOf, givenIn, walked};
 ghost use Rattle.acb_read.specs.scaffold.Parts.{fourthAt, wholeAt};
 use acb::WIDTH;
@@ -43,7 +43,7 @@ pub struct RecordStep {
 
 // No record: zeros beside the refusal.
 fn none(number: u32, place: usize) -> BookRecord
-    ensures { λ r. ⌜ toldSwatch r ≡ recordPlaces (refused number place 0 0) ⌝ }
+    ensures { λ r. ⌜ toldRecord r ≡ recordPlaces (refused number place 0 0) ⌝ }
 {
     BookRecord {
         code: [0; 6],
@@ -54,7 +54,7 @@ fn none(number: u32, place: usize) -> BookRecord
 
 // No record stands at `at`.
 fn lost(at: usize) -> RecordStep
-    ensures { λ r. ⌜ toldStep r ≡ (recordPlaces (refused 5 0 0 0), at) ⌝ }
+    ensures { λ r. ⌜ toldRecordStep r ≡ (recordPlaces (refused 5 0 0 0), at) ⌝ }
 {
     RecordStep {
         swatch: none(5, 0),
@@ -76,7 +76,7 @@ fn fourth_at(file: &[u8], code: usize, n: usize) -> u8
 // The record of n components whose name has so many units from `first` on, which is whole.
 fn whole_at(file: &[u8], first: usize, units: u32, n: usize) -> RecordStep
     requires { ⌜ (3 ≤ n) × (first + 2 * units + 6 + n ≤ length (now file)) ⌝ }
-    ensures { λ r. ⌜ toldStep r ≡ wholeAt n (now (file .entry)) first units ⌝ }
+    ensures { λ r. ⌜ toldRecordStep r ≡ wholeAt n (now (file .entry)) first units ⌝ }
 {
     let code = first + 2 * (units as usize);
     let last = fourth_at(file, code, n);
@@ -103,7 +103,7 @@ fn whole_at(file: &[u8], first: usize, units: u32, n: usize) -> RecordStep
 // The record at `at` of a book of a space, and the place behind it; 5 and the place itself where no
 // whole record stands there.
 pub fn step_at(file: &[u8], at: usize, space: u16) -> RecordStep
-    ensures { λ r. ⌜ toldStep r ≡ step space (now (file .entry)) at ⌝ }
+    ensures { λ r. ⌜ toldRecordStep r ≡ step space (now (file .entry)) at ⌝ }
 {
     let Number32::Is(units, first) = fields::u32_at(file, at) else {
         return lost(at);
@@ -169,8 +169,8 @@ fn put_numbers(table: &mut [u32], to: usize, row: [u32; 12])
 
 // Stores a record as a row.
 fn put_row(table: &mut [u32], to: usize, swatch: BookRecord)
-    requires { ⌜ (to + width ≤ length (now table)) × (givenIn (toldSwatch swatch) .name .0 < 2 ^ 32) ⌝ }
-    ensures { λ _. ⌜ now (table .exit) ≡ sets (now (table .entry)) to (numbers (givenIn (toldSwatch swatch))) ⌝ }
+    requires { ⌜ (to + width ≤ length (now table)) × (givenIn (toldRecord swatch) .name .0 < 2 ^ 32) ⌝ }
+    ensures { λ _. ⌜ now (table .exit) ≡ sets (now (table .entry)) to (numbers (givenIn (toldRecord swatch))) ⌝ }
 {
     let name = swatch.name;
     let code = swatch.code;
@@ -244,7 +244,7 @@ pub fn read(file: &[u8], table: &mut [u32]) -> Answer
 
 // Record i of a file.
 pub fn record_at(file: &[u8], i: usize) -> BookRecord
-    ensures { λ r. ⌜ toldSwatch r ≡ recordPlaces (recordAt entriesOf blank i (acb (now (file .entry)))) ⌝ }
+    ensures { λ r. ⌜ toldRecord r ≡ recordPlaces (recordAt entriesOf blank i (acb (now (file .entry)))) ⌝ }
 {
     match acb_judge::judge(file) {
         Answer::Refused { number, place } => none(number, place),

@@ -4,12 +4,12 @@ ghost use mathlib.Core.Bool.{true};
 ghost use Prim.Native.Nat.{_+_, _*_, _≤_};
 ghost use lib.ListN.{length, getD};
 ghost use Rattle.algebra.specs.Reader.{done, each};
-ghost use Rattle.fields.specs.Answer.{toldStep};
+ghost use Rattle.fields.specs.Answer.{toldFieldEnd};
 ghost use Rattle.aco.specs.Reading.{samples, colour, entry, zeroColour, second, aco};
 ghost use Rattle.aco.specs.scaffold.Raw.{rawColours, headed, afterHeading, SoundAt, SameAt};
 ghost use Rattle.algebra.specs.Table.{verdict};
 ghost use Rattle.aco_judge.specs.Answer.{told, report};
-ghost use Rattle.aco_judge.specs.scaffold.Answer.{toldHeading, toldWalk};
+ghost use Rattle.aco_judge.specs.scaffold.Answer.{toldHeading, toldListTwoEnd};
 use aco::LIMIT;
 use aco::MOST;
 use fields::FieldEnd;
@@ -49,7 +49,7 @@ enum ListTwoEnd {
 
 // The four samples from `at` of a colour of a space.
 fn samples_at(file: &[u8], at: usize, space: u16) -> FieldEnd
-    ensures { λ r. ⌜ toldStep r ≡ done (samples space (now (file .entry)) at) ⌝ }
+    ensures { λ r. ⌜ toldFieldEnd r ≡ done (samples space (now (file .entry)) at) ⌝ }
 {
     let mut k: u16 = 0;
     let mut p = at;
@@ -68,7 +68,7 @@ fn samples_at(file: &[u8], at: usize, space: u16) -> FieldEnd
 
 // The colour at `at`, field by field up to its first fault.
 fn fields_at(file: &[u8], at: usize) -> FieldEnd
-    ensures { λ r. ⌜ toldStep r ≡ done (colour (now (file .entry)) at) ⌝ }
+    ensures { λ r. ⌜ toldFieldEnd r ≡ done (colour (now (file .entry)) at) ⌝ }
 {
     let Number16::Is(space, next) = fields::u16_at(file, at) else {
         return FieldEnd::Refused(2, at);
@@ -103,7 +103,7 @@ fn is_sound(file: &[u8], at: usize) -> bool
 
 // The colour at `at`. Nearly all are sound, and only another is looked into.
 pub fn colour_at(file: &[u8], at: usize) -> FieldEnd
-    ensures { λ r. ⌜ toldStep r ≡ done (colour (now (file .entry)) at) ⌝ }
+    ensures { λ r. ⌜ toldFieldEnd r ≡ done (colour (now (file .entry)) at) ⌝ }
 {
     if is_sound(file, at) {
         return FieldEnd::Next(at + 10);
@@ -114,7 +114,7 @@ pub fn colour_at(file: &[u8], at: usize) -> FieldEnd
 // The n colours of list 1 from `at`.
 fn colours_at(file: &[u8], at: usize, n: u16) -> FieldEnd
     requires { ⌜ at ≤ length (now file) ⌝ }
-    ensures { λ r. ⌜ toldStep r ≡ done (each n 0 (λ i. colour) (now (file .entry)) at) ⌝ }
+    ensures { λ r. ⌜ toldFieldEnd r ≡ done (each n 0 (λ i. colour) (now (file .entry)) at) ⌝ }
 {
     let mut i: u16 = 0;
     let mut p = at;
@@ -155,7 +155,7 @@ fn is_same(file: &[u8], at: usize, first: usize) -> bool
 // same, and only in another is a field looked for that differs.
 fn entries_at(file: &[u8], at: usize, n: u16) -> ListTwoEnd
     requires { ⌜ 4 + 10 * n ≤ length (now file) ⌝ }
-    ensures { λ r. ⌜ toldWalk r ≡ done (each n 0 (λ i. entry i (getD (rawColours n (now (file .entry)) 4) i zeroColour)) (now (file .entry)) at) ⌝ }
+    ensures { λ r. ⌜ toldListTwoEnd r ≡ done (each n 0 (λ i. entry i (getD (rawColours n (now (file .entry)) 4) i zeroColour)) (now (file .entry)) at) ⌝ }
 {
     let count = n as usize;
     let mut i: usize = 0;
@@ -209,7 +209,7 @@ pub fn heading_at(file: &[u8], at: usize, version: u16) -> Heading
 // List 2 from `at`, where list 1 has n colours, and the file's end.
 fn second_at(file: &[u8], at: usize, n: u16) -> ListTwoEnd
     requires { ⌜ (4 + 10 * n ≤ at) × (at ≤ length (now file)) ⌝ }
-    ensures { λ r. ⌜ toldWalk r ≡ done (second (rawColours n (now (file .entry)) 4) (now (file .entry)) at) ⌝ }
+    ensures { λ r. ⌜ toldListTwoEnd r ≡ done (second (rawColours n (now (file .entry)) 4) (now (file .entry)) at) ⌝ }
 {
     match heading_at(file, at, 2) {
         Heading::Refused(x, q) => ListTwoEnd::Refused(x, q),

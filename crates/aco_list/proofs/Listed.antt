@@ -22,7 +22,7 @@ use Rattle.walk.specs.Names.{namePart}
 use Rattle.walk.proofs.Calls.{step-read}
 use Rattle.walk.proofs.Turns.{given-all, given-start, given-none, given-next, given-over, given-refused}
 use Rattle.aco_walk.specs.Walking.{isPlain, firstPlace, namedEntry, labelled, swatchFrom, walk}
-use Rattle.aco_walk.specs.Answer.{toldGiven, toldStep, callAndPlace}
+use Rattle.aco_walk.specs.Answer.{toldNextColour, toldColourStep, callAndPlace}
 use Rattle.aco_walk.specs.declared.NextColour.{NextColour}
 use Rattle.aco_walk.specs.declared.NextColour.the-variants as vg
 use Rattle.aco_walk.specs.declared.ColourStep.{ColourStep as Answered}
@@ -43,8 +43,8 @@ abbrev Handed : Type 0
 Handed = Colour × Call (ℕ × ℕ) × ℕ
 
 -- by the variant that the code found
-pub told-is : (r : Answered) (w : Call Entry × ℕ) {g : NextColour} → toldStep r ≡ callAndPlace w → r .given ≡ g → callAndPlace w ≡ (r .colour, toldGiven g, r .next)
-told-is r w e f = sym e ∙ ap (λ (g : NextColour). (r .colour, toldGiven g, r .next)) f
+pub told-is : (r : Answered) (w : Call Entry × ℕ) {g : NextColour} → toldColourStep r ≡ callAndPlace w → r .given ≡ g → callAndPlace w ≡ (r .colour, toldNextColour g, r .next)
+told-is r w e f = sym e ∙ ap (λ (g : NextColour). (r .colour, toldNextColour g, r .next)) f
 
 answer-is : {x y : Handed} → x ≡ y → x .1 ≡ y .1
 answer-is e = ap (λ (h : Handed). h .1) e
@@ -130,7 +130,7 @@ module _ (s : List ℕ) (bytes : Bytes s) where
           subst (λ (y : Entry). Spelt (y .name)) (ok-value (t .3)) (subst Spelt (i .1 .is) (read (i .0) (n + 4) (i .1 .some) (omega (arith, i .1 .inside, i .1 .room, i .1 .some))))
 
   -- the line of the record that a call gave
-  pub line-put : (o : Buffer) (i at : ℕ) (r : Answered) {place units : ℕ} {b : List ℕ} {p : Buffer} → toldStep r ≡ callAndPlace (walk s at) → r .given ≡ vg.Colour place units → b ≡ namePart s place units → p ≡ putAll o (colourLine i (r .colour) b)
+  pub line-put : (o : Buffer) (i at : ℕ) (r : Answered) {place units : ℕ} {b : List ℕ} {p : Buffer} → toldColourStep r ≡ callAndPlace (walk s at) → r .given ≡ vg.Colour place units → b ≡ namePart s place units → p ≡ putAll o (colourLine i (r .colour) b)
       → (e : Entry) × (walk s at ≡ (gives e, r .next)) × (p ≡ putAll o (line i e))
   line-put o i at r e f g h =
       let t = told-gives (walk s at) (told-is r (walk s at) e f) in

@@ -11,5 +11,5 @@ toldPlace (vn.At p u) = accepted (p, u)
 toldPlace (vn.Refused x p) = refused x p 0 0
 toldPlace (vn.Differ p r f) = refused 7 p r f
 
-abbrev pub toldSwatch : SwatchRecord → Colour × Verdict (ℕ × ℕ)
-toldSwatch w = (w .colour, toldPlace (w .name))
+abbrev pub toldRecord : SwatchRecord → Colour × Verdict (ℕ × ℕ)
+toldRecord w = (w .colour, toldPlace (w .name))

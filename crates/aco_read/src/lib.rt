@@ -11,7 +11,7 @@ ghost use Rattle.aco.specs.Places.{entryPlace};
 ghost use Rattle.aco.specs.Row.{width, numbers, withName, row};
 ghost use Rattle.aco_judge.specs.Answer.{told, report};
 ghost use Rattle.aco_read.specs.Table.{filled, recordAt, byValue, nameBytesIn, recordsOf};
-ghost use Rattle.aco_read.specs.Answer.{toldPlace, toldSwatch};
+ghost use Rattle.aco_read.specs.Answer.{toldPlace, toldRecord};
 use aco::WIDTH;
 use aco_judge::Answer;
 use colour::Colour;
@@ -149,7 +149,7 @@ fn entry_place(file: &[u8], n: usize, i: usize) -> usize
 
 // No record: a colour of zeros beside the refusal.
 fn none(name: NamePlace) -> SwatchRecord
-    ensures { λ r. ⌜ toldSwatch r ≡ (zeroColour, toldPlace name) ⌝ }
+    ensures { λ r. ⌜ toldRecord r ≡ (zeroColour, toldPlace name) ⌝ }
 {
     let colour = Colour {
         space: 0,
@@ -161,7 +161,7 @@ fn none(name: NamePlace) -> SwatchRecord
 // Record i of an accepted file, which has it.
 fn found(file: &[u8], colours: usize, lists: usize, i: usize) -> SwatchRecord
     requires { ⌜ Accepted report (aco (now file)) (colours, lists) × (i < colours) ⌝ }
-    ensures { λ r. ⌜ toldSwatch r ≡ byValue (recordAt i (aco (now (file .entry)))) ⌝ }
+    ensures { λ r. ⌜ toldRecord r ≡ byValue (recordAt i (aco (now (file .entry)))) ⌝ }
 {
     let colour = colour_at(file, 4 + 10 * i);
     if lists == 1 {
@@ -179,7 +179,7 @@ fn found(file: &[u8], colours: usize, lists: usize, i: usize) -> SwatchRecord
 
 // Record i of a file.
 pub fn record_at(file: &[u8], i: usize) -> SwatchRecord
-    ensures { λ r. ⌜ toldSwatch r ≡ byValue (recordAt i (aco (now (file .entry)))) ⌝ }
+    ensures { λ r. ⌜ toldRecord r ≡ byValue (recordAt i (aco (now (file .entry)))) ⌝ }
 {
     match aco_judge::judge(file) {
         Answer::Refused { number, place } => none(NamePlace::Refused { number, place }),

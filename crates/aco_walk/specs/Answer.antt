@@ -14,14 +14,14 @@ use Rattle.aco_walk.specs.declared.WalkStart.{WalkStart}
 use Rattle.aco_walk.specs.declared.WalkStart.the-variants as vs
 
 -- a name's place and number of units; done; or a refusal's number and place
-abbrev pub toldGiven : NextColour → Call (ℕ × ℕ)
-toldGiven (vg.Colour p u) = gives (p, u)
-toldGiven vg.Done = over
-toldGiven (vg.Refused x p) = refused x p
+abbrev pub toldNextColour : NextColour → Call (ℕ × ℕ)
+toldNextColour (vg.Colour p u) = gives (p, u)
+toldNextColour vg.Done = over
+toldNextColour (vg.Refused x p) = refused x p
 
 -- the colour, the answer and the place that is left
-abbrev pub toldStep : ColourStep → Colour × Call (ℕ × ℕ) × ℕ
-toldStep r = (r .colour, toldGiven (r .given), r .next)
+abbrev pub toldColourStep : ColourStep → Colour × Call (ℕ × ℕ) × ℕ
+toldColourStep r = (r .colour, toldNextColour (r .given), r .next)
 
 -- a record as it is handed out: its colour by value, and where its name lies; where there is none, the colour is all zeros
 abbrev pub recordCall : Call Entry → Colour × Call (ℕ × ℕ)
@@ -35,7 +35,7 @@ callAndPlace w = (recordCall (w .0) .0, recordCall (w .0) .1, w .1)
 
 -- what a call of a walker hands back: what its step says, and the whole walker
 abbrev pub toldTurn : WalkerStep → (Colour × Call (ℕ × ℕ) × ℕ) × Walker
-toldTurn t = (toldStep (t .step), t .walker)
+toldTurn t = (toldColourStep (t .step), t .walker)
 
 -- the record as it is handed out, and the walker that follows
 abbrev pub walkerCall : Walker → (Colour × Call (ℕ × ℕ) × ℕ) × Walker

@@ -6,7 +6,7 @@ ghost use Rattle.algebra.specs.Reader.{refuse};
 ghost use Rattle.aco.specs.Reading.{colour, zeroColour, aco};
 ghost use Rattle.walk.specs.Walk.{answered, over, refused};
 ghost use Rattle.aco_walk.specs.Walking.{isPlain, firstPlace, labelled, walk, lentOf, startOf};
-ghost use Rattle.aco_walk.specs.Answer.{toldGiven, toldStep, callAndPlace, toldTurn, walkerCall, toldStart};
+ghost use Rattle.aco_walk.specs.Answer.{toldNextColour, toldColourStep, callAndPlace, toldTurn, walkerCall, toldStart};
 ghost use Rattle.aco_walk.specs.scaffold.Answer.{toldTested, tested};
 use aco_judge::Answer;
 use colour::Colour;
@@ -106,7 +106,7 @@ fn is_plain(file: &[u8]) -> bool
 
 // No colour, and the place that the walk is left at.
 fn none(given: NextColour, next: usize) -> ColourStep
-    ensures { λ r. ⌜ toldStep r ≡ (zeroColour, toldGiven given, next) ⌝ }
+    ensures { λ r. ⌜ toldColourStep r ≡ (zeroColour, toldNextColour given, next) ⌝ }
 {
     let colour = zeros();
     ColourStep {
@@ -118,7 +118,7 @@ fn none(given: NextColour, next: usize) -> ColourStep
 
 // Nothing that the layout allows: the walk is left past the end, so that it is refused ever after.
 fn lost(file: &[u8]) -> ColourStep
-    ensures { λ r. ⌜ toldStep r ≡ callAndPlace (answered (length (now (file .entry))) (refuse 5 0 0 0)) ⌝ }
+    ensures { λ r. ⌜ toldColourStep r ≡ callAndPlace (answered (length (now (file .entry))) (refuse 5 0 0 0)) ⌝ }
 {
     let given = NextColour::Refused {
         number: 5,
@@ -129,7 +129,7 @@ fn lost(file: &[u8]) -> ColourStep
 
 // A colour and its name, which stands at `at` where the file has names.
 fn labelled_at(file: &[u8], at: usize, colour: Colour) -> ColourStep
-    ensures { λ r. ⌜ toldStep r ≡ callAndPlace (answered (length (now (file .entry))) (labelled colour (now (file .entry)) at)) ⌝ }
+    ensures { λ r. ⌜ toldColourStep r ≡ callAndPlace (answered (length (now (file .entry))) (labelled colour (now (file .entry)) at)) ⌝ }
 {
     if is_plain(file) {
         let given = NextColour::Colour { place: 0, units: 0 };
@@ -154,7 +154,7 @@ fn labelled_at(file: &[u8], at: usize, colour: Colour) -> ColourStep
 
 // One call from any place of any file. It costs no more than the bytes that it passes.
 pub fn step_at(file: &[u8], at: usize) -> ColourStep
-    ensures { λ r. ⌜ toldStep r ≡ callAndPlace (walk (now (file .entry)) at) ⌝ }
+    ensures { λ r. ⌜ toldColourStep r ≡ callAndPlace (walk (now (file .entry)) at) ⌝ }
 {
     if at == file.len() {
         return none(NextColour::Done, at);

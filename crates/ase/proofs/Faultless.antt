@@ -17,7 +17,7 @@ use Rattle.colour.specs.Models.{isModel, channelsOf}
 use Rattle.colour.specs.Channels.{allowsBits}
 use Rattle.ase.specs.Grammar.{Block, groupStart, groupEnd, colour, other, Channel, Colour, Allowed, Nested}
 use Rattle.ase.specs.Reading.{deepest, openAfter}
-use Rattle.ase.specs.Faults.{nameFault, channelFault, shadeFault, blockFault, blocksFault, paletteFault, NameFits, ColourFits, BlockFits}
+use Rattle.ase.specs.Faults.{nameFault, channelFault, colourFault, blockFault, blocksFault, paletteFault, NameFits, ColourFits, BlockFits}
 use Rattle.ase.proofs.Tables.{model-known, model-count, known-model, model-small, channel-allowed, allowed-channel, channel-small}
 use Rattle.ase.proofs.Laws.{Steps}
 use Rattle.ase.proofs.Blocks.{nested-steps, steps-nested}
@@ -30,8 +30,8 @@ name-sound us f e = record {
   units = all-both (λ k u. 0 < u) (λ k u. u < 256 ^ 2) 0 us (any-none us 0 (pick-some (anyZero us) 8 (omega arith) e)) (f .units);
 }
 
-colour-sound : (us : List ℕ) (t : ℕ) (bs : List ℕ) (k : ℕ) → ColourFits us t bs k → nameFault 0 us ≡ 0 → shadeFault t bs k ≡ 0 → Colour us t bs k
-unfolding shadeFault
+colour-sound : (us : List ℕ) (t : ℕ) (bs : List ℕ) (k : ℕ) → ColourFits us t bs k → nameFault 0 us ≡ 0 → colourFault t bs k ≡ 0 → Colour us t bs k
+unfolding colourFault
 colour-sound us t bs k f n e =
     let g : ℕ → ℕ → ℕ = λ i. channelFault t in
     let b = first-inv (pick (isModel t) 0 4) (firstOf (faultsFrom g 0 bs) (pick (leb k 2) 0 5)) e in
@@ -52,7 +52,7 @@ block-sound d (groupStart us) f e =
     let i = first-inv (pick (ltb d deepest) 0 10) (nameFault 0 us) e in
     (name-sound us f (i .1), ltb-true d 16 (pick-none (ltb d 16) 10 (omega arith) (i .0)))
 block-sound d groupEnd f e = (tt, ltb-true 0 d (pick-none (ltb 0 d) 9 (omega arith) e))
-block-sound d (colour us t bs k) f e = let i = first-inv (nameFault 0 us) (shadeFault t bs k) e in (colour-sound us t bs k f (i .0) (i .1), tt)
+block-sound d (colour us t bs k) f e = let i = first-inv (nameFault 0 us) (colourFault t bs k) e in (colour-sound us t bs k f (i .0) (i .1), tt)
 block-sound d (other t) f e = absurd (omega arith)
 
 pub faultless-allowed : (bs : List Block) → All (λ i b. BlockFits b) 0 bs → paletteFault bs ≡ 0 → All (λ i b. Allowed b) 0 bs × Nested 0 bs 0
@@ -72,8 +72,8 @@ faultless-allowed bs fits e =
 name-complete : (us : List ℕ) → Named 2 us → nameFault 0 us ≡ 0
 name-complete us a = ap (λ (b : Bool). pick b 8 0) (none-any us 0 (all-map (λ k u. (0 < u) × (u < 256 ^ 2)) (λ k u. 0 < u) (λ k u h. h .0) 0 us (a .units)))
 
-colour-content-complete : (us : List ℕ) (t : ℕ) (bs : List ℕ) (k : ℕ) → Colour us t bs k → shadeFault t bs k ≡ 0
-unfolding shadeFault
+colour-content-complete : (us : List ℕ) (t : ℕ) (bs : List ℕ) (k : ℕ) → Colour us t bs k → colourFault t bs k ≡ 0
+unfolding colourFault
 colour-content-complete us t bs k a =
     let g : ℕ → ℕ → ℕ = λ i. channelFault t in
     let known : isModel t ≡ true = model-known (a .model) in
@@ -85,7 +85,7 @@ block-complete : (d : ℕ) (b : Block) → Allowed b → Steps d b → blockFaul
 unfolding blockFault
 block-complete d (groupStart us) a st = first-none (pick (ltb d deepest) 0 10) (nameFault 0 us) (ap (λ (b : Bool). pick b 0 10) (lt-ltb d 16 st)) ∙ name-complete us a
 block-complete d groupEnd a st = ap (λ (b : Bool). pick b 0 9) (lt-ltb 0 d st)
-block-complete d (colour us t bs k) a st = first-none (nameFault 0 us) (shadeFault t bs k) (name-complete us (a .name)) ∙ colour-content-complete us t bs k a
+block-complete d (colour us t bs k) a st = first-none (nameFault 0 us) (colourFault t bs k) (name-complete us (a .name)) ∙ colour-content-complete us t bs k a
 block-complete d (other t) a st = absurd a
 
 pub allowed-faultless : (bs : List Block) → All (λ i b. Allowed b) 0 bs → Nested 0 bs 0 → paletteFault bs ≡ 0

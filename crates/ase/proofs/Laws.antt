@@ -29,42 +29,42 @@ use Rattle.ase.proofs.Payload.{within-reads, within-writes, within-ends
 -- ---- a payload's content
 
 -- which blocks have it
-abbrev pub Grouped : Block → Type 0
-Grouped (groupStart us) = Named 2 us
-Grouped groupEnd = ⊥
-Grouped (colour us t bs k) = ⊥
-Grouped (other t) = ⊥
+abbrev pub AllowedGroupStart : Block → Type 0
+AllowedGroupStart (groupStart us) = Named 2 us
+AllowedGroupStart groupEnd = ⊥
+AllowedGroupStart (colour us t bs k) = ⊥
+AllowedGroupStart (other t) = ⊥
 
-abbrev pub Shaded : Block → Type 0
-Shaded (groupStart us) = ⊥
-Shaded groupEnd = ⊥
-Shaded (colour us t bs k) = Colour us t bs k
-Shaded (other t) = ⊥
+abbrev pub AllowedColour : Block → Type 0
+AllowedColour (groupStart us) = ⊥
+AllowedColour groupEnd = ⊥
+AllowedColour (colour us t bs k) = Colour us t bs k
+AllowedColour (other t) = ⊥
 
 fine-channels : (t : ℕ) (bs : List ℕ) → All (λ i b. (b < 256 ^ 4) × (channel t b ≡ fine)) 0 bs → All (λ i b. Channel t b) 0 bs
 fine-channels t bs h = all-map (λ i b. (b < 256 ^ 4) × (channel t b ≡ fine)) (λ i b. Channel t b) (λ i b c. allowed-channel t b (c .0) (unless-fine (allowsBits t b) 5 (c .1))) 0 bs h
 
 module _ (s : List ℕ) (bytes : Bytes s) where
-  group-reads : (at : ℕ) (b : Block) → Grouped b → At s at (payload b) → (e : Entry) × (groupContent s at ≡ ok e (at + length (payload b))) × (blockOf e ≡ b)
+  group-reads : (at : ℕ) (b : Block) → AllowedGroupStart b → At s at (payload b) → (e : Entry) × (groupContent s at ≡ ok e (at + length (payload b))) × (blockOf e ≡ b)
   unfolding groupContent
   group-reads at (groupStart us) fit h = let x = name-exact s 2 bytes .reads at us fit h in (groupStartRead (x .0), rw (x .1), ap groupStart (x .2))
   group-reads at groupEnd fit h = absurd fit
   group-reads at (colour us t bs k) fit h = absurd fit
   group-reads at (other t) fit h = absurd fit
 
-  group-writes : (at : ℕ) → at ≤ length s → (e : Entry) (q : ℕ) → groupContent s at ≡ ok e q → Grouped (blockOf e) × At s at (payload (blockOf e)) × (at + length (payload (blockOf e)) ≡ q)
+  group-writes : (at : ℕ) → at ≤ length s → (e : Entry) (q : ℕ) → groupContent s at ≡ ok e q → AllowedGroupStart (blockOf e) × At s at (payload (blockOf e)) × (at + length (payload (blockOf e)) ≡ q)
   unfolding groupContent
   group-writes at le e q h =
       let t = then-inv (name 2 s at) _ h in
       let x = name-exact s 2 bytes .writes at le (t .0) (t .1) (t .2) in
-      subst (λ (y : Entry). Grouped (blockOf y) × At s at (payload (blockOf y)) × (at + length (payload (blockOf y)) ≡ q)) (ok-value (t .3))
+      subst (λ (y : Entry). AllowedGroupStart (blockOf y) × At s at (payload (blockOf y)) × (at + length (payload (blockOf y)) ≡ q)) (ok-value (t .3))
       (x .0, x .1, x .2 ∙ ok-place (t .3))
 
   -- a group's name
-  pub group-exact : Exact s groupContent blockOf Grouped payload
+  pub group-exact : Exact s groupContent blockOf AllowedGroupStart payload
   group-exact = record { reads = group-reads; writes = group-writes }
 
-  colour-content-reads : (at : ℕ) (b : Block) → Shaded b → At s at (payload b) → (e : Entry) × (colourContent s at ≡ ok e (at + length (payload b))) × (blockOf e ≡ b)
+  colour-content-reads : (at : ℕ) (b : Block) → AllowedColour b → At s at (payload b) → (e : Entry) × (colourContent s at ≡ ok e (at + length (payload b))) × (blockOf e ≡ b)
   unfolding colourContent
   colour-content-reads at (groupStart us) fit h = absurd fit
   colour-content-reads at groupEnd fit h = absurd fit
@@ -89,7 +89,7 @@ module _ (s : List ℕ) (bytes : Bytes s) where
       let l : q3 + length (be 2 k) ≡ at + length (n ++ (be 4 t ++ (c ++ be 2 k))) = omega (arith, length-append n (be 4 t ++ (c ++ be 2 k)), length-append (be 4 t) (c ++ be 2 k), length-append c (be 2 k)) in
       (colourRead (x .0) t bs k, rw (x .1) (rw y2 (rw z2 (rw w2 (rw l)))), ap (λ (v : List ℕ). colour v t bs k) (x .2))
 
-  colour-content-writes : (at : ℕ) → at ≤ length s → (e : Entry) (q : ℕ) → colourContent s at ≡ ok e q → Shaded (blockOf e) × At s at (payload (blockOf e)) × (at + length (payload (blockOf e)) ≡ q)
+  colour-content-writes : (at : ℕ) → at ≤ length s → (e : Entry) (q : ℕ) → colourContent s at ≡ ok e q → AllowedColour (blockOf e) × At s at (payload (blockOf e)) × (at + length (payload (blockOf e)) ≡ q)
   unfolding colourContent
   colour-content-writes at le e q h =
       let a = then-inv (name 2 s at) _ h in
@@ -122,10 +122,10 @@ module _ (s : List ℕ) (bytes : Bytes s) where
       at-next s at n (be 4 t ++ (l ++ be 2 k)) (a .1) (x .2) (x .1) (at-next s (a .1) (be 4 t) (l ++ be 2 k) (b .1) (y .2) (y .1) (at-next s (b .1) l (be 2 k) (c .1) ze zl (w .1))) in
       let ends : at + length (n ++ (be 4 t ++ (l ++ be 2 k))) ≡ q =
       omega (arith, length-append n (be 4 t ++ (l ++ be 2 k)), length-append (be 4 t) (l ++ be 2 k), length-append l (be 2 k), x .2, y .2, ze, w .2, ok-place (d .3)) in
-      subst (λ (v : Entry). Shaded (blockOf v) × At s at (payload (blockOf v)) × (at + length (payload (blockOf v)) ≡ q)) (ok-value (d .3)) (made, stands, ends)
+      subst (λ (v : Entry). AllowedColour (blockOf v) × At s at (payload (blockOf v)) × (at + length (payload (blockOf v)) ≡ q)) (ok-value (d .3)) (made, stands, ends)
 
   -- a colour's name, model, channels and type
-  pub colour-content-exact : Exact s colourContent blockOf Shaded payload
+  pub colour-content-exact : Exact s colourContent blockOf AllowedColour payload
   colour-content-exact = record { reads = colour-content-reads; writes = colour-content-writes }
 
 -- ---- a block, where d groups stand open
@@ -243,23 +243,23 @@ pub record Held (s : List ℕ) (at t d n : ℕ) (b : Block) (q : ℕ) : Type 0 w
   pub end : q ≡ at + 6 + n
 
 module _ (s : List ℕ) (at d n : ℕ) where
-  grouped-held : (b : Block) (q : ℕ) → d < 16 → Grouped b × At s (at + 6) (payload b) × (length (payload b) ≡ n) × (q ≡ at + 6 + n) → Held s at 0xC001 d n b q
-  grouped-held (groupStart us) q l h = record { is = refl; allowed = h .0; steps = l; stands = h .1; sized = h .2; end = h .3 }
-  grouped-held groupEnd q l h = absurd (h .0)
-  grouped-held (colour us t bs k) q l h = absurd (h .0)
-  grouped-held (other t) q l h = absurd (h .0)
+  group-start-held : (b : Block) (q : ℕ) → d < 16 → AllowedGroupStart b × At s (at + 6) (payload b) × (length (payload b) ≡ n) × (q ≡ at + 6 + n) → Held s at 0xC001 d n b q
+  group-start-held (groupStart us) q l h = record { is = refl; allowed = h .0; steps = l; stands = h .1; sized = h .2; end = h .3 }
+  group-start-held groupEnd q l h = absurd (h .0)
+  group-start-held (colour us t bs k) q l h = absurd (h .0)
+  group-start-held (other t) q l h = absurd (h .0)
 
-  shaded-held : (b : Block) (q : ℕ) → Shaded b × At s (at + 6) (payload b) × (length (payload b) ≡ n) × (q ≡ at + 6 + n) → Held s at 0x0001 d n b q
-  shaded-held (groupStart us) q h = absurd (h .0)
-  shaded-held groupEnd q h = absurd (h .0)
-  shaded-held (other t) q h = absurd (h .0)
-  shaded-held (colour us t bs k) q h = record { is = refl; allowed = h .0; steps = tt; stands = h .1; sized = h .2; end = h .3 }
+  colour-held : (b : Block) (q : ℕ) → AllowedColour b × At s (at + 6) (payload b) × (length (payload b) ≡ n) × (q ≡ at + 6 + n) → Held s at 0x0001 d n b q
+  colour-held (groupStart us) q h = absurd (h .0)
+  colour-held groupEnd q h = absurd (h .0)
+  colour-held (other t) q h = absurd (h .0)
+  colour-held (colour us t bs k) q h = record { is = refl; allowed = h .0; steps = tt; stands = h .1; sized = h .2; end = h .3 }
 
   module _ (bytes : Bytes s) (room : at + 6 + n ≤ length s) where
     start-held : (e : Entry) (q : ℕ) → rule (unless (ltb d deepest) 10) at (within groupContent n s at) ≡ ok e q → Held s at 0xC001 d n (blockOf e) q
     start-held e q h =
         let i = rule-inv (unless (ltb d 16) 10) at (within groupContent n s at) h in
-        grouped-held (blockOf e) q (ltb-true d 16 (unless-fine (ltb d 16) 10 (i .0)))
+        group-start-held (blockOf e) q (ltb-true d 16 (unless-fine (ltb d 16) 10 (i .0)))
         (within-writes s n at room groupContent (group-exact (take (at + 6 + n) s) (bytes-take (at + 6 + n) s bytes)) e q (i .1))
 
     stop-held : (e : Entry) (q : ℕ) → rule (unless (eqb n 0) 13) (at + 2) (rule (unless (ltb 0 d) 9) at (ok groupEndRead (at + 6))) ≡ ok e q → Held s at 0xC002 d n (blockOf e) q
@@ -278,7 +278,7 @@ module _ (s : List ℕ) (at d n : ℕ) where
         })
 
     colour-content-held : (e : Entry) (q : ℕ) → within colourContent n s at ≡ ok e q → Held s at 0x0001 d n (blockOf e) q
-    colour-content-held e q h = shaded-held (blockOf e) q (within-writes s n at room colourContent (colour-content-exact (take (at + 6 + n) s) (bytes-take (at + 6 + n) s bytes)) e q h)
+    colour-content-held e q h = colour-held (blockOf e) q (within-writes s n at room colourContent (colour-content-exact (take (at + 6 + n) s) (bytes-take (at + 6 + n) s bytes)) e q h)
 
     -- a type by the reader's tests
     pub content-held : (t : ℕ) (e : Entry) (q : ℕ) → isBlockType t ≡ true → content t d n s at ≡ ok e q → Held s at t d n (blockOf e) q

@@ -21,7 +21,7 @@ use Rattle.colour.specs.Models.{isModel, channelsOf}
 use Rattle.colour.specs.Channels.{allowsBits}
 use Rattle.ase.specs.Grammar.{Block, groupStart, groupEnd, colour, other, typeOf, payload, blockBytes}
 use Rattle.ase.specs.Reading.{Entry, groupStartRead, groupEndRead, colourRead, blockOf, groupContent, model, channel, type, colourContent, inside, within, content, block, openAfter, openAfterEntry, heading, blocks, palette}
-use Rattle.ase.specs.Faults.{nameFault, channelFault, shadeFault, blockFault, blocksFault, paletteFault, NameFits, ColourFits, BlockFits}
+use Rattle.ase.specs.Faults.{nameFault, channelFault, colourFault, blockFault, blocksFault, paletteFault, NameFits, ColourFits, BlockFits}
 use Rattle.ase.proofs.Payload.{at-cut, inside-ok}
 use Rattle.ase.proofs.Turns.{unknown-stops}
 use Rattle.ase.proofs.Laws.{Typed, length-block, block-passes, block-reads}
@@ -69,8 +69,8 @@ module _ (s : List ℕ) where
     -- the model before them
     model-outcome : (mk : ℕ → List ℕ → ℕ → Entry) (at : ℕ) → At s at (be 4 t ++ (joined (be 4) bs ++ be 2 k))
         → Outcome (then (judged 4 model s at) (λ x p. then (each (channelsOf x) 0 (λ i. judged 4 (channel x)) s p) (λ vs q. then (judged 2 type s q) (λ v r. ok (mk x vs v) r))))
-        (shadeFault t bs k) (at + length (be 4 t ++ (joined (be 4) bs ++ be 2 k)))
-    unfolding shadeFault
+        (colourFault t bs k) (at + length (be 4 t ++ (joined (be 4) bs ++ be 2 k)))
+    unfolding colourFault
     model-outcome mk at h =
         let c : List ℕ = joined (be 4) bs ++ be 2 k in
         let mid : ℕ = at + length (be 4 t) in
@@ -85,7 +85,7 @@ module _ (s : List ℕ) where
         subst (λ (x : ℕ). Outcome (then (each (channelsOf x) 0 (λ i. judged 4 (channel x)) s mid) (λ vs q. then (judged 2 type s q) (λ v r. ok (mk x vs v) r))) g end) same
         (subst (λ (z : ℕ). Outcome (then (each (channelsOf t) 0 (λ i. judged 4 (channel t)) s mid) (λ vs q. then (judged 2 type s q) (λ v r. ok (mk t vs v) r))) g z) l (channels-outcome (mk t) mid (at-right s at (be 4 t) c h))))
 
-    pub colour-content-outcome : (at : ℕ) → At s at (payload (colour us t bs k)) → Outcome (colourContent s at) (firstOf (nameFault 0 us) (shadeFault t bs k)) (at + length (payload (colour us t bs k)))
+    pub colour-content-outcome : (at : ℕ) → At s at (payload (colour us t bs k)) → Outcome (colourContent s at) (firstOf (nameFault 0 us) (colourFault t bs k)) (at + length (payload (colour us t bs k)))
     unfolding colourContent
     colour-content-outcome at h =
         let n : List ℕ = nameBytes 2 us in
@@ -93,7 +93,7 @@ module _ (s : List ℕ) where
         let mid : ℕ = at + length n in
         let end : ℕ = at + length (n ++ c) in
         let l : mid + length c ≡ end = omega (arith, length-append n c) in
-        let g : ℕ = shadeFault t bs k in
+        let g : ℕ = colourFault t bs k in
         outcome-then (name 2 s at) (λ nm o. then (judged 4 model s o) (λ x p. then (each (channelsOf x) 0 (λ i. judged 4 (channel x)) s p) (λ vs q. then (judged 2 type s q) (λ v r. ok (colourRead nm x vs v) r)))) (nameFault 0 us) g mid end
         (name-outcome at us (f .name) (at-left s at n c h))
         (λ nm e. subst (λ (z : ℕ). Outcome (then (judged 4 model s mid) (λ x p. then (each (channelsOf x) 0 (λ i. judged 4 (channel x)) s p) (λ vs q. then (judged 2 type s q) (λ v r. ok (colourRead nm x vs v) r)))) g z) l
@@ -121,8 +121,8 @@ channels-other t i (b ∷ bs) e = first-other (channelFault t b) (faultsFrom (λ
 name-other : (us : List ℕ) → nameFault 0 us ≡ 2 → ⊥
 name-other us e = pick-other (anyZero us) 8 0 (λ z. omega arith) (λ z. omega arith) e
 
-colour-content-other : (t : ℕ) (bs : List ℕ) (k : ℕ) → shadeFault t bs k ≡ 2 → ⊥
-unfolding shadeFault
+colour-content-other : (t : ℕ) (bs : List ℕ) (k : ℕ) → colourFault t bs k ≡ 2 → ⊥
+unfolding colourFault
 colour-content-other t bs k e =
     first-other (pick (isModel t) 0 4) (firstOf (faultsFrom (λ i. channelFault t) 0 bs) (pick (leb k 2) 0 5)) (pick-other (isModel t) 0 4 (λ z. omega arith) (λ z. omega arith))
     (first-other (faultsFrom (λ i. channelFault t) 0 bs) (pick (leb k 2) 0 5) (channels-other t 0 bs) (pick-other (leb k 2) 0 5 (λ z. omega arith) (λ z. omega arith))) e
@@ -150,7 +150,7 @@ module _ (s : List ℕ) (d at : ℕ) where
       let l : List ℕ = payload (colour us t bs k) in
       let end : ℕ = at + 6 + length l in
       let room : end ≤ length s = at-in s (at + 6) l h in
-      inside-outcome (at + 2) end (colourContent (take end s) (at + 6)) (firstOf (nameFault 0 us) (shadeFault t bs k)) (first-other (nameFault 0 us) (shadeFault t bs k) (name-other us) (colour-content-other t bs k)) (colour-content-outcome (take end s) us t bs k f (at + 6) (at-cut s end room (at + 6) l (omega arith) h))
+      inside-outcome (at + 2) end (colourContent (take end s) (at + 6)) (firstOf (nameFault 0 us) (colourFault t bs k)) (first-other (nameFault 0 us) (colourFault t bs k) (name-other us) (colour-content-other t bs k)) (colour-content-outcome (take end s) us t bs k f (at + 6) (at-cut s end room (at + 6) l (omega arith) h))
 
 -- a block that fits its fields, its payload's length too
 abbrev pub Fitting : Block → Type 0

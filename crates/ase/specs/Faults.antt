@@ -22,14 +22,14 @@ abbrev pub channelFault : ℕ → ℕ → ℕ
 channelFault t b = pick (allowsBits t b) 0 5
 
 -- a colour behind its name: model, channels, type
-unfoldable pub shadeFault : ℕ → List ℕ → ℕ → ℕ
-shadeFault t bs k = firstOf (pick (isModel t) 0 4) (firstOf (faultsFrom (λ i b. channelFault t b) 0 bs) (pick (leb k 2) 0 5))
+unfoldable pub colourFault : ℕ → List ℕ → ℕ → ℕ
+colourFault t bs k = firstOf (pick (isModel t) 0 4) (firstOf (faultsFrom (λ i b. channelFault t b) 0 bs) (pick (leb k 2) 0 5))
 
 -- a block whose name was found with the fault x, where d groups stand open; an unknown type is 4
 unfoldable pub blockFault : ℕ → ℕ → Block → ℕ
 blockFault x d (groupStart us) = firstOf (pick (ltb d deepest) 0 10) (nameFault x us)
 blockFault x d groupEnd = pick (ltb 0 d) 0 9
-blockFault x d (colour us t bs k) = firstOf (nameFault x us) (shadeFault t bs k)
+blockFault x d (colour us t bs k) = firstOf (nameFault x us) (colourFault t bs k)
 blockFault x d (other t) = 4
 
 -- blocks in their order, where d groups stand open, and after the last a group that is left open; each is what `block` makes of it, its name found as `found` says

@@ -22,7 +22,7 @@ use Rattle.colour.specs.declared.model.Model.the-variants as vm
 use Rattle.colour.specs.Channels.{wide, allowsBits}
 use Rattle.colour.specs.declared.model.KnownModel.the-variants.{Is, Unknown}
 use Rattle.ase.specs.Reading.{Entry, groupStartRead, groupEndRead, colourRead, groupContent, model, channel, type, colourContent, inside, deepest, isBlockType, content, block, openAfterEntry, fixedNumber, heading, blocks, palette, ase}
-use Rattle.ase_judge.specs.scaffold.Parts.{channelIn, afterName, startOf, stopOf, colourOf, whole}
+use Rattle.ase_judge.specs.scaffold.Parts.{channelIn, afterName, groupStartOf, groupEndOf, colourOf, whole}
 use Rattle.ase_judge.specs.Answer.{colourIn, colours, passed, report}
 use Rattle.ase_judge.specs.scaffold.Answer.{tally}
 use Rattle.algebra.specs.Table.{accepted, refused, verdict}
@@ -165,12 +165,12 @@ colour-content-passed s at d e q h =
 -- ---- a block's content, where its payload ends at `end`
 
 module _ (d end : ℕ) (s : List ℕ) (at : ℕ) where
-  pub start-deep : 16 ≤ d → refuse 10 at 0 0 ≡ mapRes (passed d) (startOf d end s at)
-  unfolding startOf
+  pub start-deep : 16 ≤ d → refuse 10 at 0 0 ≡ mapRes (passed d) (groupStartOf d end s at)
+  unfolding groupStartOf
   start-deep h = rw (le-ltb d 16 h)
 
-  pub start-map : d < 16 → mapRes (passed d) (startOf d end s at) ≡ mapRes (λ u. (d + 1, 0)) (inside (at + 2) end (done (groupContent (take end s) (at + 6))))
-  unfolding startOf
+  pub start-map : d < 16 → mapRes (passed d) (groupStartOf d end s at) ≡ mapRes (λ u. (d + 1, 0)) (inside (at + 2) end (done (groupContent (take end s) (at + 6))))
+  unfolding groupStartOf
   start-map h = rw (lt-ltb d 16 h) (inside-map (passed d) (d + 1, 0) (at + 2) end (groupContent (take end s) (at + 6)) (λ e q g. group-passed (take end s) (at + 6) d e q g))
 
   pub colour-map : mapRes (passed d) (colourOf end s at) ≡ mapRes (λ u. (d, 1)) (inside (at + 2) end (done (colourContent (take end s) (at + 6))))
@@ -178,16 +178,16 @@ module _ (d end : ℕ) (s : List ℕ) (at : ℕ) where
   colour-map = inside-map (passed d) (d, 1) (at + 2) end (colourContent (take end s) (at + 6)) (λ e q g. colour-content-passed (take end s) (at + 6) d e q g)
 
 module _ (d end at : ℕ) where
-  pub stop-long : (end ≡ at + 6 → ⊥) → refuse 13 (at + 2) 0 0 ≡ mapRes (passed d) (stopOf d end at)
-  unfolding stopOf
+  pub stop-long : (end ≡ at + 6 → ⊥) → refuse 13 (at + 2) 0 0 ≡ mapRes (passed d) (groupEndOf d end at)
+  unfolding groupEndOf
   stop-long h = rw (ne-eqb end (at + 6) h)
 
-  pub stop-none : end ≡ at + 6 → d ≡ 0 → refuse 9 at 0 0 ≡ mapRes (passed d) (stopOf d end at)
-  unfolding stopOf
+  pub stop-none : end ≡ at + 6 → d ≡ 0 → refuse 9 at 0 0 ≡ mapRes (passed d) (groupEndOf d end at)
+  unfolding groupEndOf
   stop-none h z = rw (eq-eqb end (at + 6) h, le-ltb 0 d (omega arith))
 
-  pub stop-ok : end ≡ at + 6 → 0 < d → ok (d - 1, 0) end ≡ mapRes (passed d) (stopOf d end at)
-  unfolding stopOf
+  pub stop-ok : end ≡ at + 6 → 0 < d → ok (d - 1, 0) end ≡ mapRes (passed d) (groupEndOf d end at)
+  unfolding groupEndOf
   stop-ok h z = rw (eq-eqb end (at + 6) h, lt-ltb 0 d z) (ap (λ (q : ℕ). ok (d - 1, 0) q) h)
 
 -- ---- a block
@@ -219,12 +219,12 @@ module _ (d : ℕ) (s : List ℕ) (at : ℕ) where
       block-content : isBlockType t ≡ true → n ≤ length s - b → block d s at ≡ content t d n s at
       block-content u h = block-known u ∙ ap (λ (y : Bool). pick y (content t d n s at) (refuse 2 b 0 0)) (le-leb n (length s - b) h)
 
-  pub content-start : (t n end : ℕ) → t ≡ 0xC001 → at + 6 + n ≡ end → content t d n s at ≡ startOf d end s at
-  unfolding content startOf
+  pub content-start : (t n end : ℕ) → t ≡ 0xC001 → at + 6 + n ≡ end → content t d n s at ≡ groupStartOf d end s at
+  unfolding content groupStartOf
   content-start t n end e h = rw e (ap (λ (z : ℕ). rule (unless (ltb d deepest) 10) at (inside (at + 2) z (groupContent (take z s) (at + 6)))) h)
 
-  pub content-stop : (t n end : ℕ) → t ≡ 0xC002 → at + 6 + n ≡ end → content t d n s at ≡ stopOf d end at
-  unfolding content stopOf
+  pub content-stop : (t n end : ℕ) → t ≡ 0xC002 → at + 6 + n ≡ end → content t d n s at ≡ groupEndOf d end at
+  unfolding content groupEndOf
   content-stop t n end e h = rw e (ap (λ (z : Bool). rule (unless z 13) (at + 2) (rule (unless (ltb 0 d) 9) at (ok groupEndRead (at + 6)))) (same (eqb n 0) refl))
     where
       same : (z : Bool) → eqb n 0 ≡ z → eqb n 0 ≡ eqb end (at + 6)

@@ -3,9 +3,9 @@ ghost use mathlib.Core.Path.{_≡_};
 ghost use Prim.Native.Nat.{_+_, _-_, _≤_, _<_};
 ghost use lib.ListN.{length};
 ghost use Rattle.algebra.specs.Reader.{done, each, judged, mapRes, chain};
-ghost use Rattle.fields.specs.Answer.{toldStep};
+ghost use Rattle.fields.specs.Answer.{toldFieldEnd};
 ghost use Rattle.ase.specs.Reading.{type, colourContent, groupContent, inside, isBlockType, content, block, openAfterEntry, heading, ase};
-ghost use Rattle.ase_judge.specs.scaffold.Parts.{channelIn, afterName, startOf, stopOf, colourOf, whole};
+ghost use Rattle.ase_judge.specs.scaffold.Parts.{channelIn, afterName, groupStartOf, groupEndOf, colourOf, whole};
 ghost use Rattle.algebra.specs.Table.{verdict};
 ghost use Rattle.ase_judge.specs.Answer.{report, told, toldPassed, passed};
 ghost use Rattle.ase_judge.specs.scaffold.Answer.{toldHeading, tally};
@@ -52,7 +52,7 @@ pub enum Heading {
 
 // The n channels from `at`, which may be any finite float where they are wide, else one from 0 to 1.
 fn channels_at(file: &[u8], at: usize, wide: bool, n: u16) -> FieldEnd
-    ensures { λ r. ⌜ toldStep r ≡ done (each n 0 (λ i. judged 4 (channelIn wide)) (now (file .entry)) at) ⌝ }
+    ensures { λ r. ⌜ toldFieldEnd r ≡ done (each n 0 (λ i. judged 4 (channelIn wide)) (now (file .entry)) at) ⌝ }
 {
     let mut p = at;
     let mut i: u16 = 0;
@@ -71,7 +71,7 @@ fn channels_at(file: &[u8], at: usize, wide: bool, n: u16) -> FieldEnd
 
 // The model, channels and type from `at`.
 fn after_name_at(file: &[u8], at: usize) -> FieldEnd
-    ensures { λ r. ⌜ toldStep r ≡ afterName (now (file .entry)) at ⌝ }
+    ensures { λ r. ⌜ toldFieldEnd r ≡ afterName (now (file .entry)) at ⌝ }
 {
     let Number32::Is(tag, first) = fields::u32_at(file, at) else {
         return FieldEnd::Refused(2, at);
@@ -87,7 +87,7 @@ fn after_name_at(file: &[u8], at: usize) -> FieldEnd
 
 // The type of a colour at `at`.
 fn type_at(file: &[u8], at: usize) -> FieldEnd
-    ensures { λ r. ⌜ toldStep r ≡ done (judged 2 type (now (file .entry)) at) ⌝ }
+    ensures { λ r. ⌜ toldFieldEnd r ≡ done (judged 2 type (now (file .entry)) at) ⌝ }
 {
     let Number16::Is(kind, next) = fields::u16_at(file, at) else {
         return FieldEnd::Refused(2, at);
@@ -100,7 +100,7 @@ fn type_at(file: &[u8], at: usize) -> FieldEnd
 
 // A colour's content from `at`.
 fn colour_content_at(file: &[u8], at: usize) -> FieldEnd
-    ensures { λ r. ⌜ toldStep r ≡ done (colourContent (now (file .entry)) at) ⌝ }
+    ensures { λ r. ⌜ toldFieldEnd r ≡ done (colourContent (now (file .entry)) at) ⌝ }
 {
     match names::name16_at(file, at) {
         NameAt::Refused(x, p) => FieldEnd::Refused(x, p),
@@ -110,7 +110,7 @@ fn colour_content_at(file: &[u8], at: usize) -> FieldEnd
 
 // A group's name from `at`.
 fn group_at(file: &[u8], at: usize) -> FieldEnd
-    ensures { λ r. ⌜ toldStep r ≡ done (groupContent (now (file .entry)) at) ⌝ }
+    ensures { λ r. ⌜ toldFieldEnd r ≡ done (groupContent (now (file .entry)) at) ⌝ }
 {
     match names::name16_at(file, at) {
         NameAt::Refused(x, p) => FieldEnd::Refused(x, p),
@@ -120,7 +120,7 @@ fn group_at(file: &[u8], at: usize) -> FieldEnd
 
 // What a content's reader answers of a payload that ends at `end`, whose length stands at `place`.
 fn inside_of(step: FieldEnd, place: usize, end: usize) -> FieldEnd
-    ensures { λ r. ⌜ toldStep r ≡ inside place end (toldStep step) ⌝ }
+    ensures { λ r. ⌜ toldFieldEnd r ≡ inside place end (toldFieldEnd step) ⌝ }
 {
     match step {
         FieldEnd::Next(p) => {
@@ -143,7 +143,7 @@ fn inside_of(step: FieldEnd, place: usize, end: usize) -> FieldEnd
 // A group start at `at`, whose payload ends at `end`.
 fn group_start_at(file: &[u8], at: usize, end: usize, depth: usize) -> Passed
     requires { ⌜ (at + 6 ≤ end) × (end ≤ length (now file)) ⌝ }
-    ensures { λ r. ⌜ toldPassed r ≡ mapRes (passed depth) (startOf depth end (now (file .entry)) at) ⌝ }
+    ensures { λ r. ⌜ toldPassed r ≡ mapRes (passed depth) (groupStartOf depth end (now (file .entry)) at) ⌝ }
 {
     if DEEPEST <= depth {
         return Passed::Refused {
@@ -164,7 +164,7 @@ fn group_start_at(file: &[u8], at: usize, end: usize, depth: usize) -> Passed
 // A group end at `at`, whose payload ends at `end`.
 fn group_end_at(at: usize, end: usize, depth: usize) -> Passed
     requires { ⌜ (at + 6 ≤ end) ⌝ }
-    ensures { λ r. ⌜ toldPassed r ≡ mapRes (passed depth) (stopOf depth end at) ⌝ }
+    ensures { λ r. ⌜ toldPassed r ≡ mapRes (passed depth) (groupEndOf depth end at) ⌝ }
 {
     if end != at + 6 {
         return Passed::Refused {

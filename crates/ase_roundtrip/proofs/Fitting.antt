@@ -30,9 +30,9 @@ use Rattle.ase.proofs.Blocks.{length-file}
 use Rattle.ase.specs.Row.{RecordRow, width, taken}
 use Rattle.ase_write_judge.specs.Writing.{unitsIn, channelsIn, blockIn, sizeIn, sizes, size, foundIn, blockFault, fault}
 use Rattle.ase_write_judge.specs.scaffold.Parts.{nameFault, afterNameFault, standingIn}
-use Rattle.ase_roundtrip.specs.Tie.{Words, made, NameFitting, ColourFitting, Fitting, a-start, an-end, a-colour, another}
+use Rattle.ase_roundtrip.specs.Tie.{Words, made, NameFitting, ColourFitting, Fitting, a-group-start, a-group-end, a-colour, another}
 use Rattle.algebra.proofs.Firsts.{test-holds, all-image}
-use Rattle.ase_write_judge.proofs.Judging.{channels-few, name-lies, colour-content-fine, Sound, is-start, is-stop, is-colour, sound}
+use Rattle.ase_write_judge.proofs.Judging.{channels-few, name-lies, colour-content-fine, Sound, is-group-start, is-group-end, is-colour, sound}
 
 -- ---- values of a list
 
@@ -85,8 +85,8 @@ module _ (names : List ℕ) where
       omega (arith, length-append n (t ++ (c ++ k)), length-append t (c ++ k), length-append c k, length-name g, length-be 4 (g .model), length-bes 4 (channelsIn g), length-be 2 (g .type), channels-all g four)
 
   size-is : (g : RecordRow) → Fitting names g → length (blockBytes (blockIn names g)) ≡ sizeIn g
-  size-is g (a-start e n) = rw e (omega (arith, length-block (groupStart (unitsIn names g)), length-name g))
-  size-is g (an-end e) = rw e (length-block groupEnd)
+  size-is g (a-group-start e n) = rw e (omega (arith, length-block (groupStart (unitsIn names g)), length-name g))
+  size-is g (a-group-end e) = rw e (length-block groupEnd)
   size-is g (another u) = rw (unknown-in names g u) (rw (unknown-size g u) (length-block (other (g .block))))
   size-is g (a-colour e n c) = rw e (omega (arith, length-block (colour (unitsIn names g) (g .model) (channelsIn g) (g .type)), length-colour g (c .four)))
 
@@ -112,14 +112,14 @@ module _ (names : List ℕ) where
   -- its name is found, unless it has none
   block-same : (g : RecordRow) → Fitting names g → (d : ℕ) → blockFault names d g ≡ a.blockFault 0 d (blockIn names g)
   unfolding a.blockFault
-  block-same g (a-start e n) d = ap (λ (x : ℕ). a.blockFault x d (blockIn names g)) (found-none g n)
-  block-same g (an-end e) d = rw e
+  block-same g (a-group-start e n) d = ap (λ (x : ℕ). a.blockFault x d (blockIn names g)) (found-none g n)
+  block-same g (a-group-end e) d = rw e
   block-same g (another u) d = rw (unknown-in names g u)
   block-same g (a-colour e n c) d = ap (λ (x : ℕ). a.blockFault x d (blockIn names g)) (found-none g n)
 
   block-fits : Bytes names → (g : RecordRow) → Fitting names g → BlockFits (blockIn names g)
-  block-fits bytes g (a-start e n) = rw e (name-fits g n bytes)
-  block-fits bytes g (an-end e) = rw e tt
+  block-fits bytes g (a-group-start e n) = rw e (name-fits g n bytes)
+  block-fits bytes g (a-group-end e) = rw e tt
   block-fits bytes g (another u) = rw (unknown-in names g u) u
   block-fits bytes g (a-colour e n c) = rw e (record {
     name = name-fits g n bytes;
@@ -159,8 +159,8 @@ module _ (names : List ℕ) where
       }
 
   faultless-fits : (d : ℕ) (g : RecordRow) → Worded g → Sound names d g → Fitting names g
-  faultless-fits d g w (is-start e k n) = a-start e (lies-fits g n)
-  faultless-fits d g w (is-stop e k) = an-end e
+  faultless-fits d g w (is-group-start e k n) = a-group-start e (lies-fits g n)
+  faultless-fits d g w (is-group-end e k) = a-group-end e
   faultless-fits d g w (is-colour e n s) = a-colour e (lies-fits g n) (colour-fits g w s)
 
   pub faultless-fit : (gs : List RecordRow) → All (λ k g. Worded g) 0 gs → fault names gs ≡ 0 → All (λ k g. Fitting names g) 0 gs

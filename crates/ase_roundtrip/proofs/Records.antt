@@ -29,7 +29,7 @@ use Rattle.ase.specs.Row.{width, fourOf, taken, givenOf}
 use Rattle.ase.proofs.Row.{given-back}
 use Rattle.ase_read.specs.Table.{row}
 use Rattle.ase_write_judge.specs.Writing.{blockIn}
-use Rattle.ase_roundtrip.specs.Tie.{tabled, Fitting, a-start, an-end, a-colour}
+use Rattle.ase_roundtrip.specs.Tie.{tabled, Fitting, a-group-start, a-group-end, a-colour}
 use Rattle.algebra.proofs.Firsts.{all-image, all-source}
 use Rattle.ase_write_judge.proofs.Judging.{channels-few}
 
@@ -156,8 +156,8 @@ blocks-back s i [] h = refl
 blocks-back s i (e ∷ es) h = ap₂ (λ (b : Block) (bs : List Block). b ∷ bs) (block-back s e (h .0 .0) (h .0 .1)) (blocks-back s (i + 1) es (h .1))
 
 taken-fits : (s : List ℕ) (e : Entry) → Lies s e → BlockFits (blockOf e) → Fitting s (givenOf e)
-taken-fits s (groupStartRead nm) l f = a-start refl (record { counted = omega (arith, f .counted); inside = λ h. l .inside })
-taken-fits s groupEndRead l f = an-end refl
+taken-fits s (groupStartRead nm) l f = a-group-start refl (record { counted = omega (arith, f .counted); inside = λ h. l .inside })
+taken-fits s groupEndRead l f = a-group-end refl
 taken-fits s (colourRead nm t bs k) l f = a-colour refl (record { counted = omega (arith, f .name .counted); inside = λ h. l .inside }) (record {
   model-small = f .model;
   four = refl;

@@ -42,8 +42,8 @@ pub record ColourFitting (g : RecordRow) : Type 0 where
 
 -- a group start, a group end or a colour: of each, what is written; or a block of another type, which is refused
 pub data Fitting (text : List ℕ) (g : RecordRow) : Type 0 where
-  a-start : g .block ≡ 0xC001 → NameFitting text g → Fitting text g
-  an-end : g .block ≡ 0xC002 → Fitting text g
+  a-group-start : g .block ≡ 0xC001 → NameFitting text g → Fitting text g
+  a-group-end : g .block ≡ 0xC002 → Fitting text g
   a-colour : g .block ≡ 0x0001 → NameFitting text g → ColourFitting g → Fitting text g
   another : Unknown (g .block) → Fitting text g
 

@@ -29,13 +29,13 @@ abbrev pub toldBlockStep : BlockStep → Call RecordRow × ℕ
 toldBlockStep r = (toldBlock (r .block), r .next)
 
 -- what it gives: the same of a colour
-abbrev pub toldGiven : Answer → Call RecordRow
-toldGiven (vg.Colour p u c k) = gives (colourRow p u (traitsOf (modelIn c) .tag) (bitsOf c) k)
-toldGiven vg.Done = over
-toldGiven (vg.Refused x p) = refused x p
+abbrev pub toldNextColour : Answer → Call RecordRow
+toldNextColour (vg.Colour p u c k) = gives (colourRow p u (traitsOf (modelIn c) .tag) (bitsOf c) k)
+toldNextColour vg.Done = over
+toldNextColour (vg.Refused x p) = refused x p
 
-abbrev pub toldStep : ColourStep → Call RecordRow × ℕ
-toldStep r = (toldGiven (r .given), r .next)
+abbrev pub toldColourStep : ColourStep → Call RecordRow × ℕ
+toldColourStep r = (toldNextColour (r .given), r .next)
 
 -- a record as it is handed out
 abbrev pub recordCall : Call Entry → Call RecordRow
@@ -49,7 +49,7 @@ callAndPlace w = (recordCall (w .0), w .1)
 
 -- what a call of a walker hands back: what its step says, and the whole walker
 abbrev pub toldTurn : WalkerStep → (Call RecordRow × ℕ) × Walker
-toldTurn t = (toldStep (t .step), t .walker)
+toldTurn t = (toldColourStep (t .step), t .walker)
 
 -- the record as it is handed out, and the walker that follows
 abbrev pub walkerCall : Walker → (Call RecordRow × ℕ) × Walker

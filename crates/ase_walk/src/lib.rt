@@ -13,7 +13,7 @@ ghost use Rattle.ase_read.specs.scaffold.Answer.{IsColour};
 ghost use Rattle.walk.specs.Walk.{gives, answered};
 ghost use Rattle.ase_walk.specs.Walking.{blockFrom, blockWalk, walk, firstPlace, lentOf, startOf};
 ghost use Rattle.ase_walk.specs.scaffold.Walking.{Stands};
-ghost use Rattle.ase_walk.specs.Answer.{toldBlock, toldBlockStep, toldGiven, toldStep, callAndPlace, toldTurn, walkerCall, toldStart};
+ghost use Rattle.ase_walk.specs.Answer.{toldBlock, toldBlockStep, toldNextColour, toldColourStep, callAndPlace, toldTurn, walkerCall, toldStart};
 ghost use Rattle.ase_walk.specs.scaffold.Answer.{passes};
 use ase::GROUP_END;
 use ase::GROUP_START;
@@ -204,7 +204,7 @@ fn is_group(block: Block) -> bool
 // What the block step gave, where it is no group.
 fn given_of(block: Block) -> NextColour
     requires { ⌜ passes (toldBlock block) ≡ false ⌝ }
-    ensures { λ r. ⌜ toldGiven r ≡ toldBlock block ⌝ }
+    ensures { λ r. ⌜ toldNextColour r ≡ toldBlock block ⌝ }
 {
     match block {
         Block::GroupStart { place: _, units: _ } => NextColour::Done,
@@ -228,7 +228,7 @@ fn given_of(block: Block) -> NextColour
 // One call from the file's end, which is done, or from past it, which is refused.
 fn ended_at(file: &[u8], at: usize) -> ColourStep
     requires { ⌜ length (now file) ≤ at ⌝ }
-    ensures { λ r. ⌜ toldStep r ≡ callAndPlace (walk (now (file .entry)) at) ⌝ }
+    ensures { λ r. ⌜ toldColourStep r ≡ callAndPlace (walk (now (file .entry)) at) ⌝ }
 {
     let end = file.len();
     if at == end {
@@ -249,7 +249,7 @@ fn ended_at(file: &[u8], at: usize) -> ColourStep
 
 // One call from any place of any file that gives colours, and passes over groups.
 pub fn step_at(file: &[u8], at: usize) -> ColourStep
-    ensures { λ r. ⌜ toldStep r ≡ callAndPlace (walk (now (file .entry)) at) ⌝ }
+    ensures { λ r. ⌜ toldColourStep r ≡ callAndPlace (walk (now (file .entry)) at) ⌝ }
 {
     let mut p = at;
     while p < file.len() {

@@ -27,7 +27,7 @@ use Rattle.ase.specs.Row.{RecordRow, width, taken}
 use Rattle.ase_write_judge.specs.Writing.{unitsIn, channelsIn, blockIn, nameSize, sizeIn, sizes, size}
 use Rattle.ase_write_judge.specs.scaffold.Parts.{nameFault, afterNameBytes, ownFault}
 use Rattle.ase_write_judge.specs.scaffold.Parts as parts
-use Rattle.ase_write_judge.proofs.Judging.{Sound, is-start, is-stop, is-colour, sound, channels-few, size-start, size-stop, size-colour, name-inside}
+use Rattle.ase_write_judge.proofs.Judging.{Sound, is-group-start, is-group-end, is-colour, sound, channels-few, size-start, size-stop, size-colour, name-inside}
 use Rattle.algebra.proofs.Storing.{as-sets, peel, peel-be, length-kept}
 
 -- ---- a name
@@ -147,36 +147,36 @@ module _ (names : List ℕ) (g : RecordRow) where
   block-colour e = rw e
 
   type-is : Sound names 1 g → typeOf (blockIn names g) ≡ g .block
-  type-is (is-start e k n) = ap typeOf (block-start e) ∙ sym e
-  type-is (is-stop e k) = ap typeOf (block-stop e) ∙ sym e
+  type-is (is-group-start e k n) = ap typeOf (block-start e) ∙ sym e
+  type-is (is-group-end e k) = ap typeOf (block-stop e) ∙ sym e
   type-is (is-colour e n s) = ap typeOf (block-colour e) ∙ sym e
 
   pub type-small : Sound names 1 g → g .block < 65536
-  type-small (is-start e k n) = omega arith
-  type-small (is-stop e k) = omega arith
+  type-small (is-group-start e k n) = omega arith
+  type-small (is-group-end e k) = omega arith
   type-small (is-colour e n s) = omega arith
 
   -- a record that does not end a group has a name
   pub size-name : Sound names 1 g → (g .block ≡ 0xC002 → ⊥) → 6 + nameSize g ≤ sizeIn g
-  size-name (is-start e k n) x = omega (arith, size-start g e)
-  size-name (is-stop e k) x = absurd (x e)
+  size-name (is-group-start e k n) x = omega (arith, size-start g e)
+  size-name (is-group-end e k) x = absurd (x e)
   size-name (is-colour e n s) x = omega (arith, size-colour g e)
 
   pub sound-name : Sound names 1 g → (g .block ≡ 0xC002 → ⊥) → nameFault names g ≡ 0
-  sound-name (is-start e k n) x = n
-  sound-name (is-stop e k) x = absurd (x e)
+  sound-name (is-group-start e k n) x = n
+  sound-name (is-group-end e k) x = absurd (x e)
   sound-name (is-colour e n s) x = n
 
   -- and one that starts none either is a colour
   pub sound-colour : Sound names 1 g → (g .block ≡ 0xC002 → ⊥) → (g .block ≡ 0xC001 → ⊥) → (g .block ≡ 0x0001) × (parts.afterNameFault g ≡ 0)
-  sound-colour (is-start e k n) x y = absurd (y e)
-  sound-colour (is-stop e k) x y = absurd (x e)
+  sound-colour (is-group-start e k n) x y = absurd (y e)
+  sound-colour (is-group-end e k) x y = absurd (x e)
   sound-colour (is-colour e n s) x y = (e, s)
 
   module _ (l : length (g .channels) ≡ 4) where
     length-payload : Sound names 1 g → 6 + length (payload (blockIn names g)) ≡ sizeIn g
-    length-payload (is-start e k n) = omega (arith, ap (λ (b : Block). length (payload b)) (block-start e), length-name names g, size-start g e)
-    length-payload (is-stop e k) = omega (arith, ap (λ (b : Block). length (payload b)) (block-stop e), size-stop g e)
+    length-payload (is-group-start e k n) = omega (arith, ap (λ (b : Block). length (payload b)) (block-start e), length-name names g, size-start g e)
+    length-payload (is-group-end e k) = omega (arith, ap (λ (b : Block). length (payload b)) (block-stop e), size-stop g e)
     length-payload (is-colour e n s) =
         let a = length-append (nameBytes 2 (unitsIn names g)) (afterNameBytes g) in
         omega (arith, ap (λ (b : Block). length (payload b)) (block-colour e), a, length-name names g, length-colour-content g l, size-colour g e)

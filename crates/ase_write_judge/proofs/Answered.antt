@@ -13,7 +13,7 @@ use Rattle.colour.specs.Models.{isModel}
 use Rattle.colour.specs.Channels.{allowsBits}
 use Rattle.ase.specs.Grammar.{Block, groupStart, groupEnd, colour, other, fileBytes}
 use Rattle.ase.specs.Reading.{deepest}
-use Rattle.ase.specs.Faults.{nameFault, shadeFault, blockFault, blocksFault}
+use Rattle.ase.specs.Faults.{nameFault, colourFault, blockFault, blocksFault}
 use Rattle.ase_write_judge.specs.Refusals.{refusals}
 use Rattle.ase.specs.Row.{RecordRow}
 use Rattle.ase_write_judge.specs.Writing.{blockIn, size, foundIn, fault, needed, written}
@@ -22,8 +22,8 @@ use Rattle.ase_write_judge.specs.scaffold.Parts.{standingIn}
 found-numbered : (text : List ℕ) (g : RecordRow) → Fault refusals (foundIn text g)
 found-numbered text g = pick-fault (leb (g .units + 1) 65535) (body-fault (among refl) 2 (g .units) text (g .first)) (among refl)
 
-colour-content-numbered : (t : ℕ) (bs : List ℕ) (k : ℕ) → Fault refusals (shadeFault t bs k)
-unfolding shadeFault
+colour-content-numbered : (t : ℕ) (bs : List ℕ) (k : ℕ) → Fault refusals (colourFault t bs k)
+unfolding colourFault
 colour-content-numbered t bs k =
     first-fault _ _ (pick-fault (isModel t) no-fault (among refl))
     (first-fault _ _ (from-fault _ (λ i b. pick-fault (allowsBits t b) no-fault (among refl)) 0 bs) (pick-fault (leb k 2) no-fault (among refl)))

@@ -151,12 +151,12 @@ held false e = sym e
 -- the fault of a colour of an unknown model, and of a known one
 module _ (g : RecordRow) where
   pub colour-content-unknown : Unknown ≡ modelOf (g .model) → 4 ≡ afterNameFault g
-  unfolding f.shadeFault isModel
+  unfolding f.colourFault isModel
   colour-content-unknown e = rw (← e)
 
   module _ (m : Model) (e : Is m ≡ modelOf (g .model)) where
     colour-content-known : afterNameFault g ≡ firstOf (channelsFault m (g .channels)) (pick (leb (g .type) 2) 0 5)
-    unfolding f.shadeFault isModel channelsOf allowsBits channelsFault
+    unfolding f.colourFault isModel channelsOf allowsBits channelsFault
     colour-content-known = rw (← e)
 
     module _ (x : Bool) (h : pick x 0 5 ≡ channelsFault m (g .channels)) where
@@ -168,7 +168,7 @@ module _ (g : RecordRow) where
 
 -- a colour without a fault has a known model and a type of 16 bits
 pub colour-content-fine : (g : RecordRow) → afterNameFault g ≡ 0 → (isModel (g .model) ≡ true) × (g .type ≤ 2)
-unfolding f.shadeFault
+unfolding f.colourFault
 colour-content-fine g e =
     let f : ℕ = faultsFrom (λ i b. pick (allowsBits (g .model) b) 0 5) 0 (channelsIn g) in
     let a = first-inv (pick (isModel (g .model)) 0 4) (firstOf f (pick (leb (g .type) 2) 0 5)) e in
@@ -191,8 +191,8 @@ module _ (d t : ℕ) where
 
 -- what is known of one without a fault, where d groups stand open
 pub data Sound (names : List ℕ) (d : ℕ) (g : RecordRow) : Type 0 where
-  is-start : g .block ≡ 0xC001 → d < deepest → nameFault names g ≡ 0 → Sound names d g
-  is-stop : g .block ≡ 0xC002 → 0 < d → Sound names d g
+  is-group-start : g .block ≡ 0xC001 → d < deepest → nameFault names g ≡ 0 → Sound names d g
+  is-group-end : g .block ≡ 0xC002 → 0 < d → Sound names d g
   is-colour : g .block ≡ 0x0001 → nameFault names g ≡ 0 → afterNameFault g ≡ 0 → Sound names d g
 
 module _ (names : List ℕ) (d : ℕ) (g : RecordRow) where
@@ -219,9 +219,9 @@ module _ (names : List ℕ) (d : ℕ) (g : RecordRow) where
 
   pub sound : blockFault names d g ≡ 0 → Sound names d g
   sound e = elim (ℕ-discrete (g .block) 0xC001) [
-    | yes a ↦ let x = first-inv (pick (ltb d deepest) 0 10) (nameFault names g) (sym (block-start a) ∙ e) in is-start a (ltb-true d deepest (pick-none (ltb d deepest) 10 (omega arith) (x .0))) (x .1)
+    | yes a ↦ let x = first-inv (pick (ltb d deepest) 0 10) (nameFault names g) (sym (block-start a) ∙ e) in is-group-start a (ltb-true d deepest (pick-none (ltb d deepest) 10 (omega arith) (x .0))) (x .1)
     | no a ↦ elim (ℕ-discrete (g .block) 0xC002) [
-      | yes b ↦ is-stop b (ltb-true 0 d (pick-none (ltb 0 d) 9 (omega arith) (sym (block-stop b) ∙ e)))
+      | yes b ↦ is-group-end b (ltb-true 0 d (pick-none (ltb 0 d) 9 (omega arith) (sym (block-stop b) ∙ e)))
       | no b ↦ elim (ℕ-discrete (g .block) 0x0001) [
         | yes c ↦ let x = first-inv (nameFault names g) (afterNameFault g) (sym (block-colour c) ∙ e) in is-colour c (x .0) (x .1)
         | no c ↦ absurd (omega (arith, block-other a b c))
@@ -243,14 +243,14 @@ module _ (names : List ℕ) (d : ℕ) (g : RecordRow) where
 
   -- no more groups stand open after it than may
   pub depth-few : Sound names d g → d ≤ deepest → openAfterType d (g .block) ≤ deepest
-  depth-few (is-start a k n) h = omega (arith, depth-start d (g .block) a)
-  depth-few (is-stop a k) h = omega (arith, depth-stop d (g .block) a)
+  depth-few (is-group-start a k n) h = omega (arith, depth-start d (g .block) a)
+  depth-few (is-group-end a k) h = omega (arith, depth-stop d (g .block) a)
   depth-few (is-colour a n s) h = rw a h
 
 -- it has no fault apart from the nesting either
 block-own : (names : List ℕ) (d : ℕ) (g : RecordRow) → Sound names d g → ownFault names g ≡ 0
-block-own names d g (is-start a k n) = block-start names 1 g a ∙ n
-block-own names d g (is-stop a k) = block-stop names 1 g a
+block-own names d g (is-group-start a k n) = block-start names 1 g a ∙ n
+block-own names d g (is-group-end a k) = block-stop names 1 g a
 block-own names d g (is-colour a n s) = block-colour names 1 g a ∙ first-none (nameFault names g) (afterNameFault g) n ∙ s
 
 -- ---- a loop over the records of a run

@@ -5,7 +5,7 @@ ghost use mathlib.Core.Path.{_≡_};
 ghost use Prim.Native.Nat.{_+_, _*_, _<_};
 ghost use lib.ListN.{length};
 ghost use Rattle.algebra.specs.Numbers.{num};
-ghost use Rattle.fields.specs.Answer.{toldStep};
+ghost use Rattle.fields.specs.Answer.{toldFieldEnd};
 ghost use lib.Ieee.{binary64, ofBits};
 ghost use lib.Ieee.Scale.{finite};
 ghost use Rattle.algebra.specs.Reader.{done, each};
@@ -118,7 +118,7 @@ const MINUS_ZERO: u64 = 0x8000_0000_0000_0000;
 
 // An ID: a length, and that many bytes, or 4 where it is 0.
 pub fn id_at(file: &[u8], at: usize) -> FieldEnd
-    ensures { λ r. ⌜ toldStep r ≡ id (now (file .entry)) at ⌝ }
+    ensures { λ r. ⌜ toldFieldEnd r ≡ id (now (file .entry)) at ⌝ }
 {
     let Number32::Is(n, body) = fields::u32_at(file, at) else {
         return FieldEnd::Refused(2, at);
@@ -131,7 +131,7 @@ pub fn id_at(file: &[u8], at: usize) -> FieldEnd
 
 // A Unicode string: a count and the units, of which only the last is looked at.
 pub fn unicode_at(file: &[u8], at: usize) -> FieldEnd
-    ensures { λ r. ⌜ toldStep r ≡ unicode (now (file .entry)) at ⌝ }
+    ensures { λ r. ⌜ toldFieldEnd r ≡ unicode (now (file .entry)) at ⌝ }
 {
     let Number32::Is(n, first) = fields::u32_at(file, at) else {
         return FieldEnd::Refused(2, at);
@@ -151,7 +151,7 @@ pub fn unicode_at(file: &[u8], at: usize) -> FieldEnd
 
 // A class: a Unicode string and an ID.
 pub fn class_at(file: &[u8], at: usize) -> FieldEnd
-    ensures { λ r. ⌜ toldStep r ≡ class (now (file .entry)) at ⌝ }
+    ensures { λ r. ⌜ toldFieldEnd r ≡ class (now (file .entry)) at ⌝ }
 {
     match unicode_at(file, at) {
         FieldEnd::Refused(x, p) => FieldEnd::Refused(x, p),
@@ -161,7 +161,7 @@ pub fn class_at(file: &[u8], at: usize) -> FieldEnd
 
 // Two IDs.
 pub fn enumerated_at(file: &[u8], at: usize) -> FieldEnd
-    ensures { λ r. ⌜ toldStep r ≡ enumerated (now (file .entry)) at ⌝ }
+    ensures { λ r. ⌜ toldFieldEnd r ≡ enumerated (now (file .entry)) at ⌝ }
 {
     match id_at(file, at) {
         FieldEnd::Refused(x, p) => FieldEnd::Refused(x, p),
@@ -171,7 +171,7 @@ pub fn enumerated_at(file: &[u8], at: usize) -> FieldEnd
 
 // A length and that many bytes.
 pub fn bytes_at(file: &[u8], at: usize) -> FieldEnd
-    ensures { λ r. ⌜ toldStep r ≡ rawBytes (now (file .entry)) at ⌝ }
+    ensures { λ r. ⌜ toldFieldEnd r ≡ rawBytes (now (file .entry)) at ⌝ }
 {
     let Number32::Is(n, body) = fields::u32_at(file, at) else {
         return FieldEnd::Refused(2, at);
@@ -201,7 +201,7 @@ pub fn is_array_unit(tag: u32) -> bool
 
 // A `bool`: 0 or 1.
 pub fn flag_at(file: &[u8], at: usize) -> FieldEnd
-    ensures { λ r. ⌜ toldStep r ≡ flag (now (file .entry)) at ⌝ }
+    ensures { λ r. ⌜ toldFieldEnd r ≡ flag (now (file .entry)) at ⌝ }
 {
     let Number8::Is(v, next) = fields::u8_at(file, at) else {
         return FieldEnd::Refused(2, at);
@@ -221,7 +221,7 @@ fn is_finite(bits: u64) -> bool
 
 // A finite double.
 pub fn double_at(file: &[u8], at: usize) -> FieldEnd
-    ensures { λ r. ⌜ toldStep r ≡ double (now (file .entry)) at ⌝ }
+    ensures { λ r. ⌜ toldFieldEnd r ≡ double (now (file .entry)) at ⌝ }
 {
     let Number64::Is(bits, next) = fields::u64_at(file, at) else {
         return FieldEnd::Refused(2, at);
@@ -234,7 +234,7 @@ pub fn double_at(file: &[u8], at: usize) -> FieldEnd
 
 // A unit and a double.
 pub fn unit_double_at(file: &[u8], at: usize) -> FieldEnd
-    ensures { λ r. ⌜ toldStep r ≡ unitDouble (now (file .entry)) at ⌝ }
+    ensures { λ r. ⌜ toldFieldEnd r ≡ unitDouble (now (file .entry)) at ⌝ }
 {
     let Number32::Is(unit, next) = fields::u32_at(file, at) else {
         return FieldEnd::Refused(2, at);
@@ -247,7 +247,7 @@ pub fn unit_double_at(file: &[u8], at: usize) -> FieldEnd
 
 // A field's end as the end of a value.
 fn ending(step: FieldEnd) -> Value
-    ensures { λ r. ⌜ r ≡ endOf (toldStep step) ⌝ }
+    ensures { λ r. ⌜ r ≡ endOf (toldFieldEnd step) ⌝ }
 {
     match step {
         FieldEnd::Next(next) => Value::Ends(next),
@@ -294,7 +294,7 @@ pub fn form_of(kind: u32) -> KnownForm
 
 // What stands after a reference item's class.
 fn form_at(file: &[u8], form: Form, at: usize) -> FieldEnd
-    ensures { λ r. ⌜ toldStep r ≡ readerOf form (now (file .entry)) at ⌝ }
+    ensures { λ r. ⌜ toldFieldEnd r ≡ readerOf form (now (file .entry)) at ⌝ }
 {
     match form {
         Form::Nothing => fields::run_at(file, at, 0),
@@ -307,7 +307,7 @@ fn form_at(file: &[u8], form: Form, at: usize) -> FieldEnd
 
 // What stands after a reference item's form: a class, and what the form says.
 pub fn ref_value_at(file: &[u8], form: Form, at: usize) -> FieldEnd
-    ensures { λ r. ⌜ toldStep r ≡ refValue (readerOf form) (now (file .entry)) at ⌝ }
+    ensures { λ r. ⌜ toldFieldEnd r ≡ refValue (readerOf form) (now (file .entry)) at ⌝ }
 {
     match class_at(file, at) {
         FieldEnd::Refused(x, p) => FieldEnd::Refused(x, p),
@@ -319,7 +319,7 @@ pub fn ref_value_at(file: &[u8], form: Form, at: usize) -> FieldEnd
 
 // n doubles.
 fn doubles_at(file: &[u8], at: usize, n: u32) -> FieldEnd
-    ensures { λ r. ⌜ toldStep r ≡ done (each n 0 (λ i. double) (now (file .entry)) at) ⌝ }
+    ensures { λ r. ⌜ toldFieldEnd r ≡ done (each n 0 (λ i. double) (now (file .entry)) at) ⌝ }
 {
     let mut p = at;
     let mut i: u32 = 0;
@@ -339,7 +339,7 @@ fn doubles_at(file: &[u8], at: usize, n: u32) -> FieldEnd
 
 // As many doubles as there are objects, after their count.
 fn counted_at(file: &[u8], objects: u32, at: usize) -> FieldEnd
-    ensures { λ r. ⌜ toldStep r ≡ counted objects (now (file .entry)) at ⌝ }
+    ensures { λ r. ⌜ toldFieldEnd r ≡ counted objects (now (file .entry)) at ⌝ }
 {
     let Number32::Is(n, next) = fields::u32_at(file, at) else {
         return FieldEnd::Refused(2, at);
@@ -352,7 +352,7 @@ fn counted_at(file: &[u8], objects: u32, at: usize) -> FieldEnd
 
 // What stands after `UnFl`: a unit, and as many doubles as there are objects.
 pub fn column_at(file: &[u8], objects: u32, at: usize) -> FieldEnd
-    ensures { λ r. ⌜ toldStep r ≡ column objects (now (file .entry)) at ⌝ }
+    ensures { λ r. ⌜ toldFieldEnd r ≡ column objects (now (file .entry)) at ⌝ }
 {
     let Number32::Is(unit, next) = fields::u32_at(file, at) else {
         return FieldEnd::Refused(2, at);

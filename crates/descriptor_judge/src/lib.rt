@@ -10,7 +10,7 @@
 ghost use mathlib.Core.Path.{_≡_};
 ghost use Prim.Native.Nat.{_≤_, _<_};
 ghost use lib.ListN.{length};
-ghost use Rattle.fields.specs.Answer.{toldStep};
+ghost use Rattle.fields.specs.Answer.{toldFieldEnd};
 ghost use Rattle.descriptor.specs.Reading.{id, class, children, refItem, referenceOf, arrayPair, arrayOf, item, objectOf, root, descriptor};
 ghost use Rattle.descriptor_judge.specs.Answer.{verdict, told};
 ghost use Rattle.descriptor_judge.specs.scaffold.Answer.{closing};
@@ -78,7 +78,7 @@ fn with_own(n: u64) -> RowsEnd
 
 // The reference item at `at`: one row.
 fn ref_item(file: &[u8], left: usize, at: usize) -> FieldEnd
-    ensures { λ r. ⌜ single (toldStep r) ≡ walked (refItem left 0 0 (now (file .entry)) at) ⌝ }
+    ensures { λ r. ⌜ single (toldFieldEnd r) ≡ walked (refItem left 0 0 (now (file .entry)) at) ⌝ }
 {
     if left == 0 {
         return FieldEnd::Refused(10, at);
@@ -94,7 +94,7 @@ fn ref_item(file: &[u8], left: usize, at: usize) -> FieldEnd
 
 // The pair of an object array at `at`: one row.
 fn array_pair(file: &[u8], objects: u32, left: usize, at: usize) -> FieldEnd
-    ensures { λ r. ⌜ single (toldStep r) ≡ walked (arrayPair objects left 0 0 (now (file .entry)) at) ⌝ }
+    ensures { λ r. ⌜ single (toldFieldEnd r) ≡ walked (arrayPair objects left 0 0 (now (file .entry)) at) ⌝ }
 {
     if left == 0 {
         return FieldEnd::Refused(10, at);
@@ -193,7 +193,7 @@ fn held(file: &[u8], columns: bool, left: usize, at: usize) -> u64
 
 // A class, where there is one.
 fn class_if(file: &[u8], there: bool, at: usize) -> FieldEnd
-    ensures { λ r. ⌜ toldStep r ≡ optional there class (now (file .entry)) at ⌝ }
+    ensures { λ r. ⌜ toldFieldEnd r ≡ optional there class (now (file .entry)) at ⌝ }
 {
     if there {
         return descriptor::class_at(file, at);
@@ -203,7 +203,7 @@ fn class_if(file: &[u8], there: bool, at: usize) -> FieldEnd
 
 // A key, where there is one.
 fn key_if(file: &[u8], there: bool, at: usize) -> FieldEnd
-    ensures { λ r. ⌜ toldStep r ≡ optional there id (now (file .entry)) at ⌝ }
+    ensures { λ r. ⌜ toldFieldEnd r ≡ optional there id (now (file .entry)) at ⌝ }
 {
     if there {
         return descriptor::id_at(file, at);

@@ -17,7 +17,7 @@ ghost use lib.Ieee.Scale.{finite};
 ghost use mathlib.Core.Bool.{true};
 ghost use Rattle.algebra.specs.Numbers.{num};
 ghost use Rattle.algebra.specs.Reader.{field, orZero};
-ghost use Rattle.fields.specs.Answer.{toldStep};
+ghost use Rattle.fields.specs.Answer.{toldFieldEnd};
 ghost use Rattle.descriptor.specs.scaffold.Answer.{endOf, begun};
 ghost use Rattle.descriptor.specs.scaffold.Leaves.{Leafed};
 ghost use Rattle.descriptor.specs.Reading.{id, class, sortOf, children, refItem, referenceOf, arrayPair, arrayOf, item, objectOf, root, descriptor};
@@ -338,7 +338,7 @@ fn held(
 
 // A field's end as the end of a value.
 fn ending(step: FieldEnd) -> Value
-    ensures { λ r. ⌜ r ≡ endOf (toldStep step) ⌝ }
+    ensures { λ r. ⌜ r ≡ endOf (toldFieldEnd step) ⌝ }
 {
     match step {
         FieldEnd::Next(next) => Value::Ends(next),
@@ -372,7 +372,7 @@ fn begin(file: &[u8], kind: u32, at: usize) -> Value
 
 // A class, where there is one.
 fn class_if(file: &[u8], there: bool, at: usize) -> FieldEnd
-    ensures { λ r. ⌜ toldStep r ≡ optional there class (now (file .entry)) at ⌝ }
+    ensures { λ r. ⌜ toldFieldEnd r ≡ optional there class (now (file .entry)) at ⌝ }
 {
     if there {
         return descriptor::class_at(file, at);
@@ -382,7 +382,7 @@ fn class_if(file: &[u8], there: bool, at: usize) -> FieldEnd
 
 // A key, where there is one.
 fn key_if(file: &[u8], there: bool, at: usize) -> FieldEnd
-    ensures { λ r. ⌜ toldStep r ≡ optional there id (now (file .entry)) at ⌝ }
+    ensures { λ r. ⌜ toldFieldEnd r ≡ optional there id (now (file .entry)) at ⌝ }
 {
     if there {
         return descriptor::id_at(file, at);

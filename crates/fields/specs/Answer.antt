@@ -33,9 +33,9 @@ told64 at (n64.Is v n) = ok v n
 told64 at n64.Short = refuse 2 at 0 0
 
 -- the next place, or a refusal's number and place
-abbrev pub toldStep : FieldEnd → Res Unit
-toldStep (vs.Next n) = ok tt n
-toldStep (vs.Refused x p) = refuse x p 0 0
+abbrev pub toldFieldEnd : FieldEnd → Res Unit
+toldFieldEnd (vs.Next n) = ok tt n
+toldFieldEnd (vs.Refused x p) = refuse x p 0 0
 
 -- what a writer answers: how many bytes, or a refusal's number, at place 0
 abbrev pub toldWritten : Written → Outcome

@@ -5,7 +5,7 @@ ghost use lib.Dec.{eqb};
 ghost use lib.ListN.{length};
 ghost use Rattle.algebra.specs.Numbers.{num};
 ghost use Rattle.algebra.specs.Reader.{field, body, done, judged, orZero, unless};
-ghost use Rattle.fields.specs.Answer.{told8, told16, told32, told64, toldStep};
+ghost use Rattle.fields.specs.Answer.{told8, told16, told32, told64, toldFieldEnd};
 
 // A number of 8 bits and the next place, or Short where no byte remains.
 pub enum Number8 {
@@ -161,7 +161,7 @@ pub fn u64_or_zero(s: &[u8], at: usize) -> u64
 
 // The place after k bytes from `at`, or refusal 2.
 pub fn run_at(s: &[u8], at: usize, k: usize) -> FieldEnd
-    ensures { λ r. ⌜ toldStep r ≡ done (body 1 k (now (s .entry)) at) ⌝ }
+    ensures { λ r. ⌜ toldFieldEnd r ≡ done (body 1 k (now (s .entry)) at) ⌝ }
 {
     if k == 0 {
         return FieldEnd::Next(at);
@@ -178,7 +178,7 @@ pub fn run_at(s: &[u8], at: usize, k: usize) -> FieldEnd
 
 // A 16-bit field that must be `want`, or the refusal `number`.
 pub fn u16_is(s: &[u8], at: usize, want: u16, number: u32) -> FieldEnd
-    ensures { λ r. ⌜ toldStep r ≡ done (judged 2 (λ v. unless (eqb v want) number) (now (s .entry)) at) ⌝ }
+    ensures { λ r. ⌜ toldFieldEnd r ≡ done (judged 2 (λ v. unless (eqb v want) number) (now (s .entry)) at) ⌝ }
 {
     let Number16::Is(v, next) = u16_at(s, at) else {
         return FieldEnd::Refused(2, at);

@@ -7,7 +7,7 @@ ghost use Rattle.colour.specs.Channels.{bitsOf, modelIn};
 ghost use Rattle.ase.specs.Row.{colourRow as coloured};
 ghost use Rattle.walk.specs.Walk.{gives};
 ghost use Rattle.aco_walk.specs.Walking.{walk, startOf};
-ghost use Rattle.aco_walk.specs.Answer.{toldGiven, callAndPlace, toldStart};
+ghost use Rattle.aco_walk.specs.Answer.{toldNextColour, callAndPlace, toldStart};
 ghost use Rattle.ase_walk.specs.Walking.{walk as walkAse, blockWalk, startOf as startOfAse};
 ghost use Rattle.ase_walk.specs.Answer.{callAndPlace as handedAse, toldStart as toldStartAse};
 ghost use Rattle.khuyurek.specs.Walk.{acoStart, acoGiven, acoStep, aseStart, asePlain, aseGiven, aseStep};
@@ -105,7 +105,7 @@ pub extern "C" fn khuyurek_aco_walk_start(file: &[u8]) -> AcoStart
 }
 
 fn aco_given(colour: Colour, given: aco_walk::NextColour, next: usize) -> AcoStep
-    ensures { λ r. ⌜ r ≡ acoGiven colour next (toldGiven given) ⌝ }
+    ensures { λ r. ⌜ r ≡ acoGiven colour next (toldNextColour given) ⌝ }
 {
     let space = colour.space;
     let samples = colour.samples;

@@ -7,7 +7,7 @@ ghost use Rattle.algebra.specs.Numbers.{num, nums};
 ghost use Rattle.algebra.specs.Reader.{done};
 ghost use Rattle.algebra.specs.Text.{anyZero, closed, text, closedUnits, name, place};
 ghost use Rattle.algebra.specs.Lanes.{lanes, anyHighBit};
-ghost use Rattle.fields.specs.Answer.{toldStep};
+ghost use Rattle.fields.specs.Answer.{toldFieldEnd};
 ghost use Rattle.names.specs.Answer.{toldName};
 use fields::FieldEnd;
 use fields::Number16;
@@ -185,7 +185,7 @@ fn any_zero(s: &[u8], at: usize, n: usize) -> bool
 
 // n units from `at`, none of them zero: the next place, 2 where they pass the end, 8 where one is zero.
 pub fn text_at(s: &[u8], at: usize, n: u32) -> FieldEnd
-    ensures { λ r. ⌜ toldStep r ≡ done (text n (now (s .entry)) at) ⌝ }
+    ensures { λ r. ⌜ toldFieldEnd r ≡ done (text n (now (s .entry)) at) ⌝ }
 {
     if n == 0 {
         return FieldEnd::Next(at);

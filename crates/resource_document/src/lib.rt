@@ -2,7 +2,7 @@
 ghost use mathlib.Core.Path.{_≡_};
 ghost use Rattle.algebra.specs.Reader.{done, judged};
 ghost use Rattle.algebra.specs.Table.{verdict};
-ghost use Rattle.fields.specs.Answer.{toldStep};
+ghost use Rattle.fields.specs.Answer.{toldFieldEnd};
 ghost use Rattle.resource_document.specs.Reading.{reserved, start, image, colours, resourcesIn, document};
 ghost use Rattle.resource_document.specs.Answer.{told};
 use fields::FieldEnd;
@@ -19,7 +19,7 @@ pub enum SectionPlace {
 
 // Six bytes that are zero.
 fn reserved_at(file: &[u8], at: usize) -> FieldEnd
-    ensures { λ r. ⌜ toldStep r ≡ done (judged 6 reserved (now (file .entry)) at) ⌝ }
+    ensures { λ r. ⌜ toldFieldEnd r ≡ done (judged 6 reserved (now (file .entry)) at) ⌝ }
 {
     match fields::run_at(file, at, 6) {
         FieldEnd::Refused(x, p) => FieldEnd::Refused(x, p),
@@ -37,7 +37,7 @@ fn reserved_at(file: &[u8], at: usize) -> FieldEnd
 
 // Signature, version, reserved bytes.
 fn start_at(file: &[u8]) -> FieldEnd
-    ensures { λ r. ⌜ toldStep r ≡ done (start (now (file .entry)) 0) ⌝ }
+    ensures { λ r. ⌜ toldFieldEnd r ≡ done (start (now (file .entry)) 0) ⌝ }
 {
     let Number32::Is(v, a) = fields::u32_at(file, 0) else {
         return FieldEnd::Refused(2, 0);
@@ -53,7 +53,7 @@ fn start_at(file: &[u8]) -> FieldEnd
 
 // Channels, height, width, depth and mode.
 fn image_at(file: &[u8], at: usize) -> FieldEnd
-    ensures { λ r. ⌜ toldStep r ≡ done (image (now (file .entry)) at) ⌝ }
+    ensures { λ r. ⌜ toldFieldEnd r ≡ done (image (now (file .entry)) at) ⌝ }
 {
     match fields::run_at(file, at, 2) {
         FieldEnd::Refused(x, p) => FieldEnd::Refused(x, p),
@@ -72,7 +72,7 @@ fn image_at(file: &[u8], at: usize) -> FieldEnd
 
 // The colour mode data.
 fn colours_at(file: &[u8], at: usize) -> FieldEnd
-    ensures { λ r. ⌜ toldStep r ≡ done (colours (now (file .entry)) at) ⌝ }
+    ensures { λ r. ⌜ toldFieldEnd r ≡ done (colours (now (file .entry)) at) ⌝ }
 {
     let Number32::Is(n, first) = fields::u32_at(file, at) else {
         return FieldEnd::Refused(2, at);

@@ -4,11 +4,11 @@ ghost use Prim.Native.Nat.{_+_, _%_, _<_};
 ghost use lib.ListN.{length};
 ghost use Rattle.algebra.specs.Reader.{done, then, mapRes};
 ghost use Rattle.algebra.specs.Table.{verdict};
-ghost use Rattle.fields.specs.Answer.{toldStep};
+ghost use Rattle.fields.specs.Answer.{toldFieldEnd};
 ghost use Rattle.resource.specs.Reading.{pad, paddedPart, sizedPart, block, blocks, resources};
 ghost use Rattle.resource.specs.Rows.{recordOf};
 ghost use Rattle.resource_judge.specs.Answer.{toldFound, told};
-ghost use Rattle.resource_judge.specs.scaffold.Answer.{partOf, toldRun, partsFrom};
+ghost use Rattle.resource_judge.specs.scaffold.Answer.{partOf, toldPart, partsFrom};
 use fields::FieldEnd;
 use fields::Number8;
 use fields::Number16;
@@ -39,7 +39,7 @@ enum Run {
 
 // The place behind the pad of n bytes.
 fn pad_at(file: &[u8], at: usize, n: usize) -> FieldEnd
-    ensures { λ r. ⌜ toldStep r ≡ done (pad n (now (file .entry)) at) ⌝ }
+    ensures { λ r. ⌜ toldFieldEnd r ≡ done (pad n (now (file .entry)) at) ⌝ }
 {
     if n % 2 == 0 {
         return FieldEnd::Next(at);
@@ -56,7 +56,7 @@ fn pad_at(file: &[u8], at: usize, n: usize) -> FieldEnd
 // The place behind n bytes and their pad, where k bytes before them count with them.
 fn followed_at(file: &[u8], at: usize, k: usize, n: usize) -> FieldEnd
     requires { ⌜ k + n < 18446744073709551616 ⌝ }
-    ensures { λ r. ⌜ toldStep r ≡ done (paddedPart k n (now (file .entry)) at) ⌝ }
+    ensures { λ r. ⌜ toldFieldEnd r ≡ done (paddedPart k n (now (file .entry)) at) ⌝ }
 {
     match fields::run_at(file, at, n) {
         FieldEnd::Refused(x, p) => FieldEnd::Refused(x, p),
@@ -66,7 +66,7 @@ fn followed_at(file: &[u8], at: usize, k: usize, n: usize) -> FieldEnd
 
 // A name: its length byte counts for its pad.
 fn name_at(file: &[u8], at: usize) -> Run
-    ensures { λ r. ⌜ toldRun r ≡ mapRes partOf (sizedPart 1 1 (now (file .entry)) at) ⌝ }
+    ensures { λ r. ⌜ toldPart r ≡ mapRes partOf (sizedPart 1 1 (now (file .entry)) at) ⌝ }
 {
     let Number8::Is(v, first) = fields::u8_at(file, at) else {
         return Run::Refused(2, at);
@@ -80,7 +80,7 @@ fn name_at(file: &[u8], at: usize) -> Run
 
 // A block's data.
 fn payload_at(file: &[u8], at: usize) -> Run
-    ensures { λ r. ⌜ toldRun r ≡ mapRes partOf (sizedPart 4 0 (now (file .entry)) at) ⌝ }
+    ensures { λ r. ⌜ toldPart r ≡ mapRes partOf (sizedPart 4 0 (now (file .entry)) at) ⌝ }
 {
     let Number32::Is(v, first) = fields::u32_at(file, at) else {
         return Run::Refused(2, at);
@@ -150,7 +150,7 @@ pub fn block_at(file: &[u8], at: usize) -> BlockAnswer
 // The place behind n bytes and their pad, which is asked for by the place where it would stand and not
 // by their number, so that a length stays one load. In a block at an even place that is the same.
 fn even_end(file: &[u8], at: usize, n: usize) -> FieldEnd
-    ensures { λ r. ⌜ toldStep r ≡ done (paddedPart at n (now (file .entry)) at) ⌝ }
+    ensures { λ r. ⌜ toldFieldEnd r ≡ done (paddedPart at n (now (file .entry)) at) ⌝ }
 {
     match fields::run_at(file, at, n) {
         FieldEnd::Refused(x, p) => FieldEnd::Refused(x, p),
@@ -161,7 +161,7 @@ fn even_end(file: &[u8], at: usize, n: usize) -> FieldEnd
 // The place behind a block's data, from an even place.
 fn data_end(file: &[u8], at: usize) -> FieldEnd
     requires { ⌜ at % 2 ≡ 0 ⌝ }
-    ensures { λ r. ⌜ toldStep r ≡ done (sizedPart 4 0 (now (file .entry)) at) ⌝ }
+    ensures { λ r. ⌜ toldFieldEnd r ≡ done (sizedPart 4 0 (now (file .entry)) at) ⌝ }
 {
     let Number32::Is(v, first) = fields::u32_at(file, at) else {
         return FieldEnd::Refused(2, at);
@@ -172,7 +172,7 @@ fn data_end(file: &[u8], at: usize) -> FieldEnd
 // The place behind a block's name and data, from an even place.
 fn parts_end(file: &[u8], at: usize) -> FieldEnd
     requires { ⌜ at % 2 ≡ 0 ⌝ }
-    ensures { λ r. ⌜ toldStep r ≡ then (done (sizedPart 1 1 (now (file .entry)) at)) (λ _ p. done (sizedPart 4 0 (now (file .entry)) p)) ⌝ }
+    ensures { λ r. ⌜ toldFieldEnd r ≡ then (done (sizedPart 1 1 (now (file .entry)) at)) (λ _ p. done (sizedPart 4 0 (now (file .entry)) p)) ⌝ }
 {
     let Number8::Is(v, first) = fields::u8_at(file, at) else {
         return FieldEnd::Refused(2, at);
@@ -186,7 +186,7 @@ fn parts_end(file: &[u8], at: usize) -> FieldEnd
 // The place behind the block at an even place.
 fn block_end(file: &[u8], at: usize) -> FieldEnd
     requires { ⌜ at % 2 ≡ 0 ⌝ }
-    ensures { λ r. ⌜ toldStep r ≡ done (block (now (file .entry)) at) ⌝ }
+    ensures { λ r. ⌜ toldFieldEnd r ≡ done (block (now (file .entry)) at) ⌝ }
 {
     let Number32::Is(signature, a) = fields::u32_at(file, at) else {
         return FieldEnd::Refused(2, at);

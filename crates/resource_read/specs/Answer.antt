@@ -7,9 +7,9 @@ use Rattle.resource_read.specs.declared.RecordAnswer.the-variants as vs
 use Rattle.resource_read.specs.declared.Index.{Index}
 use Rattle.resource_read.specs.declared.Index.the-variants as vi
 
-abbrev pub toldShown : RecordAnswer → Verdict Record
-toldShown (vs.Is r) = accepted r
-toldShown (vs.Refused x p) = refused x p 0 0
+abbrev pub toldRecordAnswer : RecordAnswer → Verdict Record
+toldRecordAnswer (vs.Is r) = accepted r
+toldRecordAnswer (vs.Refused x p) = refused x p 0 0
 
 abbrev pub toldIndex : Index → Verdict ℕ
 toldIndex (vi.Is i) = accepted i

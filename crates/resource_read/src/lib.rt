@@ -11,7 +11,7 @@ ghost use Rattle.resource.specs.Reading.{block, resources};
 ghost use Rattle.resource.specs.Rows.{recordOf, width, row};
 ghost use Rattle.resource_judge.specs.Answer.{told};
 ghost use Rattle.resource_read.specs.Table.{entryRow, tabled, noRecord, recordIn, nameOf, payloadOf, indexOf, foundIn};
-ghost use Rattle.resource_read.specs.Answer.{toldShown, toldIndex};
+ghost use Rattle.resource_read.specs.Answer.{toldRecordAnswer, toldIndex};
 ghost use Rattle.resource_read.specs.scaffold.Parts.{rest, Sound, Small, behind};
 use resource::Record;
 use resource::WIDTH;
@@ -151,7 +151,7 @@ pub fn read(file: &[u8], table: &mut [u32]) -> Answer
 
 // Record i of a section.
 pub fn record_at(file: &[u8], i: usize) -> RecordAnswer
-    ensures { λ r. ⌜ toldShown r ≡ recordIn i (resources (now (file .entry))) ⌝ }
+    ensures { λ r. ⌜ toldRecordAnswer r ≡ recordIn i (resources (now (file .entry))) ⌝ }
 {
     match resource_judge::judge(file) {
         Answer::Refused { number, place } => RecordAnswer::Refused { number, place },

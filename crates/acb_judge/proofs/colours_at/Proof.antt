@@ -2,7 +2,7 @@ use mathlib.Core.Path.{_≡_, sym, ap, _∙_}
 use native.Mathlib.Omega.{arith}
 use borrow.Author.Needs.{needs}
 use Prim.Native.Nat.{_-_, _≤_}
-use Rattle.fields.specs.Answer.{toldStep}
+use Rattle.fields.specs.Answer.{toldFieldEnd}
 use Rattle.algebra.specs.Reader.{done, each}
 use Rattle.acb.specs.Reading.{colour}
 use Rattle.algebra.proofs.Laws.{turn-start, turn-ok, turn-no, turn-end}
@@ -30,7 +30,7 @@ returns c =
     let call = x .before .before in
     let l = call .before .before .loop in
     let a = call .before .before .before .before .args in
-    sym (turn-no (λ k. colour (a .n)) (a .file .now) _ (a .count) (l .i) (l .p) (l .inv .1) (call .before .loop-test .taken) (sym (call .colour-at .ensures) ∙ ap toldStep (x .x .given .1)))
+    sym (turn-no (λ k. colour (a .n)) (a .file .now) _ (a .count) (l .i) (l .p) (l .inv .1) (call .before .loop-test .taken) (sym (call .colour-at .ensures) ∙ ap toldFieldEnd (x .x .given .1)))
 
 enum-known-q : tie.Need-enum-known-q Inv-loop μ-loop
 enum-known-q c = search needs
@@ -47,7 +47,7 @@ loop-again c =
     let call = x .before .before in
     let l = call .before .before .loop in
     let a = call .before .before .before .before .args in
-    (omega arith, turn-ok (λ k. colour (a .n)) (a .file .now) _ (a .count) (l .i) (l .p) (l .inv .1) (call .before .loop-test .taken) _ (sym (call .colour-at .ensures) ∙ ap toldStep (x .q .given .1)))
+    (omega arith, turn-ok (λ k. colour (a .n)) (a .file .now) _ (a .count) (l .i) (l .p) (l .inv .1) (call .before .loop-test .taken) _ (sym (call .colour-at .ensures) ∙ ap toldFieldEnd (x .q .given .1)))
 
 returns-2 : tie.Need-returns-2 Inv-loop μ-loop
 returns-2 c =

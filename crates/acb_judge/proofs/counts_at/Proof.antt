@@ -3,7 +3,7 @@ use Rattle.fields.specs.Answer.{told16}
 use Rattle.algebra.proofs.Sequence.{step-no, step-on}
 use Rattle.acb.specs.Reading.{numbers}
 use Rattle.acb_judge.specs.scaffold.Parts.{offsets}
-use Rattle.acb_judge.specs.scaffold.Answer.{toldOpening}
+use Rattle.acb_judge.specs.scaffold.Answer.{toldIdentifier}
 use borrow.Author.Needs.{needs}
 use Rattle.acb_judge.proofs.counts_at.Statement.{statement}
 use Rattle.acb_judge.proofs.counts_at.Tie as tie
@@ -43,7 +43,7 @@ returns-2 c =
     let v = two .before .before in
     let call = v .before .before in
     let a = call .before .before .args in
-    step-on _ _ (sym (ap (told16 (a .at)) (v .count .given .1)) ∙ call .u16-at .ensures) (step-no _ _ (sym (ap toldOpening (c .before .x .given .1)) ∙ two .size-at .ensures))
+    step-on _ _ (sym (ap (told16 (a .at)) (v .count .given .1)) ∙ call .u16-at .ensures) (step-no _ _ (sym (ap toldIdentifier (c .before .x .given .1)) ∙ two .size-at .ensures))
 
 returns-3 : tie.Need-returns-3
 unfolding numbers offsets
@@ -53,7 +53,7 @@ returns-3 c =
     let v = two .before .before in
     let call = v .before .before in
     let a = call .before .before .args in
-    step-on _ _ (sym (ap (told16 (a .at)) (v .count .given .1)) ∙ call .u16-at .ensures) (step-on _ _ (sym (ap toldOpening (z .size .given .1)) ∙ two .size-at .ensures) (c .offset-at .ensures))
+    step-on _ _ (sym (ap (told16 (a .at)) (v .count .given .1)) ∙ call .u16-at .ensures) (step-on _ _ (sym (ap toldIdentifier (z .size .given .1)) ∙ two .size-at .ensures) (c .offset-at .ensures))
 
 pub counts-at-spec : {M : Type 1} → statement M
 counts-at-spec =

@@ -2,7 +2,7 @@ use mathlib.Core.Path.{refl, sym, ap, _∙_}
 use Rattle.fields.specs.Answer.{told16}
 use Rattle.algebra.proofs.Sequence.{step-no, step-on}
 use Rattle.acb_judge.specs.scaffold.Parts.{offsets}
-use Rattle.acb_judge.specs.scaffold.Answer.{toldOpening}
+use Rattle.acb_judge.specs.scaffold.Answer.{toldIdentifier}
 use borrow.Author.Needs.{needs}
 use Rattle.acb_judge.proofs.offset_at.Statement.{statement}
 use Rattle.acb_judge.proofs.offset_at.Tie as tie
@@ -39,7 +39,7 @@ returns-2 c =
     let v = two .before .before in
     let call = v .before .before in
     let a = call .before .before .args in
-    step-on _ _ (sym (ap (told16 (a .at)) (v .offset .given .1)) ∙ call .u16-at .ensures) (step-no _ _ (sym (ap toldOpening (c .before .x .given .1)) ∙ two .space-at .ensures))
+    step-on _ _ (sym (ap (told16 (a .at)) (v .offset .given .1)) ∙ call .u16-at .ensures) (step-no _ _ (sym (ap toldIdentifier (c .before .x .given .1)) ∙ two .space-at .ensures))
 
 returns-3 : tie.Need-returns-3
 unfolding offsets
@@ -48,7 +48,7 @@ returns-3 c =
     let v = two .before .before in
     let call = v .before .before in
     let a = call .before .before .args in
-    step-on _ _ (sym (ap (told16 (a .at)) (v .offset .given .1)) ∙ call .u16-at .ensures) (step-on _ _ (sym (ap toldOpening (c .before .space .given .1)) ∙ two .space-at .ensures) refl)
+    step-on _ _ (sym (ap (told16 (a .at)) (v .offset .given .1)) ∙ call .u16-at .ensures) (step-on _ _ (sym (ap toldIdentifier (c .before .space .given .1)) ∙ two .space-at .ensures) refl)
 
 pub offset-at-spec : {M : Type 1} → statement M
 offset-at-spec =

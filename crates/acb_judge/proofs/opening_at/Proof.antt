@@ -1,5 +1,5 @@
 use mathlib.Core.Path.{sym, ap, _∙_}
-use Rattle.fields.specs.Answer.{told16, told32, toldStep}
+use Rattle.fields.specs.Answer.{told16, told32, toldFieldEnd}
 use Rattle.algebra.proofs.Sequence.{step-no, step-on}
 use Rattle.acb_judge.proofs.Judging.{opening-short, opening-bad, opening-good}
 use borrow.Author.Needs.{needs}
@@ -52,7 +52,7 @@ returns-3 c =
     let v = one .before .before .before in
     let call = v .before .before in
     let a = call .before .before .args in
-    step-no _ _ (sym (ap toldStep (c .before .x .given .1)) ∙ one .u16-is .ensures)
+    step-no _ _ (sym (ap toldFieldEnd (c .before .x .given .1)) ∙ one .u16-is .ensures)
     ∙ opening-good (a .file .now) _ _ (sym (ap (told32 0) (v .signature .given .1)) ∙ call .u32-at .ensures) (one .before .if1 .left)
 
 returns-4 : tie.Need-returns-4
@@ -63,7 +63,7 @@ returns-4 c =
     let v = one .before .before .before in
     let call = v .before .before in
     let a = call .before .before .args in
-    step-on _ _ (sym (ap toldStep (b .b .given .1)) ∙ one .u16-is .ensures) (sym (ap (told16 _) (c .enum-told2 .given .1)) ∙ two .u16-at .ensures)
+    step-on _ _ (sym (ap toldFieldEnd (b .b .given .1)) ∙ one .u16-is .ensures) (sym (ap (told16 _) (c .enum-told2 .given .1)) ∙ two .u16-at .ensures)
     ∙ opening-good (a .file .now) _ _ (sym (ap (told32 0) (v .signature .given .1)) ∙ call .u32-at .ensures) (one .before .if1 .left)
 
 returns-5 : tie.Need-returns-5
@@ -74,7 +74,7 @@ returns-5 c =
     let v = one .before .before .before in
     let call = v .before .before in
     let a = call .before .before .args in
-    step-on _ _ (sym (ap toldStep (b .b .given .1)) ∙ one .u16-is .ensures) (sym (ap (told16 _) (c .before .identifier .given .1)) ∙ two .u16-at .ensures)
+    step-on _ _ (sym (ap toldFieldEnd (b .b .given .1)) ∙ one .u16-is .ensures) (sym (ap (told16 _) (c .before .identifier .given .1)) ∙ two .u16-at .ensures)
     ∙ opening-good (a .file .now) _ _ (sym (ap (told32 0) (v .signature .given .1)) ∙ call .u32-at .ensures) (one .before .if1 .left)
 
 pub opening-at-spec : {M : Type 1} → statement M

@@ -1,7 +1,7 @@
 use mathlib.Core.Path.{sym, ap, _∙_}
 use native.Mathlib.Omega.{arith}
 use Rattle.algebra.specs.Table.{verdict}
-use Rattle.fields.specs.Answer.{toldStep}
+use Rattle.fields.specs.Answer.{toldFieldEnd}
 use Rattle.acb_judge.specs.Answer.{reported}
 use Rattle.acb_judge.specs.scaffold.Answer.{toldClosing}
 use Rattle.acb_judge.proofs.Judging.{rest-no, rest-on, components-most}
@@ -33,21 +33,21 @@ enum-known-tag c = search needs
 returns : tie.Need-returns
 returns c =
     let call = c .before .before .before in
-    sym (ap (verdict (reported _ _ _)) (rest-no _ _ _ _ (call .before .components-of .ensures) (sym (ap toldStep (c .before .number .given .1)) ∙ call .colours-at .ensures)))
+    sym (ap (verdict (reported _ _ _)) (rest-no _ _ _ _ (call .before .components-of .ensures) (sym (ap toldFieldEnd (c .before .number .given .1)) ∙ call .colours-at .ensures)))
 
 returns-2 : tie.Need-returns-2
 returns-2 c =
     let last = c .before .before .before in
     let v = last .before .before in
     let call = v .before .before in
-    sym (ap (verdict (reported _ _ _)) (rest-on _ _ _ _ (call .before .components-of .ensures) (sym (ap toldStep (v .end .given .1)) ∙ call .colours-at .ensures) ∙ sym (last .closing-at .ensures) ∙ ap (toldClosing _) (c .before .number2 .given .1)))
+    sym (ap (verdict (reported _ _ _)) (rest-on _ _ _ _ (call .before .components-of .ensures) (sym (ap toldFieldEnd (v .end .given .1)) ∙ call .colours-at .ensures) ∙ sym (last .closing-at .ensures) ∙ ap (toldClosing _) (c .before .number2 .given .1)))
 
 returns-3 : tie.Need-returns-3
 returns-3 c =
     let last = c .before .before .before in
     let v = last .before .before in
     let call = v .before .before in
-    sym (ap (verdict (reported _ _ _)) (rest-on _ _ _ _ (call .before .components-of .ensures) (sym (ap toldStep (v .end .given .1)) ∙ call .colours-at .ensures) ∙ sym (last .closing-at .ensures) ∙ ap (toldClosing _) (c .before .tag .given .1)))
+    sym (ap (verdict (reported _ _ _)) (rest-on _ _ _ _ (call .before .components-of .ensures) (sym (ap toldFieldEnd (v .end .given .1)) ∙ call .colours-at .ensures) ∙ sym (last .closing-at .ensures) ∙ ap (toldClosing _) (c .before .tag .given .1)))
 
 pub rest-at-spec : {M : Type 1} → statement M
 rest-at-spec =

@@ -21,9 +21,9 @@ use Rattle.acb_judge.specs.declared.Closing.{Closing}
 use Rattle.acb_judge.specs.declared.Closing.the-variants as vc
 use Rattle.acb_judge.specs.Answer.{toldText, HeaderPlaces, headerPlaces, toldHeader, toldTag}
 
-abbrev pub toldOpening : IdentifierAt → Res ℕ
-toldOpening (vo.Is i n) = ok i n
-toldOpening (vo.Refused x p) = refuse x p 0 0
+abbrev pub toldIdentifier : IdentifierAt → Res ℕ
+toldIdentifier (vo.Is i n) = ok i n
+toldIdentifier (vo.Refused x p) = refuse x p 0 0
 
 abbrev pub toldTwo : TwoStrings → Res ((ℕ × ℕ) × (ℕ × ℕ))
 toldTwo (vw.Is a b n) = ok (toldText a, toldText b) n

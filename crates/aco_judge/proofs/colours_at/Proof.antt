@@ -2,7 +2,7 @@ use mathlib.Core.Path.{_≡_, sym, ap, _∙_}
 use native.Mathlib.Omega.{arith}
 use borrow.Author.Needs.{needs}
 use Prim.Native.Nat.{_-_, _≤_}
-use Rattle.fields.specs.Answer.{toldStep}
+use Rattle.fields.specs.Answer.{toldFieldEnd}
 use Rattle.algebra.specs.Reader.{done, each}
 use Rattle.aco.specs.Reading.{colour}
 use lib.ListN.{length}
@@ -36,7 +36,7 @@ returns c =
     let call = x .before .before in
     let l = call .before .before .loop in
     let a = call .before .before .before .before .args in
-    sym (turn-no (λ k. colour) (a .file .now) _ (a .n) (l .i) (l .p) (l .inv .1) (call .before .loop-test .taken) (sym (call .colour-at .ensures) ∙ ap toldStep (x .x .given .1)))
+    sym (turn-no (λ k. colour) (a .file .now) _ (a .n) (l .i) (l .p) (l .inv .1) (call .before .loop-test .taken) (sym (call .colour-at .ensures) ∙ ap toldFieldEnd (x .x .given .1)))
 
 add-i : tie.Need-add-i Inv-loop μ-loop
 add-i c = search needs
@@ -50,7 +50,7 @@ loop-again c =
     let call = x .before .before in
     let l = call .before .before .loop in
     let a = call .before .before .before .before .args in
-    let e = sym (call .colour-at .ensures) ∙ ap toldStep (x .next .given .1) in (
+    let e = sym (call .colour-at .ensures) ∙ ap toldFieldEnd (x .next .given .1) in (
       omega arith,
       turn-ok (λ k. colour) (a .file .now) _ (a .n) (l .i) (l .p) (l .inv .1) (call .before .loop-test .taken) _ e,
       colour-moves (a .file .now) (l .p) (done-inv (colour (a .file .now) (l .p)) e .1) .1,

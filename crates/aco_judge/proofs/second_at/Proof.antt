@@ -1,5 +1,5 @@
 use mathlib.Core.Path.{sym, ap, _∙_}
-use Rattle.aco_judge.specs.scaffold.Answer.{toldHeading, toldWalk}
+use Rattle.aco_judge.specs.scaffold.Answer.{toldHeading, toldListTwoEnd}
 use borrow.Author.Tests.{eq-eqb, ne-eqb}
 use Rattle.aco_judge.proofs.Judging.{second-refused, second-differs, second-from}
 use borrow.Author.Needs.{needs}
@@ -33,7 +33,7 @@ returns-2 : tie.Need-returns-2
 returns-2 c =
     let w = c .before .before .before .before in
     let v = w .before .before .before in
-    let k = sym (ap toldWalk (c .before .before .end .given .1)) ∙ w .entries-at .ensures in
+    let k = sym (ap toldListTwoEnd (c .before .before .end .given .1)) ∙ w .entries-at .ensures in
     sym (second-from _ _ _ _ _ (sym (v .before .before .heading-at .ensures) ∙ ap toldHeading (v .m .given .1)) (w .before .if1 .left) _ k ∙ simp (eq-eqb _ _ (c .if2 .taken)))
 
 enum-known-x-2 : tie.Need-enum-known-x-2
@@ -52,21 +52,21 @@ returns-4 : tie.Need-returns-4
 returns-4 c =
     let w = c .before .before .before .before in
     let v = w .before .before .before in
-    let k = sym (ap toldWalk (c .before .before .end .given .1)) ∙ w .entries-at .ensures in
+    let k = sym (ap toldListTwoEnd (c .before .before .end .given .1)) ∙ w .entries-at .ensures in
     sym (second-from _ _ _ _ _ (sym (v .before .before .heading-at .ensures) ∙ ap toldHeading (v .m .given .1)) (w .before .if1 .left) _ k ∙ simp (ne-eqb _ _ (c .if2 .left)))
 
 returns-5 : tie.Need-returns-5
 returns-5 c =
     let w = c .before .before .before in
     let v = w .before .before .before in
-    let k = sym (ap toldWalk (c .before .x2 .given .1)) ∙ w .entries-at .ensures in
+    let k = sym (ap toldListTwoEnd (c .before .x2 .given .1)) ∙ w .entries-at .ensures in
     sym (second-from _ _ _ _ _ (sym (v .before .before .heading-at .ensures) ∙ ap toldHeading (v .m .given .1)) (w .before .if1 .left) _ k)
 
 returns-6 : tie.Need-returns-6
 returns-6 c =
     let w = c .before .before .before in
     let v = w .before .before .before in
-    let k = sym (ap toldWalk (c .before .q .given .1)) ∙ w .entries-at .ensures in
+    let k = sym (ap toldListTwoEnd (c .before .q .given .1)) ∙ w .entries-at .ensures in
     sym (second-from _ _ _ _ _ (sym (v .before .before .heading-at .ensures) ∙ ap toldHeading (v .m .given .1)) (w .before .if1 .left) _ k)
 
 pub second-at-spec : {M : Type 1} → statement M

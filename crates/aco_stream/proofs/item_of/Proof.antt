@@ -6,7 +6,7 @@ use native.Mathlib.Omega.{arith}
 use Rattle.algebra.specs.Reader.{pick, ok, refuse}
 use Rattle.aco_chunks.specs.declared.Stage.{Stage}
 use Rattle.aco_chunks.specs.declared.Stage.the-variants as v
-use Rattle.fields.specs.Answer.{toldStep, told16}
+use Rattle.fields.specs.Answer.{toldFieldEnd, told16}
 use Rattle.aco_judge.specs.scaffold.Answer.{toldHeading}
 use Rattle.aco_chunks.specs.Chunks.{item}
 use Rattle.aco_stream.proofs.Fields.{first-many, first-off, first-is, second-other, second-off, second-is, colourItem-is, colourItem-off}
@@ -129,11 +129,11 @@ returns-4 c = let a = c .before .before .before .before .before .before .before 
 
 -- src/lib.rt:167:1
 returns-5 : tie.Need-returns-5
-returns-5 c = let a = c .before .before .before .before .before .before .before .before .args in sym (colourItem-is (a .bytes .now) (sym (c .before .before .before .colour-at .ensures) ∙ ap toldStep (c .before .next .given .1))) ∙ sym (ap (λ (g : Stage). item (a .store .now) g (a .bytes .now) 0) (c .before .before .before .before .enum-told2 .given .1))
+returns-5 c = let a = c .before .before .before .before .before .before .before .before .args in sym (colourItem-is (a .bytes .now) (sym (c .before .before .before .colour-at .ensures) ∙ ap toldFieldEnd (c .before .next .given .1))) ∙ sym (ap (λ (g : Stage). item (a .store .now) g (a .bytes .now) 0) (c .before .before .before .before .enum-told2 .given .1))
 
 -- src/lib.rt:167:1
 returns-6 : tie.Need-returns-6
-returns-6 c = let a = c .before .before .before .before .before .before .before .before .args in sym (colourItem-off (a .bytes .now) (sym (c .before .before .before .colour-at .ensures) ∙ ap toldStep (c .before .x2 .given .1))) ∙ sym (ap (λ (g : Stage). item (a .store .now) g (a .bytes .now) 0) (c .before .before .before .before .enum-told2 .given .1))
+returns-6 c = let a = c .before .before .before .before .before .before .before .before .args in sym (colourItem-off (a .bytes .now) (sym (c .before .before .before .colour-at .ensures) ∙ ap toldFieldEnd (c .before .x2 .given .1))) ∙ sym (ap (λ (g : Stage). item (a .store .now) g (a .bytes .now) 0) (c .before .before .before .before .enum-told2 .given .1))
 
 -- src/lib.rt:167:1
 returns-7 : tie.Need-returns-7

@@ -3,7 +3,7 @@ use mathlib.Core.Path.{_≡_, refl, sym, ap, _∙_, subst}
 use native.Mathlib.Omega.{arith}
 use lib.ListN.{length}
 use Rattle.algebra.specs.Reader.{field, orZero}
-use Rattle.fields.specs.Answer.{toldStep}
+use Rattle.fields.specs.Answer.{toldFieldEnd}
 use Rattle.aco_stream.proofs.Steps.{none-zero}
 use Rattle.aco_stream.proofs.Passing.{closes, pos}
 use borrow.Author.Needs.{needs}
@@ -56,7 +56,7 @@ returns-4 c =
     let room : a .at + a .m * 2 ≤ length (a .bytes .now) = omega (arith, c .before .before .before .before .before .if2 .left, c .before .before .before .before .before .before .before .before .pre .0) in
     let e : a .at + 2 * (a .m - 1) ≡ a .at + (a .m - 1) * 2 = omega arith in
     closes (a .m) (a .bytes .now) (a .at) _ some (omega (arith, some)) room
-    (sym (none-zero (a .bytes .now) (a .at) (a .m - 1) (omega (arith, some, room)) (sym (ap toldStep (c .enum-told .given .1)) ∙ c .before .before .text-at .ensures)))
+    (sym (none-zero (a .bytes .now) (a .at) (a .m - 1) (omega (arith, some, room)) (sym (ap toldFieldEnd (c .enum-told .given .1)) ∙ c .before .before .text-at .ensures)))
     (ap (λ (k : ℕ). orZero (field 2 (a .bytes .now) k)) (sym e) ∙ sym (c .before .before .before .before .u16-or-zero .ensures) ∙ c .before .before .before .if3 .left)
 
 returns-5 : tie.Need-returns-5

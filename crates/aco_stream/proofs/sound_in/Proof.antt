@@ -3,7 +3,7 @@ use mathlib.Core.Path.{_≡_, refl, sym, ap, _∙_, subst}
 use native.Mathlib.Omega.{arith}
 use Prim.Native.Nat.{ℕ, _+_, _*_, _-_, _≤_}
 use lib.ListN.{take, drop}
-use Rattle.fields.specs.Answer.{toldStep}
+use Rattle.fields.specs.Answer.{toldFieldEnd}
 use Rattle.aco_chunks.specs.Chunks.{colourItem}
 use Rattle.aco_stream.specs.scaffold.Parts.{Sounds, isOk}
 use Rattle.aco_stream.proofs.Fields.{colourItem-is}
@@ -51,7 +51,7 @@ loop-again c =
     let i = l .inv in
     let b : ℕ = l .p + 10 - l .p in
     let w : l .p + 10 - l .p ≡ 10 = omega arith in
-    let k = colourItem-is (take (l .p + 10 - l .p) (drop (l .p) (a .bytes .now))) (sym (c .before .before .colour-at .ensures) ∙ ap toldStep (c .enum-told .given .1)) in
+    let k = colourItem-is (take (l .p + 10 - l .p) (drop (l .p) (a .bytes .now))) (sym (c .before .before .colour-at .ensures) ∙ ap toldFieldEnd (c .enum-told .given .1)) in
     let o = ap (λ (x : ℕ). isOk (colourItem (take x (drop (l .p) (a .bytes .now))) 0)) (sym w) ∙ is-ok _ k in
     (omega (arith, i .0, c .before .before .before .before .loop-test .taken), omega (arith, i .1), sounds-more (l .k) (a .bytes .now) (a .at) (l .p) (i .1) (i .2) o)
 

@@ -6,7 +6,7 @@ use native.Mathlib.Omega.{arith}
 use Rattle.algebra.specs.Reader.{pick, ok, refuse}
 use Rattle.aco_chunks.specs.declared.Stage.{Stage}
 use Rattle.aco_chunks.specs.declared.Stage.the-variants as v
-use Rattle.fields.specs.Answer.{toldStep}
+use Rattle.fields.specs.Answer.{toldFieldEnd}
 use Rattle.aco_stream.specs.scaffold.Parts.{unitsPassed}
 use Rattle.aco_stream.proofs.Steps.{none-zero, some-zero}
 use Rattle.aco_stream.proofs.units_of.Statement.{statement}
@@ -38,11 +38,11 @@ passed-requires-2 c κs = search needs
 
 -- src/lib.rt:519:1
 returns : tie.Need-returns
-returns c = let a = c .before .before .before .before .before .args in c .passed .ensures ∙ ap (λ (b : Bool). unitsPassed (a .stage) (a .k) b) (none-zero (a .bytes .now) (a .at) (a .k) (c .before .before .before .before .before .pre .1) (sym (ap toldStep (c .before .enum-told .given .1)) ∙ c .before .before .before .text-at .ensures))
+returns c = let a = c .before .before .before .before .before .args in c .passed .ensures ∙ ap (λ (b : Bool). unitsPassed (a .stage) (a .k) b) (none-zero (a .bytes .now) (a .at) (a .k) (c .before .before .before .before .before .pre .1) (sym (ap toldFieldEnd (c .before .enum-told .given .1)) ∙ c .before .before .before .text-at .ensures))
 
 -- src/lib.rt:519:1
 returns-2 : tie.Need-returns-2
-returns-2 c = let a = c .before .before .before .before .before .args in c .passed2 .ensures ∙ ap (λ (b : Bool). unitsPassed (a .stage) (a .k) b) (some-zero (a .bytes .now) (a .at) (a .k) (c .before .before .before .before .before .pre .1) (sym (ap toldStep (c .before .enum-told2 .given .1)) ∙ c .before .before .before .text-at .ensures))
+returns-2 c = let a = c .before .before .before .before .before .args in c .passed2 .ensures ∙ ap (λ (b : Bool). unitsPassed (a .stage) (a .k) b) (some-zero (a .bytes .now) (a .at) (a .k) (c .before .before .before .before .before .pre .1) (sym (ap toldFieldEnd (c .before .enum-told2 .given .1)) ∙ c .before .before .before .text-at .ensures))
 
 pub units-of-spec : {M : Type 1} → statement M
 units-of-spec =

@@ -1,6 +1,6 @@
 use Rattle.aco_write_judge.proofs.Judging.{name-is}
 use mathlib.Core.Path.{sym, ap, _∙_}
-use Rattle.fields.specs.Answer.{toldStep}
+use Rattle.fields.specs.Answer.{toldFieldEnd}
 use Rattle.aco_write_judge.specs.scaffold.Parts.{toldRecord}
 use borrow.Author.Needs.{needs}
 use Rattle.aco_write_judge.proofs.name_fault.Statement.{statement}
@@ -22,13 +22,13 @@ returns : tie.Need-returns
 returns c =
     let t = c .before .before in
     let a = t .before .before .before .args in
-    name-is (a .text .now) (toldRecord (a .given)) _ _ (t .before .wide .ensures .0) (sym (ap toldStep (c .enum-told .given .1)) ∙ t .text-at .ensures)
+    name-is (a .text .now) (toldRecord (a .given)) _ _ (t .before .wide .ensures .0) (sym (ap toldFieldEnd (c .enum-told .given .1)) ∙ t .text-at .ensures)
 
 returns-2 : tie.Need-returns-2
 returns-2 c =
     let t = c .before .before .before in
     let a = t .before .before .before .args in
-    name-is (a .text .now) (toldRecord (a .given)) _ _ (t .before .wide .ensures .0) (sym (ap toldStep (c .before .x .given .1)) ∙ t .text-at .ensures)
+    name-is (a .text .now) (toldRecord (a .given)) _ _ (t .before .wide .ensures .0) (sym (ap toldFieldEnd (c .before .x .given .1)) ∙ t .text-at .ensures)
 
 pub name-fault-spec : {M : Type 1} → statement M
 name-fault-spec =

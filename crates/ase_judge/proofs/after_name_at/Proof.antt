@@ -1,6 +1,6 @@
 use mathlib.Core.Path.{sym, ap, _∙_}
 use borrow.Author.Needs.{needs}
-use Rattle.fields.specs.Answer.{toldStep, told32}
+use Rattle.fields.specs.Answer.{toldFieldEnd, told32}
 use Rattle.ase_judge.proofs.Judging.{after-name-short, after-name-unknown, after-name-channels}
 use Rattle.ase_judge.proofs.after_name_at.Statement.{statement}
 use Rattle.ase_judge.proofs.after_name_at.Tie as tie
@@ -55,7 +55,7 @@ returns-3 c =
     let md = ch .before .before .before .before in
     let tg = md .before .before .before .before in
     sym (after-name-channels _ _ _ _ (sym (ap (told32 _) (tg .tag .given .1)) ∙ tg .before .before .u32-at .ensures) _ (sym (md .before .before .from-tag .ensures) ∙ md .model .given .1)
-    (ch .before .traits .ensures) (ch .before .before .is-wide .ensures) (sym (ap toldStep (c .before .x .given .1)) ∙ ch .channels-at .ensures))
+    (ch .before .traits .ensures) (ch .before .before .is-wide .ensures) (sym (ap toldFieldEnd (c .before .x .given .1)) ∙ ch .channels-at .ensures))
 
 returns-4 : tie.Need-returns-4
 returns-4 c =
@@ -63,7 +63,7 @@ returns-4 c =
     let md = ch .before .before .before .before in
     let tg = md .before .before .before .before in
     c .type-at .ensures ∙ sym (after-name-channels _ _ _ _ (sym (ap (told32 _) (tg .tag .given .1)) ∙ tg .before .before .u32-at .ensures) _ (sym (md .before .before .from-tag .ensures) ∙ md .model .given .1)
-    (ch .before .traits .ensures) (ch .before .before .is-wide .ensures) (sym (ap toldStep (c .before .before .p .given .1)) ∙ ch .channels-at .ensures))
+    (ch .before .traits .ensures) (ch .before .before .is-wide .ensures) (sym (ap toldFieldEnd (c .before .before .p .given .1)) ∙ ch .channels-at .ensures))
 
 pub after-name-at-spec : {M : Type 1} → statement M
 after-name-at-spec =

@@ -1,5 +1,5 @@
 use Rattle.algebra.specs.Reader.{mapRes}
-use Rattle.fields.specs.Answer.{toldStep}
+use Rattle.fields.specs.Answer.{toldFieldEnd}
 use Rattle.ase.specs.Reading.{inside}
 use lib.Seq.{length-take-le}
 use mathlib.Core.Path.{sym, ap, _∙_}
@@ -34,13 +34,13 @@ returns : tie.Need-returns
 returns c =
     let io = c .before .before .before in
     let a = io .before .before .before .before .args in
-    sym (colour-map (a .depth) (a .end) (a .file .now) (a .at) ∙ ap (mapRes (λ u. (a .depth, 1))) (ap (inside (a .at + 2) (a .end)) (sym (io .before .colour-content-at .ensures)) ∙ sym (io .inside-of .ensures) ∙ ap toldStep (c .before .number .given .1)))
+    sym (colour-map (a .depth) (a .end) (a .file .now) (a .at) ∙ ap (mapRes (λ u. (a .depth, 1))) (ap (inside (a .at + 2) (a .end)) (sym (io .before .colour-content-at .ensures)) ∙ sym (io .inside-of .ensures) ∙ ap toldFieldEnd (c .before .number .given .1)))
 
 returns-2 : tie.Need-returns-2
 returns-2 c =
     let io = c .before .before .before in
     let a = io .before .before .before .before .args in
-    sym (colour-map (a .depth) (a .end) (a .file .now) (a .at) ∙ ap (mapRes (λ u. (a .depth, 1))) (ap (inside (a .at + 2) (a .end)) (sym (io .before .colour-content-at .ensures)) ∙ sym (io .inside-of .ensures) ∙ ap toldStep (c .before .next .given .1)))
+    sym (colour-map (a .depth) (a .end) (a .file .now) (a .at) ∙ ap (mapRes (λ u. (a .depth, 1))) (ap (inside (a .at + 2) (a .end)) (sym (io .before .colour-content-at .ensures)) ∙ sym (io .inside-of .ensures) ∙ ap toldFieldEnd (c .before .next .given .1)))
 
 pub colour-at-spec : {M : Type 1} → statement M
 colour-at-spec =

@@ -1,6 +1,6 @@
 use native.Mathlib.Omega.{arith}
 use Rattle.algebra.specs.Reader.{mapRes}
-use Rattle.fields.specs.Answer.{toldStep}
+use Rattle.fields.specs.Answer.{toldFieldEnd}
 use Rattle.ase.specs.Reading.{inside}
 use lib.Seq.{length-take-le}
 use mathlib.Core.Path.{sym, ap, _∙_}
@@ -42,14 +42,14 @@ returns-2 c =
     let io = c .before .before .before in
     let l = io .before .before .before in
     let a = l .before .before .args in
-    sym (start-map (a .depth) (a .end) (a .file .now) (a .at) (l .if1 .left) ∙ ap (mapRes (λ u. (a .depth + 1, 0))) (ap (inside (a .at + 2) (a .end)) (sym (io .before .group-at .ensures)) ∙ sym (io .inside-of .ensures) ∙ ap toldStep (c .before .number .given .1)))
+    sym (start-map (a .depth) (a .end) (a .file .now) (a .at) (l .if1 .left) ∙ ap (mapRes (λ u. (a .depth + 1, 0))) (ap (inside (a .at + 2) (a .end)) (sym (io .before .group-at .ensures)) ∙ sym (io .inside-of .ensures) ∙ ap toldFieldEnd (c .before .number .given .1)))
 
 returns-3 : tie.Need-returns-3
 returns-3 c =
     let io = c .before .before .before in
     let l = io .before .before .before in
     let a = l .before .before .args in
-    sym (start-map (a .depth) (a .end) (a .file .now) (a .at) (l .if1 .left) ∙ ap (mapRes (λ u. (a .depth + 1, 0))) (ap (inside (a .at + 2) (a .end)) (sym (io .before .group-at .ensures)) ∙ sym (io .inside-of .ensures) ∙ ap toldStep (c .before .next .given .1)))
+    sym (start-map (a .depth) (a .end) (a .file .now) (a .at) (l .if1 .left) ∙ ap (mapRes (λ u. (a .depth + 1, 0))) (ap (inside (a .at + 2) (a .end)) (sym (io .before .group-at .ensures)) ∙ sym (io .inside-of .ensures) ∙ ap toldFieldEnd (c .before .next .given .1)))
 
 pub group-start-at-spec : {M : Type 1} → statement M
 group-start-at-spec =

@@ -1,6 +1,6 @@
 use mathlib.Core.Path.{sym, ap, _∙_}
 use Rattle.algebra.specs.Reader.{Res, then, field, done, judged}
-use Rattle.fields.specs.Answer.{told32, toldStep}
+use Rattle.fields.specs.Answer.{told32, toldFieldEnd}
 use Rattle.ase.specs.Reading.{fixedNumber}
 use Rattle.ase_judge.proofs.Judging.{heading-short, heading-bad, heading-good}
 use borrow.Author.Needs.{needs}
@@ -64,7 +64,7 @@ returns-3 c =
     let call = sg .before .before in
     let s = call .before .before .args .file .now in
     let e = sym (ap (told32 0) (sg .signature .given .1)) ∙ call .u32-at .ensures in
-    sym (heading-good s _ _ e (one .before .if1 .left) ∙ ap (λ (m : Res (Unit {0})). then m (λ u b. then (done (judged 2 (fixedNumber 0) s b)) (λ u d. field 4 s d))) (sym (one .u16-is .ensures) ∙ ap toldStep (c .before .x .given .1)))
+    sym (heading-good s _ _ e (one .before .if1 .left) ∙ ap (λ (m : Res (Unit {0})). then m (λ u b. then (done (judged 2 (fixedNumber 0) s b)) (λ u d. field 4 s d))) (sym (one .u16-is .ensures) ∙ ap toldFieldEnd (c .before .x .given .1)))
 
 returns-4 : tie.Need-returns-4
 returns-4 c =
@@ -75,7 +75,7 @@ returns-4 c =
     let call = sg .before .before in
     let s = call .before .before .args .file .now in
     let e = sym (ap (told32 0) (sg .signature .given .1)) ∙ call .u32-at .ensures in
-    sym (heading-good s _ _ e (one .before .if1 .left) ∙ ap (λ (m : Res (Unit {0})). then m (λ u b. then (done (judged 2 (fixedNumber 0) s b)) (λ u d. field 4 s d))) (sym (one .u16-is .ensures) ∙ ap toldStep (bn .b .given .1)) ∙ ap (λ (m : Res (Unit {0})). then m (λ u d. field 4 s d)) (sym (two .u16-is2 .ensures) ∙ ap toldStep (c .before .x2 .given .1)))
+    sym (heading-good s _ _ e (one .before .if1 .left) ∙ ap (λ (m : Res (Unit {0})). then m (λ u b. then (done (judged 2 (fixedNumber 0) s b)) (λ u d. field 4 s d))) (sym (one .u16-is .ensures) ∙ ap toldFieldEnd (bn .b .given .1)) ∙ ap (λ (m : Res (Unit {0})). then m (λ u d. field 4 s d)) (sym (two .u16-is2 .ensures) ∙ ap toldFieldEnd (c .before .x2 .given .1)))
 
 returns-5 : tie.Need-returns-5
 returns-5 c =
@@ -87,7 +87,7 @@ returns-5 c =
     let call = sg .before .before in
     let s = call .before .before .args .file .now in
     let e = sym (ap (told32 0) (sg .signature .given .1)) ∙ call .u32-at .ensures in
-    sym (heading-good s _ _ e (one .before .if1 .left) ∙ ap (λ (m : Res (Unit {0})). then m (λ u b. then (done (judged 2 (fixedNumber 0) s b)) (λ u d. field 4 s d))) (sym (one .u16-is .ensures) ∙ ap toldStep (bn .b .given .1)) ∙ ap (λ (m : Res (Unit {0})). then m (λ u d. field 4 s d)) (sym (two .u16-is2 .ensures) ∙ ap toldStep (cn .c .given .1)) ∙ sym (sym (ap (told32 _) (c .enum-told2 .given .1)) ∙ c .before .before .u32-at2 .ensures))
+    sym (heading-good s _ _ e (one .before .if1 .left) ∙ ap (λ (m : Res (Unit {0})). then m (λ u b. then (done (judged 2 (fixedNumber 0) s b)) (λ u d. field 4 s d))) (sym (one .u16-is .ensures) ∙ ap toldFieldEnd (bn .b .given .1)) ∙ ap (λ (m : Res (Unit {0})). then m (λ u d. field 4 s d)) (sym (two .u16-is2 .ensures) ∙ ap toldFieldEnd (cn .c .given .1)) ∙ sym (sym (ap (told32 _) (c .enum-told2 .given .1)) ∙ c .before .before .u32-at2 .ensures))
 
 returns-6 : tie.Need-returns-6
 returns-6 c =
@@ -99,7 +99,7 @@ returns-6 c =
     let call = sg .before .before in
     let s = call .before .before .args .file .now in
     let e = sym (ap (told32 0) (sg .signature .given .1)) ∙ call .u32-at .ensures in
-    sym (heading-good s _ _ e (one .before .if1 .left) ∙ ap (λ (m : Res (Unit {0})). then m (λ u b. then (done (judged 2 (fixedNumber 0) s b)) (λ u d. field 4 s d))) (sym (one .u16-is .ensures) ∙ ap toldStep (bn .b .given .1)) ∙ ap (λ (m : Res (Unit {0})). then m (λ u d. field 4 s d)) (sym (two .u16-is2 .ensures) ∙ ap toldStep (cn .c .given .1)) ∙ sym (sym (ap (told32 _) (c .before .n .given .1)) ∙ c .before .before .before .u32-at2 .ensures))
+    sym (heading-good s _ _ e (one .before .if1 .left) ∙ ap (λ (m : Res (Unit {0})). then m (λ u b. then (done (judged 2 (fixedNumber 0) s b)) (λ u d. field 4 s d))) (sym (one .u16-is .ensures) ∙ ap toldFieldEnd (bn .b .given .1)) ∙ ap (λ (m : Res (Unit {0})). then m (λ u d. field 4 s d)) (sym (two .u16-is2 .ensures) ∙ ap toldFieldEnd (cn .c .given .1)) ∙ sym (sym (ap (told32 _) (c .before .n .given .1)) ∙ c .before .before .before .u32-at2 .ensures))
 
 pub heading-at-spec : {M : Type 1} → statement M
 heading-at-spec =

@@ -24,11 +24,11 @@ afterName s at =
     then (judged 2 type s q) (λ k r. ok tt r)))
 
 -- the content of a block at `at` whose payload ends at `end`, where d groups stand open
-unfoldable pub startOf : ℕ → ℕ → Reader Entry
-startOf d end s at = rule (unless (ltb d deepest) 10) at (inside (at + 2) end (groupContent (take end s) (at + 6)))
+unfoldable pub groupStartOf : ℕ → ℕ → Reader Entry
+groupStartOf d end s at = rule (unless (ltb d deepest) 10) at (inside (at + 2) end (groupContent (take end s) (at + 6)))
 
-unfoldable pub stopOf : ℕ → ℕ → ℕ → Res Entry
-stopOf d end at = rule (unless (eqb end (at + 6)) 13) (at + 2) (rule (unless (ltb 0 d) 9) at (ok groupEndRead (at + 6)))
+unfoldable pub groupEndOf : ℕ → ℕ → ℕ → Res Entry
+groupEndOf d end at = rule (unless (eqb end (at + 6)) 13) (at + 2) (rule (unless (ltb 0 d) 9) at (ok groupEndRead (at + 6)))
 
 unfoldable pub colourOf : ℕ → Reader Entry
 colourOf end s at = inside (at + 2) end (colourContent (take end s) (at + 6))

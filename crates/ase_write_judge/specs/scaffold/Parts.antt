@@ -35,7 +35,7 @@ channelsFault m bs = faultsFrom (λ i b. pick (allows m (ofBits binary32 b)) 0 5
 
 -- a colour apart from its name
 abbrev pub afterNameFault : RecordRow → ℕ
-afterNameFault g = f.shadeFault (g .model) (channelsIn g) (g .type)
+afterNameFault g = f.colourFault (g .model) (channelsIn g) (g .type)
 
 -- where a name begins; 0 for a name of no units, whose place may be any
 abbrev pub start : RecordRow → ℕ

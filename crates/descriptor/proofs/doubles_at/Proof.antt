@@ -2,7 +2,7 @@ use mathlib.Core.Path.{_≡_, sym, ap, _∙_}
 use native.Mathlib.Omega.{arith}
 use Prim.Native.Nat.{_-_, _≤_}
 use Rattle.algebra.specs.Reader.{done, each}
-use Rattle.fields.specs.Answer.{toldStep}
+use Rattle.fields.specs.Answer.{toldFieldEnd}
 use borrow.Author.Needs.{needs}
 use Rattle.algebra.proofs.Laws.{turn-start, turn-ok, turn-no, turn-end}
 use Rattle.descriptor.specs.Reading.{double}
@@ -31,7 +31,7 @@ returns c =
     let l = call .before .before .loop in
     let a = call .before .before .before .before .args in
     sym (turn-no (λ j. double) (a .file .now) _ (a .n) (l .i) (l .p) (l .inv .1) (call .before .loop-test .taken)
-    (done-unit _ ∙ sym (call .double-at .ensures) ∙ ap toldStep (c .before .x .given .1)))
+    (done-unit _ ∙ sym (call .double-at .ensures) ∙ ap toldFieldEnd (c .before .x .given .1)))
 
 enum-known-next : tie.Need-enum-known-next Inv-loop μ-loop
 enum-known-next c = search needs
@@ -49,7 +49,7 @@ loop-again c =
     let a = call .before .before .before .before .args in (
       omega arith,
       turn-ok (λ j. double) (a .file .now) _ (a .n) (l .i) (l .p) (l .inv .1) (call .before .loop-test .taken) _
-          (done-unit _ ∙ sym (call .double-at .ensures) ∙ ap toldStep (c .before .next .given .1)),
+          (done-unit _ ∙ sym (call .double-at .ensures) ∙ ap toldFieldEnd (c .before .next .given .1)),
     )
 
 returns-2 : tie.Need-returns-2 Inv-loop μ-loop

@@ -1,5 +1,5 @@
 use mathlib.Core.Path.{refl}
-use Rattle.fields.specs.Answer.{toldStep}
+use Rattle.fields.specs.Answer.{toldFieldEnd}
 use Rattle.descriptor.specs.Reading.{enumerated}
 use Rattle.descriptor.proofs.Fields.{after}
 use borrow.Author.Needs.{needs}
@@ -20,11 +20,11 @@ id-at-requires-2 c κs = search needs
 
 returns : tie.Need-returns
 unfolding enumerated
-returns c = after toldStep (c .before .before .before .id-at .ensures) (c .before .x .given .1) _ refl
+returns c = after toldFieldEnd (c .before .before .before .id-at .ensures) (c .before .x .given .1) _ refl
 
 returns-2 : tie.Need-returns-2
 unfolding enumerated
-returns-2 c = after toldStep (c .before .before .before .before .id-at .ensures) (c .before .before .next .given .1) _ (c .id-at2 .ensures)
+returns-2 c = after toldFieldEnd (c .before .before .before .before .id-at .ensures) (c .before .before .next .given .1) _ (c .id-at2 .ensures)
 
 pub enumerated-at-spec : {M : Type 1} → statement M
 enumerated-at-spec =

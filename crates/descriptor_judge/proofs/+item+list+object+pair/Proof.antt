@@ -6,7 +6,7 @@ use native.Mathlib.Omega.{arith}
 use borrow.Author.Needs.{needs}
 use denote.Ref.{now}
 use lib.ListN.{length}
-use Rattle.fields.specs.Answer.{told32, toldStep}
+use Rattle.fields.specs.Answer.{told32, toldFieldEnd}
 use Rattle.algebra.proofs.Laws.{field-next}
 use Rattle.descriptor.specs.Reading.{list as list-sort, object as object-sort, reference as reference-sort, array as array-sort}
 use Rattle.descriptor.proofs.Ends.{accepted}
@@ -229,7 +229,7 @@ list-enum-known-x t c = search needs
 list-refused-in-requires : (t : ℕ) → list-lts.Need-refused-in-requires (list-cs t) (list-at t) list.Post list-Inv-loop list-μ-loop
 list-refused-in-requires t c κs =
     let a = c .before .before .before .before .before .args in
-    holder-small (c .before .before .before .before .before .pre .1) (a .keyed) (walked-no (S.holder-no (a .left) 0 (a .file .now) (a .at) (a .keyed) (sym (c .before .before .before .class-if .ensures) ∙ ap toldStep (c .before .x .given .1))))
+    holder-small (c .before .before .before .before .before .pre .1) (a .keyed) (walked-no (S.holder-no (a .left) 0 (a .file .now) (a .at) (a .keyed) (sym (c .before .before .before .class-if .ensures) ∙ ap toldFieldEnd (c .before .x .given .1))))
 
 list-enum-known-count : (t : ℕ) → list-lts.Need-enum-known-count (list-cs t) (list-at t) list.Post list-Inv-loop list-μ-loop
 list-enum-known-count t c = search needs
@@ -246,24 +246,24 @@ list-enum-told t c = search needs
 list-refused-in-requires-2 : (t : ℕ) → list-lts.Need-refused-in-requires-2 (list-cs t) (list-at t) list.Post list-Inv-loop list-μ-loop
 list-refused-in-requires-2 t c κs =
     let a = c .before .before .before .before .before .before .before .before .args in
-    holder-small (c .before .before .before .before .before .before .before .before .pre .1) (a .keyed) (holder-short (a .keyed) (a .left) (a .file .now) (a .at) (sym (c .before .before .before .before .before .before .class-if .ensures) ∙ ap toldStep (c .before .before .before .before .count .given .1)) (sym (ap (told32 _) (c .enum-told .given .1)) ∙ c .before .before .u32-at .ensures))
+    holder-small (c .before .before .before .before .before .before .before .before .pre .1) (a .keyed) (holder-short (a .keyed) (a .left) (a .file .now) (a .at) (sym (c .before .before .before .before .before .before .class-if .ensures) ∙ ap toldFieldEnd (c .before .before .before .before .count .given .1)) (sym (ap (told32 _) (c .enum-told .given .1)) ∙ c .before .before .u32-at .ensures))
 
 list-returns : (t : ℕ) → list-lts.Need-returns (list-cs t) (list-at t) list.Post list-Inv-loop list-μ-loop
 list-returns t c =
     let a = c .before .before .before .before .before .before .before .before .before .args in
-    c .refused-in2 .ensures ∙ (holder-short (a .keyed) (a .left) (a .file .now) (a .at) (sym (c .before .before .before .before .before .before .before .class-if .ensures) ∙ ap toldStep (c .before .before .before .before .before .count .given .1)) (sym (ap (told32 _) (c .before .enum-told .given .1)) ∙ c .before .before .before .u32-at .ensures))
+    c .refused-in2 .ensures ∙ (holder-short (a .keyed) (a .left) (a .file .now) (a .at) (sym (c .before .before .before .before .before .before .before .class-if .ensures) ∙ ap toldFieldEnd (c .before .before .before .before .before .count .given .1)) (sym (ap (told32 _) (c .before .enum-told .given .1)) ∙ c .before .before .before .u32-at .ensures))
 
 list-loop-holds : (t : ℕ) → list-lts.Need-loop-holds (list-cs t) (list-at t) list.Post list-Inv-loop list-μ-loop
 list-loop-holds t c =
     let a = c .before .before .before .before .before .before .before .before .before .args in
-    let w = accepted (S.holder-past (a .left) 0 (a .file .now) (a .at) (a .keyed) (c .before .before .before .before .before .before .before .before .before .pre .1 .inside)) _ _ (sym (c .before .before .before .before .before .before .before .class-if .ensures) ∙ ap toldStep (c .before .before .before .before .before .count .given .1)) in
+    let w = accepted (S.holder-past (a .left) 0 (a .file .now) (a .at) (a .keyed) (c .before .before .before .before .before .before .before .before .before .pre .1 .inside)) _ _ (sym (c .before .before .before .before .before .before .before .class-if .ensures) ∙ ap toldFieldEnd (c .before .before .before .before .before .count .given .1)) in
     let h = field-next 4 (a .file .now) _ _ _ (sym (ap (told32 _) (c .before .n .given .1)) ∙ c .before .before .before .u32-at .ensures) in
     going-start (memberOf (a .keyed) (a .left) 0) (a .file .now) _ _ (omega (arith, w .high))
 
 list-pair-requires : (t : ℕ) → list-lts.Need-pair-requires (list-cs t) (list-at t) list.Post list-Inv-loop list-μ-loop
 list-pair-requires t c κs =
     let a = c .before .before .before .before .before .before .before .before .before .before .before .args in
-    let w = accepted (S.holder-past (a .left) 0 (a .file .now) (a .at) (a .keyed) (c .before .before .before .before .before .before .before .before .before .before .before .pre .1 .inside)) _ _ (sym (c .before .before .before .before .before .before .before .before .before .class-if .ensures) ∙ ap toldStep (c .before .before .before .before .before .before .before .count .given .1)) in
+    let w = accepted (S.holder-past (a .left) 0 (a .file .now) (a .at) (a .keyed) (c .before .before .before .before .before .before .before .before .before .before .before .pre .1 .inside)) _ _ (sym (c .before .before .before .before .before .before .before .before .before .class-if .ensures) ∙ ap toldFieldEnd (c .before .before .before .before .before .before .before .count .given .1)) in
     let h = field-next 4 (a .file .now) _ _ _ (sym (ap (told32 _) (c .before .before .before .n .given .1)) ∙ c .before .before .before .before .before .u32-at .ensures) in
     let g = c .before .loop .inv in
     let p = c .before .before .before .before .before .before .before .before .before .before .before .pre .1 in
@@ -275,12 +275,12 @@ list-enum-known-x-2 t c = search needs
 list-refused-in-requires-3 : (t : ℕ) → list-lts.Need-refused-in-requires-3 (list-cs t) (list-at t) list.Post list-Inv-loop list-μ-loop
 list-refused-in-requires-3 t c κs =
     let a = c .before .before .before .before .before .before .before .before .before .before .before .before .before .before .before .args in
-    holder-small (c .before .before .before .before .before .before .before .before .before .before .before .before .before .before .before .pre .1) (a .keyed) (holder-counts (a .keyed) (a .left) (a .file .now) (a .at) (sym (c .before .before .before .before .before .before .before .before .before .before .before .before .before .class-if .ensures) ∙ ap toldStep (c .before .before .before .before .before .before .before .before .before .before .before .count .given .1)) (sym (ap (told32 _) (c .before .before .before .before .before .before .before .n .given .1)) ∙ c .before .before .before .before .before .before .before .before .before .u32-at .ensures) (turn-no (memberOf (a .keyed) (a .left) 0) (a .file .now) _ _ (c .before .before .before .before .before .loop .inv) (alike-member (a .file .now) (a .keyed) (a .left) 0) (c .before .before .before .before .loop-test .taken) (c .before .before .before .pair .ensures) _ _ (c .before .x2 .given .1)))
+    holder-small (c .before .before .before .before .before .before .before .before .before .before .before .before .before .before .before .pre .1) (a .keyed) (holder-counts (a .keyed) (a .left) (a .file .now) (a .at) (sym (c .before .before .before .before .before .before .before .before .before .before .before .before .before .class-if .ensures) ∙ ap toldFieldEnd (c .before .before .before .before .before .before .before .before .before .before .before .count .given .1)) (sym (ap (told32 _) (c .before .before .before .before .before .before .before .n .given .1)) ∙ c .before .before .before .before .before .before .before .before .before .u32-at .ensures) (turn-no (memberOf (a .keyed) (a .left) 0) (a .file .now) _ _ (c .before .before .before .before .before .loop .inv) (alike-member (a .file .now) (a .keyed) (a .left) 0) (c .before .before .before .before .loop-test .taken) (c .before .before .before .pair .ensures) _ _ (c .before .x2 .given .1)))
 
 list-returns-2 : (t : ℕ) → list-lts.Need-returns-2 (list-cs t) (list-at t) list.Post list-Inv-loop list-μ-loop
 list-returns-2 t c =
     let a = c .before .before .before .before .before .before .before .before .before .before .before .before .before .before .before .before .args in
-    c .refused-in3 .ensures ∙ (holder-counts (a .keyed) (a .left) (a .file .now) (a .at) (sym (c .before .before .before .before .before .before .before .before .before .before .before .before .before .before .class-if .ensures) ∙ ap toldStep (c .before .before .before .before .before .before .before .before .before .before .before .before .count .given .1)) (sym (ap (told32 _) (c .before .before .before .before .before .before .before .before .n .given .1)) ∙ c .before .before .before .before .before .before .before .before .before .before .u32-at .ensures) (turn-no (memberOf (a .keyed) (a .left) 0) (a .file .now) _ _ (c .before .before .before .before .before .before .loop .inv) (alike-member (a .file .now) (a .keyed) (a .left) 0) (c .before .before .before .before .before .loop-test .taken) (c .before .before .before .before .pair .ensures) _ _ (c .before .before .x2 .given .1)))
+    c .refused-in3 .ensures ∙ (holder-counts (a .keyed) (a .left) (a .file .now) (a .at) (sym (c .before .before .before .before .before .before .before .before .before .before .before .before .before .before .class-if .ensures) ∙ ap toldFieldEnd (c .before .before .before .before .before .before .before .before .before .before .before .before .count .given .1)) (sym (ap (told32 _) (c .before .before .before .before .before .before .before .before .n .given .1)) ∙ c .before .before .before .before .before .before .before .before .before .before .u32-at .ensures) (turn-no (memberOf (a .keyed) (a .left) 0) (a .file .now) _ _ (c .before .before .before .before .before .before .loop .inv) (alike-member (a .file .now) (a .keyed) (a .left) 0) (c .before .before .before .before .before .loop-test .taken) (c .before .before .before .before .pair .ensures) _ _ (c .before .before .x2 .given .1)))
 
 list-enum-known-q : (t : ℕ) → list-lts.Need-enum-known-q (list-cs t) (list-at t) list.Post list-Inv-loop list-μ-loop
 list-enum-known-q t c = search needs
@@ -306,17 +306,17 @@ list-loop-again t c =
 list-next-in-requires : (t : ℕ) → list-lts.Need-next-in-requires (list-cs t) (list-at t) list.Post list-Inv-loop list-μ-loop
 list-next-in-requires t c κs =
     let a = c .before .before .before .before .before .before .before .before .before .before .before .args in
-    holder-small (c .before .before .before .before .before .before .before .before .before .before .before .pre .1) (a .keyed) (holder-counts (a .keyed) (a .left) (a .file .now) (a .at) (sym (c .before .before .before .before .before .before .before .before .before .class-if .ensures) ∙ ap toldStep (c .before .before .before .before .before .before .before .count .given .1)) (sym (ap (told32 _) (c .before .before .before .n .given .1)) ∙ c .before .before .before .before .before .u32-at .ensures) (all-read (memberOf (a .keyed) (a .left) 0) (a .file .now) _ _ (c .before .loop .inv) (c .loop-test .left)))
+    holder-small (c .before .before .before .before .before .before .before .before .before .before .before .pre .1) (a .keyed) (holder-counts (a .keyed) (a .left) (a .file .now) (a .at) (sym (c .before .before .before .before .before .before .before .before .before .class-if .ensures) ∙ ap toldFieldEnd (c .before .before .before .before .before .before .before .count .given .1)) (sym (ap (told32 _) (c .before .before .before .n .given .1)) ∙ c .before .before .before .before .before .u32-at .ensures) (all-read (memberOf (a .keyed) (a .left) 0) (a .file .now) _ _ (c .before .loop .inv) (c .loop-test .left)))
 
 list-returns-3 : (t : ℕ) → list-lts.Need-returns-3 (list-cs t) (list-at t) list.Post list-Inv-loop list-μ-loop
 list-returns-3 t c =
     let a = c .before .before .before .before .before .before .args in
-    c .refused-in .ensures ∙ (walked-no (S.holder-no (a .left) 0 (a .file .now) (a .at) (a .keyed) (sym (c .before .before .before .before .class-if .ensures) ∙ ap toldStep (c .before .before .x .given .1))))
+    c .refused-in .ensures ∙ (walked-no (S.holder-no (a .left) 0 (a .file .now) (a .at) (a .keyed) (sym (c .before .before .before .before .class-if .ensures) ∙ ap toldFieldEnd (c .before .before .x .given .1))))
 
 list-returns-4 : (t : ℕ) → list-lts.Need-returns-4 (list-cs t) (list-at t) list.Post list-Inv-loop list-μ-loop
 list-returns-4 t c =
     let a = c .before .before .before .before .before .before .before .before .before .before .before .before .args in
-    c .next-in .ensures ∙ (holder-counts (a .keyed) (a .left) (a .file .now) (a .at) (sym (c .before .before .before .before .before .before .before .before .before .before .class-if .ensures) ∙ ap toldStep (c .before .before .before .before .before .before .before .before .count .given .1)) (sym (ap (told32 _) (c .before .before .before .before .n .given .1)) ∙ c .before .before .before .before .before .before .u32-at .ensures) (all-read (memberOf (a .keyed) (a .left) 0) (a .file .now) _ _ (c .before .before .loop .inv) (c .before .loop-test .left)))
+    c .next-in .ensures ∙ (holder-counts (a .keyed) (a .left) (a .file .now) (a .at) (sym (c .before .before .before .before .before .before .before .before .before .before .class-if .ensures) ∙ ap toldFieldEnd (c .before .before .before .before .before .before .before .before .count .given .1)) (sym (ap (told32 _) (c .before .before .before .before .n .given .1)) ∙ c .before .before .before .before .before .before .u32-at .ensures) (all-read (memberOf (a .keyed) (a .left) 0) (a .file .now) _ _ (c .before .before .loop .inv) (c .before .loop-test .left)))
 
 abbrev object-cs : ℕ → object-lts.Claims
 object-cs t = (list-below t, list.Post)
@@ -350,18 +350,18 @@ pair-item-requires : (t : ℕ) → pair-lts.Need-item-requires (pair-cs t) (pair
 pair-item-requires t c κs =
     let a = c .before .before .before .before .before .before .args in
     let p = c .before .before .before .before .before .before .pre .1 in
-    let w = accepted (S.key-past (a .file .now) (a .at) (a .keyed) (p .inside)) _ _ (sym (c .before .before .before .key-if .ensures) ∙ ap toldStep (c .before .next .given .1)) in
+    let w = accepted (S.key-past (a .file .now) (a .at) (a .keyed) (p .inside)) _ _ (sym (c .before .before .before .key-if .ensures) ∙ ap toldFieldEnd (c .before .next .given .1)) in
     omega (arith, c .before .before .before .before .before .before .pre .0, w .low, w .high, p .size, p .levels, p .inside)
 
 pair-returns-2 : (t : ℕ) → pair-lts.Need-returns-2 (pair-cs t) (pair-at t) pair.Post
 pair-returns-2 t c =
     let a = c .before .before .before .before .before .before .args in
-    walked-no (S.member-no (a .left) 0 0 (a .file .now) (a .at) (a .keyed) (c .before .before .before .before .if1 .left) (sym (c .before .before .before .key-if .ensures) ∙ ap toldStep (c .before .x .given .1)))
+    walked-no (S.member-no (a .left) 0 0 (a .file .now) (a .at) (a .keyed) (c .before .before .before .before .if1 .left) (sym (c .before .before .before .key-if .ensures) ∙ ap toldFieldEnd (c .before .x .given .1)))
 
 pair-returns-3 : (t : ℕ) → pair-lts.Need-returns-3 (pair-cs t) (pair-at t) pair.Post
 pair-returns-3 t c =
     let a = c .before .before .before .before .before .before .before .args in
-    c .item .ensures ∙ sym (ap walked (S.member-item (a .left) 0 0 (a .file .now) (a .at) (a .keyed) _ (c .before .before .before .before .before .if1 .left) (sym (c .before .before .before .before .key-if .ensures) ∙ ap toldStep (c .before .before .next .given .1))))
+    c .item .ensures ∙ sym (ap walked (S.member-item (a .left) 0 0 (a .file .now) (a .at) (a .keyed) _ (c .before .before .before .before .before .if1 .left) (sym (c .before .before .before .before .key-if .ensures) ∙ ap toldFieldEnd (c .before .before .next .given .1))))
 
 pub +item+list+object+pair-spec : {M : Type 1} → statement M
 +item+list+object+pair-spec = close μ-item μ-list μ-object μ-pair (λ t. item-lts.spec (item-cs t)

@@ -1,6 +1,6 @@
 use Rattle.descriptor.proofs.Ends.{accepted, class-past}
 use Rattle.algebra.proofs.Laws.{field-next}
-use Rattle.fields.specs.Answer.{told32, toldStep}
+use Rattle.fields.specs.Answer.{told32, toldFieldEnd}
 use Rattle.descriptor_judge.specs.scaffold.Counting.{walked}
 use Rattle.descriptor_judge.proofs.Counting.{walked-no}
 use Rattle.descriptor_judge.proofs.Steps.{array-cut, array-no, array-in}
@@ -37,7 +37,7 @@ array-pairs-requires : tie.Need-array-pairs-requires
 array-pairs-requires c κs =
     let a = c .before .before .before .before .before .before .before .before .before .args in
     let h = field-next 4 (a .file .now) (a .at) _ _ (sym (ap (told32 _) (c .before .before .before .before .before .objects .given .1)) ∙ c .before .before .before .before .before .before .before .u32-at .ensures) in
-    let w = accepted (class-past (a .file .now) _ (omega arith)) _ _ (sym (c .before .before .before .class-at .ensures) ∙ ap toldStep (c .before .pairs .given .1)) in
+    let w = accepted (class-past (a .file .now) _ (omega arith)) _ _ (sym (c .before .before .before .class-at .ensures) ∙ ap toldFieldEnd (c .before .pairs .given .1)) in
     let p = c .before .before .before .before .before .before .before .before .before .pre in
     omega (arith, w .low, w .high, p .size, p .levels, p .inside)
 
@@ -45,13 +45,13 @@ returns-2 : tie.Need-returns-2
 returns-2 c =
     let a = c .before .before .before .before .before .before .before .before .before .args in
     let e = sym (ap (told32 _) (c .before .before .before .before .before .objects .given .1)) ∙ c .before .before .before .before .before .before .before .u32-at .ensures in
-    walked-no (array-no (a .left) 0 (a .file .now) (a .at) e (sym (c .before .before .before .class-at .ensures) ∙ ap toldStep (c .before .x .given .1)))
+    walked-no (array-no (a .left) 0 (a .file .now) (a .at) e (sym (c .before .before .before .class-at .ensures) ∙ ap toldFieldEnd (c .before .x .given .1)))
 
 returns-3 : tie.Need-returns-3
 returns-3 c =
     let a = c .before .before .before .before .before .before .before .before .before .before .args in
     let e = sym (ap (told32 _) (c .before .before .before .before .before .before .objects .given .1)) ∙ c .before .before .before .before .before .before .before .before .u32-at .ensures in
-    c .array-pairs .ensures ∙ sym (ap walked (array-in (a .left) 0 (a .file .now) (a .at) e (sym (c .before .before .before .before .class-at .ensures) ∙ ap toldStep (c .before .before .pairs .given .1))))
+    c .array-pairs .ensures ∙ sym (ap walked (array-in (a .left) 0 (a .file .now) (a .at) e (sym (c .before .before .before .before .class-at .ensures) ∙ ap toldFieldEnd (c .before .before .pairs .given .1))))
 
 pub array-spec : {M : Type 1} → statement M
 array-spec =

@@ -6,7 +6,7 @@ use native.Mathlib.Omega.{arith}
 use borrow.Author.Needs.{needs}
 use denote.Ref.{now}
 use lib.ListN.{length}
-use Rattle.fields.specs.Answer.{told32, toldStep}
+use Rattle.fields.specs.Answer.{told32, toldFieldEnd}
 use Rattle.algebra.proofs.Laws.{field-next}
 use Rattle.descriptor.specs.Reading.{leaf, list as list-sort, object as object-sort, reference as reference-sort, array as array-sort}
 use Rattle.descriptor.proofs.Ends.{accepted}
@@ -191,13 +191,13 @@ list-enum-told t c = search needs
 list-refused-in-requires-2 : (t : ℕ) → list-lts.Need-refused-in-requires-2 (list-cs t) (list-at t) list.Post list-Inv-loop list-μ-loop
 list-refused-in-requires-2 t c κs =
     let a = c .before .before .before .before .before .before .before .before .before .args in
-    let cl = sym (c .before .before .before .before .before .before .class-if .ensures) ∙ ap toldStep (c .before .before .before .before .count .given .1) in
+    let cl = sym (c .before .before .before .before .before .before .class-if .ensures) ∙ ap toldFieldEnd (c .before .before .before .before .count .given .1) in
     holder-cut (c .before .before .before .before .before .before .before .before .before .pre .1) (a .keyed) (S.holder-is (a .left) (a .row) (a .file .now) (a .at) (a .keyed) cl ∙ S.children-short (memberOf (a .keyed) (a .left) (a .row)) (a .row) (a .file .now) _ (sym (ap (told32 _) (c .enum-told .given .1)) ∙ c .before .before .u32-at .ensures))
 
 list-returns : (t : ℕ) → list-lts.Need-returns (list-cs t) (list-at t) list.Post list-Inv-loop list-μ-loop
 list-returns t c =
     let a = c .before .before .before .before .before .before .before .before .before .before .args in
-    let cl = sym (c .before .before .before .before .before .before .before .class-if .ensures) ∙ ap toldStep (c .before .before .before .before .before .count .given .1) in
+    let cl = sym (c .before .before .before .before .before .before .before .class-if .ensures) ∙ ap toldFieldEnd (c .before .before .before .before .before .count .given .1) in
     carry _ (c .refused-in2 .ensures) (done-no (S.holder-is (a .left) (a .row) (a .file .now) (a .at) (a .keyed) cl ∙ S.children-short (memberOf (a .keyed) (a .left) (a .row)) (a .row) (a .file .now) _ (sym (ap (told32 _) (c .before .enum-told .given .1)) ∙ c .before .before .before .u32-at .ensures)))
 
 list-add-child : (t : ℕ) → list-lts.Need-add-child (list-cs t) (list-at t) list.Post list-Inv-loop list-μ-loop
@@ -208,14 +208,14 @@ list-add-child t c =
 list-loop-holds : (t : ℕ) → list-lts.Need-loop-holds (list-cs t) (list-at t) list.Post list-Inv-loop list-μ-loop
 list-loop-holds t c =
     let a = c .before .before .before .before .before .before .before .before .before .before .args in
-    let w = accepted (S.holder-past (a .left) (a .row) (a .file .now) (a .at) (a .keyed) (c .before .before .before .before .before .before .before .before .before .before .pre .1 .inside)) _ _ (sym (c .before .before .before .before .before .before .before .class-if .ensures) ∙ ap toldStep (c .before .before .before .before .before .count .given .1)) in
+    let w = accepted (S.holder-past (a .left) (a .row) (a .file .now) (a .at) (a .keyed) (c .before .before .before .before .before .before .before .before .before .before .pre .1 .inside)) _ _ (sym (c .before .before .before .before .before .before .before .class-if .ensures) ∙ ap toldFieldEnd (c .before .before .before .before .before .count .given .1)) in
     let h = field-next 4 (a .file .now) _ _ _ (sym (ap (told32 _) (c .before .n .given .1)) ∙ c .before .before .before .u32-at .ensures) in
     going-start (memberOf (a .keyed) (a .left) (a .row)) (a .file .now) (a .base) (a .table .now) _ (a .row + 1) _ (omega (arith, w .high))
 
 list-pair-requires : (t : ℕ) → list-lts.Need-pair-requires (list-cs t) (list-at t) list.Post list-Inv-loop list-μ-loop
 list-pair-requires t c κs =
     let a = c .before .before .before .before .before .before .before .before .before .before .before .before .before .args in
-    let w = accepted (S.holder-past (a .left) (a .row) (a .file .now) (a .at) (a .keyed) (c .before .before .before .before .before .before .before .before .before .before .before .before .before .pre .1 .inside)) _ _ (sym (c .before .before .before .before .before .before .before .before .before .before .class-if .ensures) ∙ ap toldStep (c .before .before .before .before .before .before .before .before .count .given .1)) in
+    let w = accepted (S.holder-past (a .left) (a .row) (a .file .now) (a .at) (a .keyed) (c .before .before .before .before .before .before .before .before .before .before .before .before .before .pre .1 .inside)) _ _ (sym (c .before .before .before .before .before .before .before .before .before .before .class-if .ensures) ∙ ap toldFieldEnd (c .before .before .before .before .before .before .before .before .count .given .1)) in
     let h = field-next 4 (a .file .now) _ _ _ (sym (ap (told32 _) (c .before .before .before .before .n .given .1)) ∙ c .before .before .before .before .before .before .u32-at .ensures) in
     let g = c .before .before .loop .inv in
     let p = c .before .before .before .before .before .before .before .before .before .before .before .before .before .pre .1 in
@@ -232,14 +232,14 @@ list-same-length t c =
 list-refused-in-requires-3 : (t : ℕ) → list-lts.Need-refused-in-requires-3 (list-cs t) (list-at t) list.Post list-Inv-loop list-μ-loop
 list-refused-in-requires-3 t c κs =
     let a = c .before .before .before .before .before .before .before .before .before .before .before .before .before .before .before .before .before .before .before .args in
-    let cl = sym (c .before .before .before .before .before .before .before .before .before .before .before .before .before .before .before .before .class-if .ensures) ∙ ap toldStep (c .before .before .before .before .before .before .before .before .before .before .before .before .before .before .count .given .1) in
+    let cl = sym (c .before .before .before .before .before .before .before .before .before .before .before .before .before .before .before .before .class-if .ensures) ∙ ap toldFieldEnd (c .before .before .before .before .before .before .before .before .before .before .before .before .before .before .count .given .1) in
     let w = turn-no (memberOf (a .keyed) (a .left) (a .row)) (a .file .now) (a .base) (a .table .now) _ (a .row + 1) _ (c .before .before .before .before .before .before .before .before .loop .inv) _ _ _ _ (c .before .before .before .before .before .before .before .loop-test .taken) (c .before .before .before .before .before .pair .ensures) (c .before .x2 .given .1) in
     holder-cut (c .before .before .before .before .before .before .before .before .before .before .before .before .before .before .before .before .before .before .before .pre .1) (a .keyed) (S.holder-is (a .left) (a .row) (a .file .now) (a .at) (a .keyed) cl ∙ S.children-is (memberOf (a .keyed) (a .left) (a .row)) (a .row) (a .file .now) _ _ _ (sym (ap (told32 _) (c .before .before .before .before .before .before .before .before .before .before .n .given .1)) ∙ c .before .before .before .before .before .before .before .before .before .before .before .before .u32-at .ensures) ∙ w .2)
 
 list-returns-2 : (t : ℕ) → list-lts.Need-returns-2 (list-cs t) (list-at t) list.Post list-Inv-loop list-μ-loop
 list-returns-2 t c =
     let a = c .before .before .before .before .before .before .before .before .before .before .before .before .before .before .before .before .before .before .before .before .args in
-    let cl = sym (c .before .before .before .before .before .before .before .before .before .before .before .before .before .before .before .before .before .class-if .ensures) ∙ ap toldStep (c .before .before .before .before .before .before .before .before .before .before .before .before .before .before .before .count .given .1) in
+    let cl = sym (c .before .before .before .before .before .before .before .before .before .before .before .before .before .before .before .before .before .class-if .ensures) ∙ ap toldFieldEnd (c .before .before .before .before .before .before .before .before .before .before .before .before .before .before .before .count .given .1) in
     let w = turn-no (memberOf (a .keyed) (a .left) (a .row)) (a .file .now) (a .base) (a .table .now) _ (a .row + 1) _ (c .before .before .before .before .before .before .before .before .before .loop .inv) _ _ _ _ (c .before .before .before .before .before .before .before .before .loop-test .taken) (c .before .before .before .before .before .before .pair .ensures) (c .before .before .x2 .given .1) in
     carry _ (c .refused-in3 .ensures) (done-no (S.holder-is (a .left) (a .row) (a .file .now) (a .at) (a .keyed) cl ∙ S.children-is (memberOf (a .keyed) (a .left) (a .row)) (a .row) (a .file .now) _ _ _ (sym (ap (told32 _) (c .before .before .before .before .before .before .before .before .before .before .before .n .given .1)) ∙ c .before .before .before .before .before .before .before .before .before .before .before .before .before .u32-at .ensures) ∙ w .2))
 
@@ -261,12 +261,12 @@ list-loop-again t c =
 list-refused-in-requires : (t : ℕ) → list-lts.Need-refused-in-requires (list-cs t) (list-at t) list.Post list-Inv-loop list-μ-loop
 list-refused-in-requires t c κs =
     let a = c .before .before .before .before .before .before .args in
-    holder-cut (c .before .before .before .before .before .before .pre .1) (a .keyed) (S.holder-no (a .left) (a .row) (a .file .now) (a .at) (a .keyed) (sym (c .before .before .before .class-if .ensures) ∙ ap toldStep (c .before .x .given .1)))
+    holder-cut (c .before .before .before .before .before .before .pre .1) (a .keyed) (S.holder-no (a .left) (a .row) (a .file .now) (a .at) (a .keyed) (sym (c .before .before .before .class-if .ensures) ∙ ap toldFieldEnd (c .before .x .given .1)))
 
 list-returns-3 : (t : ℕ) → list-lts.Need-returns-3 (list-cs t) (list-at t) list.Post list-Inv-loop list-μ-loop
 list-returns-3 t c =
     let a = c .before .before .before .before .before .before .before .args in
-    carry _ (c .refused-in .ensures) (done-no (S.holder-no (a .left) (a .row) (a .file .now) (a .at) (a .keyed) (sym (c .before .before .before .before .class-if .ensures) ∙ ap toldStep (c .before .before .x .given .1))))
+    carry _ (c .refused-in .ensures) (done-no (S.holder-no (a .left) (a .row) (a .file .now) (a .at) (a .keyed) (sym (c .before .before .before .before .class-if .ensures) ∙ ap toldFieldEnd (c .before .before .x .given .1))))
 
 list-same-length-2 : (t : ℕ) → list-lts.Need-same-length-2 (list-cs t) (list-at t) list.Post list-Inv-loop list-μ-loop
 list-same-length-2 t c =
@@ -276,13 +276,13 @@ list-same-length-2 t c =
 list-next-in-requires : (t : ℕ) → list-lts.Need-next-in-requires (list-cs t) (list-at t) list.Post list-Inv-loop list-μ-loop
 list-next-in-requires t c κs =
     let a = c .before .before .before .before .before .before .before .before .before .before .before .before .args in
-    let cl = sym (c .before .before .before .before .before .before .before .before .before .class-if .ensures) ∙ ap toldStep (c .before .before .before .before .before .before .before .count .given .1) in
+    let cl = sym (c .before .before .before .before .before .before .before .before .before .class-if .ensures) ∙ ap toldFieldEnd (c .before .before .before .before .before .before .before .count .given .1) in
     holder-small (c .before .before .before .before .before .before .before .before .before .before .before .before .pre .1) (a .keyed) (done-eq (S.holder-is (a .left) (a .row) (a .file .now) (a .at) (a .keyed) cl ∙ S.children-is (memberOf (a .keyed) (a .left) (a .row)) (a .row) (a .file .now) _ _ _ (sym (ap (told32 _) (c .before .before .before .n .given .1)) ∙ c .before .before .before .before .before .u32-at .ensures)) (all-done (memberOf (a .keyed) (a .left) (a .row)) (a .file .now) (a .base) (a .table .now) _ (a .row + 1) _ (c .before .loop .inv) (c .loop-test .left)))
 
 list-returns-4 : (t : ℕ) → list-lts.Need-returns-4 (list-cs t) (list-at t) list.Post list-Inv-loop list-μ-loop
 list-returns-4 t c =
     let a = c .before .before .before .before .before .before .before .before .before .before .before .before .before .args in
-    let cl = sym (c .before .before .before .before .before .before .before .before .before .before .class-if .ensures) ∙ ap toldStep (c .before .before .before .before .before .before .before .before .count .given .1) in
+    let cl = sym (c .before .before .before .before .before .before .before .before .before .before .class-if .ensures) ∙ ap toldFieldEnd (c .before .before .before .before .before .before .before .before .count .given .1) in
     carry _ (c .next-in .ensures) (done-eq (S.holder-is (a .left) (a .row) (a .file .now) (a .at) (a .keyed) cl ∙ S.children-is (memberOf (a .keyed) (a .left) (a .row)) (a .row) (a .file .now) _ _ _ (sym (ap (told32 _) (c .before .before .before .before .n .given .1)) ∙ c .before .before .before .before .before .before .u32-at .ensures)) (all-done (memberOf (a .keyed) (a .left) (a .row)) (a .file .now) (a .base) (a .table .now) _ (a .row + 1) _ (c .before .before .loop .inv) (c .before .loop-test .left)))
 
 abbrev object-cs : ℕ → object-lts.Claims
@@ -320,13 +320,13 @@ pair-item-requires : (t : ℕ) → pair-lts.Need-item-requires (pair-cs t) (pair
 pair-item-requires t c κs =
     let a = c .before .before .before .before .before .before .before .before .args in
     let p = c .before .before .before .before .before .before .before .before .pre .1 in
-    let w = accepted (S.key-past (a .file .now) (a .at) (a .keyed) (p .inside)) _ _ (sym (c .before .before .before .before .key-if .ensures) ∙ ap toldStep (c .before .before .next .given .1)) in
+    let w = accepted (S.key-past (a .file .now) (a .at) (a .keyed) (p .inside)) _ _ (sym (c .before .before .before .before .key-if .ensures) ∙ ap toldFieldEnd (c .before .before .next .given .1)) in
     omega (arith, c .before .before .before .before .before .before .before .before .pre .0, w .low, w .high, p .size, p .levels, p .parent, p .row, p .inside)
 
 pair-returns-2 : (t : ℕ) → pair-lts.Need-returns-2 (pair-cs t) (pair-at t) pair.Post
 pair-returns-2 t c =
     let a = c .before .before .before .before .before .before .before .args in
-    done-no (S.member-no (a .left) (a .parent) (a .row) (a .file .now) (a .at) (a .keyed) (c .before .before .before .before .if1 .left) (sym (c .before .before .before .key-if .ensures) ∙ ap toldStep (c .before .x .given .1)))
+    done-no (S.member-no (a .left) (a .parent) (a .row) (a .file .now) (a .at) (a .keyed) (c .before .before .before .before .if1 .left) (sym (c .before .before .before .key-if .ensures) ∙ ap toldFieldEnd (c .before .x .given .1)))
 
 pair-same-length : (t : ℕ) → pair-lts.Need-same-length (pair-cs t) (pair-at t) pair.Post
 pair-same-length t c = c .before .before .item .kept .1 .0
@@ -334,7 +334,7 @@ pair-same-length t c = c .before .before .item .kept .1 .0
 pair-returns-3 : (t : ℕ) → pair-lts.Need-returns-3 (pair-cs t) (pair-at t) pair.Post
 pair-returns-3 t c =
     let a = c .before .before .before .before .before .before .before .before .before .before .before .args in
-    done-eq (S.member-item (a .left) (a .parent) (a .row) (a .file .now) (a .at) (a .keyed) _ (c .before .before .before .before .before .before .before .before .if1 .left) (sym (c .before .before .before .before .before .before .before .key-if .ensures) ∙ ap toldStep (c .before .before .before .before .before .next .given .1))) (c .before .before .item .ensures)
+    done-eq (S.member-item (a .left) (a .parent) (a .row) (a .file .now) (a .at) (a .keyed) _ (c .before .before .before .before .before .before .before .before .if1 .left) (sym (c .before .before .before .before .before .before .before .key-if .ensures) ∙ ap toldFieldEnd (c .before .before .before .before .before .next .given .1))) (c .before .before .item .ensures)
 
 abbrev value-of-cs : ℕ → value-of-lts.Claims
 value-of-cs t = (begin-reads.Asked, begin-reads.Learnt, list-below t, list.Post, unpack-reads.Asked, unpack-reads.Learnt, object-below t, object.Post, held-reads.Asked, held-reads.Learnt)

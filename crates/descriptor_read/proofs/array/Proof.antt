@@ -2,7 +2,7 @@ use Rattle.descriptor_read.proofs.Going.{done-no, done-eq}
 use Rattle.descriptor_judge.proofs.Steps.{array-cut, array-no, array-in}
 use Rattle.descriptor.proofs.Ends.{accepted, class-past}
 use Rattle.algebra.proofs.Laws.{field-next}
-use Rattle.fields.specs.Answer.{told32, toldStep}
+use Rattle.fields.specs.Answer.{told32, toldFieldEnd}
 use native.Mathlib.Omega.{arith}
 use mathlib.Core.Path.{sym, ap, _∙_}
 use borrow.Author.Needs.{needs}
@@ -36,7 +36,7 @@ array-pairs-requires : tie.Need-array-pairs-requires
 array-pairs-requires c κs =
     let a = c .before .before .before .before .before .before .before .before .before .before .before .args in
     let h = field-next 4 (a .file .now) (a .at) _ _ (sym (ap (told32 _) (c .before .before .before .before .before .before .objects .given .1)) ∙ c .before .before .before .before .before .before .before .before .u32-at .ensures) in
-    let w = accepted (class-past (a .file .now) _ (omega arith)) _ _ (sym (c .before .before .before .before .class-at .ensures) ∙ ap toldStep (c .before .before .pairs .given .1)) in
+    let w = accepted (class-past (a .file .now) _ (omega arith)) _ _ (sym (c .before .before .before .before .class-at .ensures) ∙ ap toldFieldEnd (c .before .before .pairs .given .1)) in
     let p = c .before .before .before .before .before .before .before .before .before .before .before .pre in
     omega (arith, w .low, w .high, p .size, p .levels, p .row, p .inside)
 
@@ -44,7 +44,7 @@ returns-2 : tie.Need-returns-2
 returns-2 c =
     let a = c .before .before .before .before .before .before .before .before .before .before .args in
     let e = sym (ap (told32 _) (c .before .before .before .before .before .objects .given .1)) ∙ c .before .before .before .before .before .before .before .u32-at .ensures in
-    done-no (array-no (a .left) (a .row) (a .file .now) (a .at) e (sym (c .before .before .before .class-at .ensures) ∙ ap toldStep (c .before .x .given .1)))
+    done-no (array-no (a .left) (a .row) (a .file .now) (a .at) e (sym (c .before .before .before .class-at .ensures) ∙ ap toldFieldEnd (c .before .x .given .1)))
 
 same-length : tie.Need-same-length
 same-length c = search needs
@@ -53,7 +53,7 @@ returns-3 : tie.Need-returns-3
 returns-3 c =
     let a = c .before .before .before .before .before .before .before .before .before .before .before .before .before .before .args in
     let e = sym (ap (told32 _) (c .before .before .before .before .before .before .before .before .before .objects .given .1)) ∙ c .before .before .before .before .before .before .before .before .before .before .before .u32-at .ensures in
-    done-eq (array-in (a .left) (a .row) (a .file .now) (a .at) e (sym (c .before .before .before .before .before .before .before .class-at .ensures) ∙ ap toldStep (c .before .before .before .before .before .pairs .given .1))) (c .before .before .array-pairs .ensures)
+    done-eq (array-in (a .left) (a .row) (a .file .now) (a .at) e (sym (c .before .before .before .before .before .before .before .class-at .ensures) ∙ ap toldFieldEnd (c .before .before .before .before .before .pairs .given .1))) (c .before .before .array-pairs .ensures)
 
 pub array-spec : {M : Type 1} → statement M
 array-spec =

@@ -4,7 +4,7 @@ use Rattle.descriptor_judge.proofs.Steps.{array-deep, array-id, array-short, ar
 use Rattle.descriptor.proofs.Ends.{accepted, id-past, column-past}
 use Rattle.descriptor.specs.Reading.{column}
 use Rattle.algebra.proofs.Laws.{field-next}
-use Rattle.fields.specs.Answer.{told32, toldStep}
+use Rattle.fields.specs.Answer.{told32, toldFieldEnd}
 use native.Mathlib.Omega.{arith}
 use mathlib.Core.Path.{refl, sym, ap, _∙_}
 use mathlib.Core.List.{[]}
@@ -39,13 +39,13 @@ enum-told c = search needs
 returns-2 : tie.Need-returns-2
 returns-2 c =
     let a = c .before .before .before .before .before .before .before .before .before .before .args in
-    let i = sym (c .before .before .before .before .before .before .id-at .ensures) ∙ ap toldStep (c .before .before .before .before .key .given .1) in
+    let i = sym (c .before .before .before .before .before .before .id-at .ensures) ∙ ap toldFieldEnd (c .before .before .before .before .key .given .1) in
     done-no (array-short (a .parent) (a .row) (a .file .now) (a .at) (a .objects) (a .left) _ (c .before .before .before .before .before .before .before .if1 .left) i (sym (ap (told32 _) (c .enum-told .given .1)) ∙ c .before .before .u32-at .ensures))
 
 returns-3 : tie.Need-returns-3
 returns-3 c =
     let a = c .before .before .before .before .before .before .before .before .before .before .before .before .args in
-    let i = sym (c .before .before .before .before .before .before .before .before .id-at .ensures) ∙ ap toldStep (c .before .before .before .before .before .before .key .given .1) in
+    let i = sym (c .before .before .before .before .before .before .before .before .id-at .ensures) ∙ ap toldFieldEnd (c .before .before .before .before .before .before .key .given .1) in
     done-no (array-other (a .parent) (a .row) (a .file .now) (a .at) (a .objects) (a .left) _ _ _ (c .before .before .before .before .before .before .before .before .before .if1 .left) i (sym (ap (told32 _) (c .before .before .kind .given .1)) ∙ c .before .before .before .before .u32-at .ensures) (c .if2 .taken))
 
 column-at-requires : tie.Need-column-at-requires
@@ -63,11 +63,11 @@ sub-put-row c = search needs
 put-row-requires : tie.Need-put-row-requires
 put-row-requires c κs =
     let a = c .before .before .before .before .before .before .before .before .before .before .before .before .before .before .before .before .before .args in
-    let i = sym (c .before .before .before .before .before .before .before .before .before .before .before .before .before .id-at .ensures) ∙ ap toldStep (c .before .before .before .before .before .before .before .before .before .before .before .key .given .1) in
+    let i = sym (c .before .before .before .before .before .before .before .before .before .before .before .before .before .id-at .ensures) ∙ ap toldFieldEnd (c .before .before .before .before .before .before .before .before .before .before .before .key .given .1) in
     let h = accepted (id-past (a .file .now) (a .at) (c .before .before .before .before .before .before .before .before .before .before .before .before .before .before .before .before .before .pre .inside)) _ _ i in
     let e = sym (ap (told32 _) (c .before .before .before .before .before .before .before .kind .given .1)) ∙ c .before .before .before .before .before .before .before .before .before .u32-at .ensures in
     let f = field-next 4 (a .file .now) _ _ _ e in
-    let w = accepted (column-past (a .file .now) (a .objects) _ (omega (arith, h .high))) _ _ (sym (c .before .before .before .before .column-at .ensures) ∙ ap toldStep (c .before .before .end .given .1)) in
+    let w = accepted (column-past (a .file .now) (a .objects) _ (omega (arith, h .high))) _ _ (sym (c .before .before .before .before .column-at .ensures) ∙ ap toldFieldEnd (c .before .before .end .given .1)) in
     omega (arith, h .low, w .low, w .high, c .before .before .before .before .before .before .before .before .before .before .before .before .before .before .before .before .before .pre .size, c .before .before .before .before .before .before .before .before .before .before .before .before .before .before .before .before .before .pre .levels, c .before .before .before .before .before .before .before .before .before .before .before .before .before .before .before .before .before .pre .parent, c .before .before .before .before .before .before .before .before .before .before .before .before .before .before .before .before .before .pre .row, c .before .before .before .before .before .before .before .before .before .before .before .before .before .before .before .before .before .pre .inside)
 
 add-t27 : tie.Need-add-t27
@@ -76,14 +76,14 @@ add-t27 c = search needs
 returns-4 : tie.Need-returns-4
 returns-4 c =
     let a = c .before .before .before .before .before .before .before .args in
-    done-no (array-id (a .parent) (a .row) (a .file .now) (a .at) (a .objects) (a .left) (c .before .before .before .before .if1 .left) (sym (c .before .before .before .id-at .ensures) ∙ ap toldStep (c .before .x .given .1)))
+    done-no (array-id (a .parent) (a .row) (a .file .now) (a .at) (a .objects) (a .left) (c .before .before .before .before .if1 .left) (sym (c .before .before .before .id-at .ensures) ∙ ap toldFieldEnd (c .before .x .given .1)))
 
 returns-5 : tie.Need-returns-5
 returns-5 c =
     let a = c .before .before .before .before .before .before .before .before .before .before .before .before .before .before .before .before .args in
-    let i = sym (c .before .before .before .before .before .before .before .before .before .before .before .before .id-at .ensures) ∙ ap toldStep (c .before .before .before .before .before .before .before .before .before .before .key .given .1) in
+    let i = sym (c .before .before .before .before .before .before .before .before .before .before .before .before .id-at .ensures) ∙ ap toldFieldEnd (c .before .before .before .before .before .before .before .before .before .before .key .given .1) in
     let e = sym (ap (told32 _) (c .before .before .before .before .before .before .kind .given .1)) ∙ c .before .before .before .before .before .before .before .before .u32-at .ensures in
-    done-no (array-is (a .parent) (a .row) (a .file .now) (a .at) (a .objects) (a .left) _ _ _ (c .before .before .before .before .before .before .before .before .before .before .before .before .before .if1 .left) i e (c .before .before .before .before .if2 .left) ∙ headed-no _ (a .left - 1) (a .parent) (a .at) _ (then-no (column (a .objects) (a .file .now) _) _ (sym (c .before .before .before .column-at .ensures) ∙ ap toldStep (c .before .x2 .given .1))))
+    done-no (array-is (a .parent) (a .row) (a .file .now) (a .at) (a .objects) (a .left) _ _ _ (c .before .before .before .before .before .before .before .before .before .before .before .before .before .if1 .left) i e (c .before .before .before .before .if2 .left) ∙ headed-no _ (a .left - 1) (a .parent) (a .at) _ (then-no (column (a .objects) (a .file .now) _) _ (sym (c .before .before .before .column-at .ensures) ∙ ap toldFieldEnd (c .before .x2 .given .1))))
 
 same-length : tie.Need-same-length
 same-length c = search needs
@@ -91,10 +91,10 @@ same-length c = search needs
 returns-6 : tie.Need-returns-6
 returns-6 c =
     let a = c .before .before .before .before .before .before .before .before .before .before .before .before .before .before .before .before .before .before .before .before .args in
-    let i = sym (c .before .before .before .before .before .before .before .before .before .before .before .before .before .before .before .before .id-at .ensures) ∙ ap toldStep (c .before .before .before .before .before .before .before .before .before .before .before .before .before .before .key .given .1) in
+    let i = sym (c .before .before .before .before .before .before .before .before .before .before .before .before .before .before .before .before .id-at .ensures) ∙ ap toldFieldEnd (c .before .before .before .before .before .before .before .before .before .before .before .before .before .before .key .given .1) in
     let e = sym (ap (told32 _) (c .before .before .before .before .before .before .before .before .before .before .kind .given .1)) ∙ c .before .before .before .before .before .before .before .before .before .before .before .before .u32-at .ensures in
     done-eq (array-is (a .parent) (a .row) (a .file .now) (a .at) (a .objects) (a .left) _ _ _ (c .before .before .before .before .before .before .before .before .before .before .before .before .before .before .before .before .before .if1 .left) i e (c .before .before .before .before .before .before .before .before .if2 .left))
-    (closed _ (a .left - 1) (a .parent) (a .at) _ _ _ [] (then-to (column (a .objects) (a .file .now) _) _ (sym (c .before .before .before .before .before .before .before .column-at .ensures) ∙ ap toldStep (c .before .before .before .before .before .end .given .1))) (omega arith) refl (c .before .before .put-row .ensures))
+    (closed _ (a .left - 1) (a .parent) (a .at) _ _ _ [] (then-to (column (a .objects) (a .file .now) _) _ (sym (c .before .before .before .before .before .before .before .column-at .ensures) ∙ ap toldFieldEnd (c .before .before .before .before .before .end .given .1))) (omega arith) refl (c .before .before .put-row .ensures))
 
 pub array-pair-spec : {M : Type 1} → statement M
 array-pair-spec =

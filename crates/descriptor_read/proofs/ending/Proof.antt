@@ -1,5 +1,5 @@
 use Rattle.descriptor.specs.scaffold.Answer.{endOf}
-use Rattle.fields.specs.Answer.{toldStep}
+use Rattle.fields.specs.Answer.{toldFieldEnd}
 use mathlib.Core.Path.{sym, ap}
 use borrow.Author.Needs.{needs}
 use Rattle.descriptor_read.proofs.ending.Statement.{statement}
@@ -12,10 +12,10 @@ enum-known-step-2 : tie.Need-enum-known-step-2
 enum-known-step-2 c = search needs
 
 returns : tie.Need-returns
-returns c = sym (ap (λ x. endOf (toldStep x)) (c .before .step .given .1))
+returns c = sym (ap (λ x. endOf (toldFieldEnd x)) (c .before .step .given .1))
 
 returns-2 : tie.Need-returns-2
-returns-2 c = sym (ap (λ x. endOf (toldStep x)) (c .before .step2 .given .1))
+returns-2 c = sym (ap (λ x. endOf (toldFieldEnd x)) (c .before .step2 .given .1))
 
 pub ending-spec : {M : Type 1} → statement M
 ending-spec = tie.close (tie.spec enum-known-step enum-known-step-2 returns returns-2)

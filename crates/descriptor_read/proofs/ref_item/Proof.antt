@@ -5,7 +5,7 @@ use Rattle.descriptor.proofs.Ends.{accepted, form-takes, ref-past}
 use Rattle.descriptor.specs.scaffold.Answer.{known, readerOf}
 use Rattle.descriptor.specs.Reading.{refValue}
 use Rattle.algebra.proofs.Laws.{field-next}
-use Rattle.fields.specs.Answer.{told32, toldStep}
+use Rattle.fields.specs.Answer.{told32, toldFieldEnd}
 use native.Mathlib.Omega.{arith}
 use mathlib.Core.Path.{refl, sym, ap, _∙_}
 use mathlib.Core.List.{[]}
@@ -66,7 +66,7 @@ put-row-requires c κs =
     let e = sym (ap (told32 (a .at)) (c .before .before .before .before .before .before .before .before .before .before .kind .given .1)) ∙ c .before .before .before .before .before .before .before .before .before .before .before .before .u32-at .ensures in
     let f = field-next 4 (a .file .now) (a .at) _ _ e in
     let k = sym (c .before .before .before .before .before .before .before .before .form-of .ensures) ∙ ap known (c .before .before .before .before .before .before .form .given .1) in
-    let w = accepted (ref-past (readerOf (c .before .before .before .before .before .before .form .given .0 .0)) (form-takes _ _ k) (a .file .now) _ (omega arith)) _ _ (sym (c .before .before .before .before .ref-value-at .ensures) ∙ ap toldStep (c .before .before .end .given .1)) in
+    let w = accepted (ref-past (readerOf (c .before .before .before .before .before .before .form .given .0 .0)) (form-takes _ _ k) (a .file .now) _ (omega arith)) _ _ (sym (c .before .before .before .before .ref-value-at .ensures) ∙ ap toldFieldEnd (c .before .before .end .given .1)) in
     omega (arith, w .low, w .high, c .before .before .before .before .before .before .before .before .before .before .before .before .before .before .before .before .pre .size, c .before .before .before .before .before .before .before .before .before .before .before .before .before .before .before .before .pre .levels, c .before .before .before .before .before .before .before .before .before .before .before .before .before .before .before .before .pre .parent, c .before .before .before .before .before .before .before .before .before .before .before .before .before .before .before .before .pre .row, c .before .before .before .before .before .before .before .before .before .before .before .before .before .before .before .before .pre .inside)
 
 add-t22 : tie.Need-add-t22
@@ -78,7 +78,7 @@ returns-4 c =
     let e = sym (ap (told32 (a .at)) (c .before .before .before .before .before .before .before .before .before .kind .given .1)) ∙ c .before .before .before .before .before .before .before .before .before .before .before .u32-at .ensures in
     let k = sym (c .before .before .before .before .before .before .before .form-of .ensures) ∙ ap known (c .before .before .before .before .before .form .given .1) in
     let r = readerOf (c .before .before .before .before .before .form .given .0 .0) in
-    done-no (ref-is (a .parent) (a .row) (a .file .now) (a .at) (a .left) _ _ r (c .before .before .before .before .before .before .before .before .before .before .before .before .if1 .left) e k ∙ headed-no _ (a .left - 1) (a .parent) (a .at) _ (then-no (refValue r (a .file .now) _) _ (sym (c .before .before .before .ref-value-at .ensures) ∙ ap toldStep (c .before .x .given .1))))
+    done-no (ref-is (a .parent) (a .row) (a .file .now) (a .at) (a .left) _ _ r (c .before .before .before .before .before .before .before .before .before .before .before .before .if1 .left) e k ∙ headed-no _ (a .left - 1) (a .parent) (a .at) _ (then-no (refValue r (a .file .now) _) _ (sym (c .before .before .before .ref-value-at .ensures) ∙ ap toldFieldEnd (c .before .x .given .1))))
 
 same-length : tie.Need-same-length
 same-length c = search needs
@@ -90,7 +90,7 @@ returns-5 c =
     let k = sym (c .before .before .before .before .before .before .before .before .before .before .before .form-of .ensures) ∙ ap known (c .before .before .before .before .before .before .before .before .before .form .given .1) in
     let r = readerOf (c .before .before .before .before .before .before .before .before .before .form .given .0 .0) in
     done-eq (ref-is (a .parent) (a .row) (a .file .now) (a .at) (a .left) _ _ r (c .before .before .before .before .before .before .before .before .before .before .before .before .before .before .before .before .if1 .left) e k)
-    (closed _ (a .left - 1) (a .parent) (a .at) _ _ _ [] (then-to (refValue r (a .file .now) _) _ (sym (c .before .before .before .before .before .before .before .ref-value-at .ensures) ∙ ap toldStep (c .before .before .before .before .before .end .given .1))) (omega arith) refl (c .before .before .put-row .ensures))
+    (closed _ (a .left - 1) (a .parent) (a .at) _ _ _ [] (then-to (refValue r (a .file .now) _) _ (sym (c .before .before .before .before .before .before .before .ref-value-at .ensures) ∙ ap toldFieldEnd (c .before .before .before .before .before .end .given .1))) (omega arith) refl (c .before .before .put-row .ensures))
 
 pub ref-item-spec : {M : Type 1} → statement M
 ref-item-spec =

@@ -1,5 +1,5 @@
 use mathlib.Core.Path.{sym, ap, _∙_}
-use Rattle.fields.specs.Answer.{toldStep}
+use Rattle.fields.specs.Answer.{toldFieldEnd}
 use Rattle.resource_document.proofs.Finding.{image-done}
 use Rattle.algebra.proofs.Sequence.{step-no, step-on}
 use borrow.Author.Needs.{needs}
@@ -48,27 +48,27 @@ run-at-requires-5 c κs = search needs
 returns : tie.Need-returns
 returns c =
     let a = c .before .before .before .before .before .args in
-    step-no _ _ (sym (ap toldStep (c .before .x .given .1)) ∙ c .before .before .before .run-at .ensures) ∙ sym (image-done (a .file .now) (a .at))
+    step-no _ _ (sym (ap toldFieldEnd (c .before .x .given .1)) ∙ c .before .before .before .run-at .ensures) ∙ sym (image-done (a .file .now) (a .at))
 
 returns-2 : tie.Need-returns-2
 returns-2 c =
     let a = c .before .before .before .before .before .before .before .before .before .args in
-    step-on _ _ (sym (ap toldStep (c .before .before .before .before .before .a .given .1)) ∙ c .before .before .before .before .before .before .before .run-at .ensures) (step-no _ _ (sym (ap toldStep (c .before .x2 .given .1)) ∙ c .before .before .before .run-at2 .ensures)) ∙ sym (image-done (a .file .now) (a .at))
+    step-on _ _ (sym (ap toldFieldEnd (c .before .before .before .before .before .a .given .1)) ∙ c .before .before .before .before .before .before .before .run-at .ensures) (step-no _ _ (sym (ap toldFieldEnd (c .before .x2 .given .1)) ∙ c .before .before .before .run-at2 .ensures)) ∙ sym (image-done (a .file .now) (a .at))
 
 returns-3 : tie.Need-returns-3
 returns-3 c =
     let a = c .before .before .before .before .before .before .before .before .before .before .before .before .before .args in
-    step-on _ _ (sym (ap toldStep (c .before .before .before .before .before .before .before .before .before .a .given .1)) ∙ c .before .before .before .before .before .before .before .before .before .before .before .run-at .ensures) (step-on _ _ (sym (ap toldStep (c .before .before .before .before .before .b .given .1)) ∙ c .before .before .before .before .before .before .before .run-at2 .ensures) (step-no _ _ (sym (ap toldStep (c .before .x3 .given .1)) ∙ c .before .before .before .run-at3 .ensures))) ∙ sym (image-done (a .file .now) (a .at))
+    step-on _ _ (sym (ap toldFieldEnd (c .before .before .before .before .before .before .before .before .before .a .given .1)) ∙ c .before .before .before .before .before .before .before .before .before .before .before .run-at .ensures) (step-on _ _ (sym (ap toldFieldEnd (c .before .before .before .before .before .b .given .1)) ∙ c .before .before .before .before .before .before .before .run-at2 .ensures) (step-no _ _ (sym (ap toldFieldEnd (c .before .x3 .given .1)) ∙ c .before .before .before .run-at3 .ensures))) ∙ sym (image-done (a .file .now) (a .at))
 
 returns-4 : tie.Need-returns-4
 returns-4 c =
     let a = c .before .before .before .before .before .before .before .before .before .before .before .before .before .before .before .before .before .args in
-    step-on _ _ (sym (ap toldStep (c .before .before .before .before .before .before .before .before .before .before .before .before .before .a .given .1)) ∙ c .before .before .before .before .before .before .before .before .before .before .before .before .before .before .before .run-at .ensures) (step-on _ _ (sym (ap toldStep (c .before .before .before .before .before .before .before .before .before .b .given .1)) ∙ c .before .before .before .before .before .before .before .before .before .before .before .run-at2 .ensures) (step-on _ _ (sym (ap toldStep (c .before .before .before .before .before .c .given .1)) ∙ c .before .before .before .before .before .before .before .run-at3 .ensures) (step-no _ _ (sym (ap toldStep (c .before .x4 .given .1)) ∙ c .before .before .before .run-at4 .ensures)))) ∙ sym (image-done (a .file .now) (a .at))
+    step-on _ _ (sym (ap toldFieldEnd (c .before .before .before .before .before .before .before .before .before .before .before .before .before .a .given .1)) ∙ c .before .before .before .before .before .before .before .before .before .before .before .before .before .before .before .run-at .ensures) (step-on _ _ (sym (ap toldFieldEnd (c .before .before .before .before .before .before .before .before .before .b .given .1)) ∙ c .before .before .before .before .before .before .before .before .before .before .before .run-at2 .ensures) (step-on _ _ (sym (ap toldFieldEnd (c .before .before .before .before .before .c .given .1)) ∙ c .before .before .before .before .before .before .before .run-at3 .ensures) (step-no _ _ (sym (ap toldFieldEnd (c .before .x4 .given .1)) ∙ c .before .before .before .run-at4 .ensures)))) ∙ sym (image-done (a .file .now) (a .at))
 
 returns-5 : tie.Need-returns-5
 returns-5 c =
     let a = c .before .before .before .before .before .before .before .before .before .before .before .before .before .before .before .before .before .before .args in
-    step-on _ _ (sym (ap toldStep (c .before .before .before .before .before .before .before .before .before .before .before .before .before .before .a .given .1)) ∙ c .before .before .before .before .before .before .before .before .before .before .before .before .before .before .before .before .run-at .ensures) (step-on _ _ (sym (ap toldStep (c .before .before .before .before .before .before .before .before .before .before .b .given .1)) ∙ c .before .before .before .before .before .before .before .before .before .before .before .before .run-at2 .ensures) (step-on _ _ (sym (ap toldStep (c .before .before .before .before .before .before .c .given .1)) ∙ c .before .before .before .before .before .before .before .before .run-at3 .ensures) (step-on _ _ (sym (ap toldStep (c .before .before .d .given .1)) ∙ c .before .before .before .before .run-at4 .ensures) (c .run-at5 .ensures)))) ∙ sym (image-done (a .file .now) (a .at))
+    step-on _ _ (sym (ap toldFieldEnd (c .before .before .before .before .before .before .before .before .before .before .before .before .before .before .a .given .1)) ∙ c .before .before .before .before .before .before .before .before .before .before .before .before .before .before .before .before .run-at .ensures) (step-on _ _ (sym (ap toldFieldEnd (c .before .before .before .before .before .before .before .before .before .before .b .given .1)) ∙ c .before .before .before .before .before .before .before .before .before .before .before .before .run-at2 .ensures) (step-on _ _ (sym (ap toldFieldEnd (c .before .before .before .before .before .before .c .given .1)) ∙ c .before .before .before .before .before .before .before .before .run-at3 .ensures) (step-on _ _ (sym (ap toldFieldEnd (c .before .before .d .given .1)) ∙ c .before .before .before .before .run-at4 .ensures) (c .run-at5 .ensures)))) ∙ sym (image-done (a .file .now) (a .at))
 
 pub image-at-spec : {M : Type 1} → statement M
 image-at-spec =

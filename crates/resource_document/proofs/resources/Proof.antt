@@ -1,5 +1,5 @@
 use mathlib.Core.Path.{refl, sym, ap, _∙_}
-use Rattle.fields.specs.Answer.{toldStep}
+use Rattle.fields.specs.Answer.{toldFieldEnd}
 use Rattle.resource_document.proofs.Finding.{document-is}
 use Rattle.algebra.proofs.Sequence.{step-no, step-on}
 use Rattle.algebra.specs.Table.{verdict}
@@ -40,22 +40,22 @@ resources-at-requires c κs = search needs
 returns : tie.Need-returns
 returns c =
     let a = c .before .before .before .before .before .args in
-    ap (verdict (λ x. x)) (step-no _ _ (sym (ap toldStep (c .before .number .given .1)) ∙ c .before .before .before .start-at .ensures) ∙ sym (document-is (a .file .now)))
+    ap (verdict (λ x. x)) (step-no _ _ (sym (ap toldFieldEnd (c .before .number .given .1)) ∙ c .before .before .before .start-at .ensures) ∙ sym (document-is (a .file .now)))
 
 returns-2 : tie.Need-returns-2
 returns-2 c =
     let a = c .before .before .before .before .before .before .before .before .before .args in
-    ap (verdict (λ x. x)) (step-on _ _ (sym (ap toldStep (c .before .before .before .before .before .a .given .1)) ∙ c .before .before .before .before .before .before .before .start-at .ensures) (step-no _ _ (sym (ap toldStep (c .before .number2 .given .1)) ∙ c .before .before .before .image-at .ensures)) ∙ sym (document-is (a .file .now)))
+    ap (verdict (λ x. x)) (step-on _ _ (sym (ap toldFieldEnd (c .before .before .before .before .before .a .given .1)) ∙ c .before .before .before .before .before .before .before .start-at .ensures) (step-no _ _ (sym (ap toldFieldEnd (c .before .number2 .given .1)) ∙ c .before .before .before .image-at .ensures)) ∙ sym (document-is (a .file .now)))
 
 returns-3 : tie.Need-returns-3
 returns-3 c =
     let a = c .before .before .before .before .before .before .before .before .before .before .before .before .before .args in
-    ap (verdict (λ x. x)) (step-on _ _ (sym (ap toldStep (c .before .before .before .before .before .before .before .before .before .a .given .1)) ∙ c .before .before .before .before .before .before .before .before .before .before .before .start-at .ensures) (step-on _ _ (sym (ap toldStep (c .before .before .before .before .before .b .given .1)) ∙ c .before .before .before .before .before .before .before .image-at .ensures) (step-no _ _ (sym (ap toldStep (c .before .number3 .given .1)) ∙ c .before .before .before .colours-at .ensures))) ∙ sym (document-is (a .file .now)))
+    ap (verdict (λ x. x)) (step-on _ _ (sym (ap toldFieldEnd (c .before .before .before .before .before .before .before .before .before .a .given .1)) ∙ c .before .before .before .before .before .before .before .before .before .before .before .start-at .ensures) (step-on _ _ (sym (ap toldFieldEnd (c .before .before .before .before .before .b .given .1)) ∙ c .before .before .before .before .before .before .before .image-at .ensures) (step-no _ _ (sym (ap toldFieldEnd (c .before .number3 .given .1)) ∙ c .before .before .before .colours-at .ensures))) ∙ sym (document-is (a .file .now)))
 
 returns-4 : tie.Need-returns-4
 returns-4 c =
     let a = c .before .before .before .before .before .before .before .before .before .before .before .before .before .before .args in
-    c .resources-at .ensures ∙ ap (verdict (λ x. x)) (step-on _ _ (sym (ap toldStep (c .before .before .before .before .before .before .before .before .before .before .a .given .1)) ∙ c .before .before .before .before .before .before .before .before .before .before .before .before .start-at .ensures) (step-on _ _ (sym (ap toldStep (c .before .before .before .before .before .before .b .given .1)) ∙ c .before .before .before .before .before .before .before .before .image-at .ensures) (step-on _ _ (sym (ap toldStep (c .before .before .c .given .1)) ∙ c .before .before .before .before .colours-at .ensures) (refl))) ∙ sym (document-is (a .file .now)))
+    c .resources-at .ensures ∙ ap (verdict (λ x. x)) (step-on _ _ (sym (ap toldFieldEnd (c .before .before .before .before .before .before .before .before .before .before .a .given .1)) ∙ c .before .before .before .before .before .before .before .before .before .before .before .before .start-at .ensures) (step-on _ _ (sym (ap toldFieldEnd (c .before .before .before .before .before .before .b .given .1)) ∙ c .before .before .before .before .before .before .before .before .image-at .ensures) (step-on _ _ (sym (ap toldFieldEnd (c .before .before .c .given .1)) ∙ c .before .before .before .before .colours-at .ensures) (refl))) ∙ sym (document-is (a .file .now)))
 
 pub resources-spec : {M : Type 1} → statement M
 resources-spec =

@@ -1,6 +1,6 @@
 use mathlib.Core.Path.{refl, sym, ap, _∙_}
 use native.Mathlib.Omega.{arith}
-use Rattle.fields.specs.Answer.{told32, toldStep}
+use Rattle.fields.specs.Answer.{told32, toldFieldEnd}
 use Rattle.resource_document.proofs.Finding.{resources-are, past-limit, within-limit}
 use Rattle.algebra.proofs.Sequence.{step-no, step-on}
 use Rattle.algebra.specs.Table.{verdict}
@@ -42,12 +42,12 @@ enum-told-2 c = search needs
 returns-3 : tie.Need-returns-3
 returns-3 c =
     let a = c .before .before .before .before .before .before .before .before .before .before .args in
-    ap (verdict (λ x. x)) (step-on _ _ (sym (ap (told32 _) (c .before .before .before .before .before .before .n .given .1)) ∙ c .before .before .before .before .before .before .before .before .u32-at .ensures) (step-no _ _ (sym (ap toldStep (c .before .number .given .1)) ∙ c .before .before .before .run-at .ensures) ∙ sym (within-limit (a .file .now) _ _ (omega (arith, c .before .before .before .before .if1 .left)))) ∙ sym (resources-are (a .file .now) (a .at)))
+    ap (verdict (λ x. x)) (step-on _ _ (sym (ap (told32 _) (c .before .before .before .before .before .before .n .given .1)) ∙ c .before .before .before .before .before .before .before .before .u32-at .ensures) (step-no _ _ (sym (ap toldFieldEnd (c .before .number .given .1)) ∙ c .before .before .before .run-at .ensures) ∙ sym (within-limit (a .file .now) _ _ (omega (arith, c .before .before .before .before .if1 .left)))) ∙ sym (resources-are (a .file .now) (a .at)))
 
 returns-4 : tie.Need-returns-4
 returns-4 c =
     let a = c .before .before .before .before .before .before .before .before .before .args in
-    ap (verdict (λ x. x)) (step-on _ _ (sym (ap (told32 _) (c .before .before .before .before .before .n .given .1)) ∙ c .before .before .before .before .before .before .before .u32-at .ensures) (step-on _ _ (sym (ap toldStep (c .enum-told2 .given .1)) ∙ c .before .before .run-at .ensures) refl ∙ sym (within-limit (a .file .now) _ _ (omega (arith, c .before .before .before .if1 .left)))) ∙ sym (resources-are (a .file .now) (a .at)))
+    ap (verdict (λ x. x)) (step-on _ _ (sym (ap (told32 _) (c .before .before .before .before .before .n .given .1)) ∙ c .before .before .before .before .before .before .before .u32-at .ensures) (step-on _ _ (sym (ap toldFieldEnd (c .enum-told2 .given .1)) ∙ c .before .before .run-at .ensures) refl ∙ sym (within-limit (a .file .now) _ _ (omega (arith, c .before .before .before .if1 .left)))) ∙ sym (resources-are (a .file .now) (a .at)))
 
 pub resources-at-spec : {M : Type 1} → statement M
 resources-at-spec =

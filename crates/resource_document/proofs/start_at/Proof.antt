@@ -1,6 +1,6 @@
 use mathlib.Core.Path.{sym, ap, _∙_}
 use Rattle.algebra.specs.Chars.{chars}
-use Rattle.fields.specs.Answer.{told32, toldStep}
+use Rattle.fields.specs.Answer.{told32, toldFieldEnd}
 use Rattle.resource_document.proofs.Finding.{start-done}
 use Rattle.algebra.proofs.Sequence.{step-no, step-on}
 use borrow.Author.Tests.{eq-eqb, ne-eqb}
@@ -47,13 +47,13 @@ returns-3 : tie.Need-returns-3
 returns-3 c =
     let a = c .before .before .before .before .before .before .before .before .before .before .args in
     let one = sym (judged-ok 4 (a .file .now) 0 (fixedNumber (chars "8BPS")) (sym (ap (told32 _) (c .before .before .before .before .before .before .v .given .1)) ∙ c .before .before .before .before .before .before .before .before .u32-at .ensures) (ap (λ (b : Bool). unless b 3) (eq-eqb _ _ (c .before .before .before .before .if1 .left)))) in
-    step-on _ _ one (step-no _ _ (sym (ap toldStep (c .before .x .given .1)) ∙ c .before .before .before .u16-is .ensures)) ∙ sym (start-done (a .file .now))
+    step-on _ _ one (step-no _ _ (sym (ap toldFieldEnd (c .before .x .given .1)) ∙ c .before .before .before .u16-is .ensures)) ∙ sym (start-done (a .file .now))
 
 returns-4 : tie.Need-returns-4
 returns-4 c =
     let a = c .before .before .before .before .before .before .before .before .before .before .before .args in
     let one = sym (judged-ok 4 (a .file .now) 0 (fixedNumber (chars "8BPS")) (sym (ap (told32 _) (c .before .before .before .before .before .before .before .v .given .1)) ∙ c .before .before .before .before .before .before .before .before .before .u32-at .ensures) (ap (λ (b : Bool). unless b 3) (eq-eqb _ _ (c .before .before .before .before .before .if1 .left)))) in
-    step-on _ _ one (step-on _ _ (sym (ap toldStep (c .before .before .b .given .1)) ∙ c .before .before .before .before .u16-is .ensures) (c .reserved-at .ensures)) ∙ sym (start-done (a .file .now))
+    step-on _ _ one (step-on _ _ (sym (ap toldFieldEnd (c .before .before .b .given .1)) ∙ c .before .before .before .before .u16-is .ensures) (c .reserved-at .ensures)) ∙ sym (start-done (a .file .now))
 
 pub start-at-spec : {M : Type 1} → statement M
 start-at-spec =

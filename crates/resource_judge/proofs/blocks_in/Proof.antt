@@ -4,7 +4,7 @@ use Prim.Native.Nat.{_-_, _%_, _≤_}
 use lib.ListN.{length}
 use mathlib.Core.Path.{_≡_, refl, sym, ap, _∙_}
 use Rattle.algebra.specs.Table.{verdict}
-use Rattle.fields.specs.Answer.{toldStep}
+use Rattle.fields.specs.Answer.{toldFieldEnd}
 use Rattle.resource.specs.Reading.{blocks}
 use Rattle.resource_judge.proofs.Judging.{counting, count-start, count-end, count-no, count-ok}
 use Rattle.resource_judge.proofs.blocks_in.Statement.{statement}
@@ -29,7 +29,7 @@ returns : tie.Need-returns Inv-loop μ-loop
 returns c =
     let call = c .before .before .before in
     let l = call .before .before .loop in
-    count-no (call .before .before .before .before .args .file .now) _ _ _ (l .inv .0) (l .inv .3) (call .before .loop-test .taken) (sym (ap toldStep (c .before .number .given .1)) ∙ call .block-end .ensures)
+    count-no (call .before .before .before .before .args .file .now) _ _ _ (l .inv .0) (l .inv .3) (call .before .loop-test .taken) (sym (ap toldFieldEnd (c .before .number .given .1)) ∙ call .block-end .ensures)
 
 enum-known-next : tie.Need-enum-known-next Inv-loop μ-loop
 enum-known-next c = search needs
@@ -43,14 +43,14 @@ loop-less : tie.Need-loop-less Inv-loop μ-loop
 loop-less c =
     let call = c .before .before .before in
     let l = call .before .before .loop in
-    let t = count-ok (call .before .before .before .before .args .file .now) _ _ _ (l .inv .0) (l .inv .3) (call .before .loop-test .taken) (sym (ap toldStep (c .before .next .given .1)) ∙ call .block-end .ensures) in
+    let t = count-ok (call .before .before .before .before .args .file .now) _ _ _ (l .inv .0) (l .inv .3) (call .before .loop-test .taken) (sym (ap toldFieldEnd (c .before .next .given .1)) ∙ call .block-end .ensures) in
     omega (arith, t .moved, t .inside)
 
 loop-again : tie.Need-loop-again Inv-loop μ-loop
 loop-again c =
     let call = c .before .before .before in
     let l = call .before .before .loop in
-    let t = count-ok (call .before .before .before .before .args .file .now) _ _ _ (l .inv .0) (l .inv .3) (call .before .loop-test .taken) (sym (ap toldStep (c .before .next .given .1)) ∙ call .block-end .ensures) in
+    let t = count-ok (call .before .before .before .before .args .file .now) _ _ _ (l .inv .0) (l .inv .3) (call .before .loop-test .taken) (sym (ap toldFieldEnd (c .before .next .given .1)) ∙ call .block-end .ensures) in
     (t .inside, omega (arith, t .moved, l .inv .1), t .even (l .inv .2), t .is)
 
 returns-2 : tie.Need-returns-2 Inv-loop μ-loop

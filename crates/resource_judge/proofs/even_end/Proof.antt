@@ -1,5 +1,5 @@
 use mathlib.Core.Path.{sym, ap, _∙_}
-use Rattle.fields.specs.Answer.{toldStep}
+use Rattle.fields.specs.Answer.{toldFieldEnd}
 use Rattle.resource_judge.proofs.Judging.{followed-done, ends-at}
 use Rattle.algebra.proofs.Sequence.{step-no, step-on}
 use borrow.Author.Needs.{needs}
@@ -22,14 +22,14 @@ returns : tie.Need-returns
 returns c =
     let call = c .before .before .before in
     let a = call .before .before .args in
-    step-no _ _ (sym (ap toldStep (c .before .x .given .1)) ∙ call .run-at .ensures) ∙ sym (followed-done (a .file .now) (a .at) (a .n) (a .at))
+    step-no _ _ (sym (ap toldFieldEnd (c .before .x .given .1)) ∙ call .run-at .ensures) ∙ sym (followed-done (a .file .now) (a .at) (a .n) (a .at))
 
 returns-2 : tie.Need-returns-2
 returns-2 c =
     let q = c .before .before in
     let call = q .before .before in
     let a = call .before .before .args in
-    step-on _ _ (sym (ap toldStep (q .q .given .1)) ∙ call .run-at .ensures) (ends-at (a .file .now) (a .n) (a .at) (sym (ap toldStep (q .q .given .1)) ∙ call .run-at .ensures) (c .pad-at .ensures)) ∙ sym (followed-done (a .file .now) (a .at) (a .n) (a .at))
+    step-on _ _ (sym (ap toldFieldEnd (q .q .given .1)) ∙ call .run-at .ensures) (ends-at (a .file .now) (a .n) (a .at) (sym (ap toldFieldEnd (q .q .given .1)) ∙ call .run-at .ensures) (c .pad-at .ensures)) ∙ sym (followed-done (a .file .now) (a .at) (a .n) (a .at))
 
 pub even-end-spec : {M : Type 1} → statement M
 even-end-spec =

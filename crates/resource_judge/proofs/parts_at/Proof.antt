@@ -1,6 +1,6 @@
 use mathlib.Core.Path.{refl, sym, ap, _∙_}
-use Rattle.resource_judge.specs.scaffold.Answer.{toldRun}
-use Rattle.resource_judge.specs.scaffold.Answer.{toldRun, partsFrom}
+use Rattle.resource_judge.specs.scaffold.Answer.{toldPart}
+use Rattle.resource_judge.specs.scaffold.Answer.{toldPart, partsFrom}
 use Rattle.algebra.proofs.Sequence.{step-no, step-on}
 use borrow.Author.Needs.{needs}
 use Rattle.resource_judge.proofs.parts_at.Statement.{statement}
@@ -26,21 +26,21 @@ enum-known-payload c = search needs
 
 returns : tie.Need-returns
 unfolding partsFrom
-returns c = step-no _ _ (sym (ap toldRun (c .before .number .given .1)) ∙ c .before .before .before .name-at .ensures)
+returns c = step-no _ _ (sym (ap toldPart (c .before .number .given .1)) ∙ c .before .before .before .name-at .ensures)
 
 returns-2 : tie.Need-returns-2
 unfolding partsFrom
 returns-2 c =
     let p = c .before .before .before in
     let n = p .before .before in
-    step-on _ _ (sym (ap toldRun (n .name .given .1)) ∙ n .before .before .name-at .ensures) (step-no _ _ (sym (ap toldRun (c .before .number2 .given .1)) ∙ p .payload-at .ensures))
+    step-on _ _ (sym (ap toldPart (n .name .given .1)) ∙ n .before .before .name-at .ensures) (step-no _ _ (sym (ap toldPart (c .before .number2 .given .1)) ∙ p .payload-at .ensures))
 
 returns-3 : tie.Need-returns-3
 unfolding partsFrom
 returns-3 c =
     let p = c .before .before .before in
     let n = p .before .before in
-    step-on _ _ (sym (ap toldRun (n .name .given .1)) ∙ n .before .before .name-at .ensures) (step-on _ _ (sym (ap toldRun (c .before .payload .given .1)) ∙ p .payload-at .ensures) refl)
+    step-on _ _ (sym (ap toldPart (n .name .given .1)) ∙ n .before .before .name-at .ensures) (step-on _ _ (sym (ap toldPart (c .before .payload .given .1)) ∙ p .payload-at .ensures) refl)
 
 pub parts-at-spec : {M : Type 1} → statement M
 parts-at-spec =

@@ -1,7 +1,7 @@
 use borrow.Author.Needs.{needs}
 use mathlib.Core.Path.{refl, sym, ap, _∙_}
 use Rattle.algebra.proofs.Sequence.{step-no, step-on}
-use Rattle.fields.specs.Answer.{told8, toldStep}
+use Rattle.fields.specs.Answer.{told8, toldFieldEnd}
 use Rattle.resource_judge.proofs.Judging.{length-cut, by-place, ends-even}
 use Rattle.resource_judge.proofs.parts_end.Statement.{statement}
 use Rattle.resource_judge.proofs.parts_end.Tie as tie
@@ -39,7 +39,7 @@ data-end-requires c κs =
     let v = f .before .before in
     let call = v .before .before in
     let s = call .before .before in
-    let e = by-place (s .args .file .now) 1 1 (s .args .at) (s .pre) refl (sym (ap (told8 _) (v .v .given .1)) ∙ call .u8-at .ensures) (sym (ap toldStep (c .before .p .given .1)) ∙ f .even-end .ensures) in
+    let e = by-place (s .args .file .now) 1 1 (s .args .at) (s .pre) refl (sym (ap (told8 _) (v .v .given .1)) ∙ call .u8-at .ensures) (sym (ap toldFieldEnd (c .before .p .given .1)) ∙ f .even-end .ensures) in
     ends-even (s .args .file .now) 1 1 (s .args .at) (s .pre) refl e
 
 returns-2 : tie.Need-returns-2
@@ -48,7 +48,7 @@ returns-2 c =
     let v = f .before .before in
     let call = v .before .before in
     let s = call .before .before in
-    let e = by-place (s .args .file .now) 1 1 (s .args .at) (s .pre) refl (sym (ap (told8 _) (v .v .given .1)) ∙ call .u8-at .ensures) (sym (ap toldStep (c .before .x .given .1)) ∙ f .even-end .ensures) in
+    let e = by-place (s .args .file .now) 1 1 (s .args .at) (s .pre) refl (sym (ap (told8 _) (v .v .given .1)) ∙ call .u8-at .ensures) (sym (ap toldFieldEnd (c .before .x .given .1)) ∙ f .even-end .ensures) in
     step-no _ _ e
 
 returns-3 : tie.Need-returns-3
@@ -57,7 +57,7 @@ returns-3 c =
     let v = f .before .before in
     let call = v .before .before in
     let s = call .before .before in
-    let e = by-place (s .args .file .now) 1 1 (s .args .at) (s .pre) refl (sym (ap (told8 _) (v .v .given .1)) ∙ call .u8-at .ensures) (sym (ap toldStep (c .before .before .p .given .1)) ∙ f .even-end .ensures) in
+    let e = by-place (s .args .file .now) 1 1 (s .args .at) (s .pre) refl (sym (ap (told8 _) (v .v .given .1)) ∙ call .u8-at .ensures) (sym (ap toldFieldEnd (c .before .before .p .given .1)) ∙ f .even-end .ensures) in
     step-on _ _ e (c .data-end .ensures)
 
 pub parts-end-spec : {M : Type 1} → statement M

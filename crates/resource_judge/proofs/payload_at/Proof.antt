@@ -1,5 +1,5 @@
 use mathlib.Core.Path.{refl, sym, ap, _∙_}
-use Rattle.fields.specs.Answer.{told32, toldStep}
+use Rattle.fields.specs.Answer.{told32, toldFieldEnd}
 use Rattle.resource_judge.proofs.Judging.{counted-part}
 use Rattle.algebra.proofs.Sequence.{step-no, step-on}
 use borrow.Author.Needs.{needs}
@@ -39,7 +39,7 @@ returns-2 c =
     let v = f .before .before in
     let call = v .before .before in
     let a = call .before .before .args in
-    step-on _ _ (sym (ap (told32 _) (v .v .given .1)) ∙ call .u32-at .ensures) (step-no _ _ (sym (ap toldStep (c .before .x .given .1)) ∙ f .followed-at .ensures)) ∙ sym (counted-part (a .file .now) 4 0 (a .at))
+    step-on _ _ (sym (ap (told32 _) (v .v .given .1)) ∙ call .u32-at .ensures) (step-no _ _ (sym (ap toldFieldEnd (c .before .x .given .1)) ∙ f .followed-at .ensures)) ∙ sym (counted-part (a .file .now) 4 0 (a .at))
 
 returns-3 : tie.Need-returns-3
 returns-3 c =
@@ -47,7 +47,7 @@ returns-3 c =
     let v = f .before .before in
     let call = v .before .before in
     let a = call .before .before .args in
-    step-on _ _ (sym (ap (told32 _) (v .v .given .1)) ∙ call .u32-at .ensures) (step-on _ _ (sym (ap toldStep (c .before .next .given .1)) ∙ f .followed-at .ensures) refl) ∙ sym (counted-part (a .file .now) 4 0 (a .at))
+    step-on _ _ (sym (ap (told32 _) (v .v .given .1)) ∙ call .u32-at .ensures) (step-on _ _ (sym (ap toldFieldEnd (c .before .next .given .1)) ∙ f .followed-at .ensures) refl) ∙ sym (counted-part (a .file .now) 4 0 (a .at))
 
 pub payload-at-spec : {M : Type 1} → statement M
 payload-at-spec =

@@ -12,9 +12,9 @@ use Rattle.resource_judge.specs.declared.Run.the-variants as vr
 abbrev pub partOf : Part → ℕ × ℕ
 partOf p = (p .first, length (p .bytes))
 
-abbrev pub toldRun : Run → Res (ℕ × ℕ)
-toldRun (vr.Is p n q) = ok (p, n) q
-toldRun (vr.Refused x p) = refuse x p 0 0
+abbrev pub toldPart : Run → Res (ℕ × ℕ)
+toldPart (vr.Is p n q) = ok (p, n) q
+toldPart (vr.Refused x p) = refuse x p 0 0
 
 -- a block's record from its name on, where its ID was read
 unfoldable pub partsFrom : ℕ → List ℕ → ℕ → Res Record

@@ -1,6 +1,6 @@
 use mathlib.Core.Path.{sym, ap, _∙_}
 use Rattle.resource_write_judge.proofs.Judging.{part-number}
-use Rattle.fields.specs.Answer.{toldStep}
+use Rattle.fields.specs.Answer.{toldFieldEnd}
 use Rattle.algebra.specs.Reader.{numberOf}
 use borrow.Author.Needs.{needs}
 use Rattle.resource_write_judge.proofs.part_fault.Statement.{statement}
@@ -19,13 +19,13 @@ returns : tie.Need-returns
 returns c =
     let r = c .before .before in
     let a = r .before .before .args in
-    ap numberOf (sym (ap toldStep (c .enum-told .given .1)) ∙ r .run-at .ensures) ∙ part-number (a .n) (a .text .now) (a .first)
+    ap numberOf (sym (ap toldFieldEnd (c .enum-told .given .1)) ∙ r .run-at .ensures) ∙ part-number (a .n) (a .text .now) (a .first)
 
 returns-2 : tie.Need-returns-2
 returns-2 c =
     let r = c .before .before .before in
     let a = r .before .before .args in
-    ap numberOf (sym (ap toldStep (c .before .x .given .1)) ∙ r .run-at .ensures) ∙ part-number (a .n) (a .text .now) (a .first)
+    ap numberOf (sym (ap toldFieldEnd (c .before .x .given .1)) ∙ r .run-at .ensures) ∙ part-number (a .n) (a .text .now) (a .first)
 
 pub part-fault-spec : {M : Type 1} → statement M
 part-fault-spec = tie.close (tie.spec run-at-requires enum-told enum-known-x returns returns-2)

@@ -1,6 +1,6 @@
 use mathlib.Core.Path.{sym, ap}
 use Rattle.khuyurek.specs.Walk.{acoGiven}
-use Rattle.aco_walk.specs.Answer.{toldGiven}
+use Rattle.aco_walk.specs.Answer.{toldNextColour}
 use borrow.Author.Needs.{needs}
 use Rattle.khuyurek.proofs.walks.aco_given.Statement.{statement}
 use Rattle.khuyurek.proofs.walks.aco_given.Tie as tie
@@ -17,17 +17,17 @@ enum-known-given-2 c = search needs
 returns : tie.Need-returns
 returns c =
     let st = c .before .before .before .before in
-    sym (ap (λ (v : _). acoGiven (st .args .colour) (st .args .next) (toldGiven v)) (c .before .given .given .1))
+    sym (ap (λ (v : _). acoGiven (st .args .colour) (st .args .next) (toldNextColour v)) (c .before .given .given .1))
 
 returns-2 : tie.Need-returns-2
 returns-2 c =
     let st = c .before .before .before in
-    sym (ap (λ (v : _). acoGiven (st .args .colour) (st .args .next) (toldGiven v)) (c .enum-told .given .1))
+    sym (ap (λ (v : _). acoGiven (st .args .colour) (st .args .next) (toldNextColour v)) (c .enum-told .given .1))
 
 returns-3 : tie.Need-returns-3
 returns-3 c =
     let st = c .before .before .before .before in
-    sym (ap (λ (v : _). acoGiven (st .args .colour) (st .args .next) (toldGiven v)) (c .before .given2 .given .1))
+    sym (ap (λ (v : _). acoGiven (st .args .colour) (st .args .next) (toldNextColour v)) (c .before .given2 .given .1))
 
 pub aco-given-spec : {M : Type 1} → statement M
 aco-given-spec = tie.close (tie.spec enum-known-given enum-told enum-known-given-2 returns returns-2 returns-3)
