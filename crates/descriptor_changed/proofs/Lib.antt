@@ -1,0 +1,3 @@
+pub mod Nested
+pub mod Singles
+pub mod Undisturbed
