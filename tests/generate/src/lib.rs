@@ -20,6 +20,7 @@ mod palette;
 mod random;
 mod records;
 pub mod resource;
+mod seasons;
 
 pub use channels::{
     any_pattern, neighbourhoods, tags, CMYK_TAG, EACH_CLASS, GRAY_TAG, LAB_TAG, ONE, PAIRS,
@@ -31,3 +32,4 @@ pub use fixed::{fixed_files, Answer, Fixed, P2, P3, P3_LISTING, P4};
 pub use palette::{Colour, Layout, Palette, SPACES};
 pub use random::Random;
 pub use records::{Lot, LotDamage};
+pub use seasons::{Change, Season};

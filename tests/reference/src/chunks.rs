@@ -1,5 +1,8 @@
-//! A file that arrives in chunks, cut anywhere, with a lent store for the colours
-//! of list 1.
+//! An ACO file that comes in chunks, cut anywhere.
+//!
+//! What is due next is known at any time: a field, a whole colour, or the units of a
+//! name. Its bytes wait in the stream until all have come; then it is judged. At the
+//! end whatever is still due is missing, or is what a file may end before.
 
 use crate::colour::{
     is_sound, judge_colour, COLOUR_LEN, FIELD_LEN, MAX_COLOURS, NAME_COUNT_LEN, VERSION_ONE,
@@ -13,43 +16,46 @@ use crate::LIMIT;
 /// The bytes of a store: ten for each of the most colours.
 pub const STORE_LEN: usize = COLOUR_LEN * MAX_COLOURS;
 
-/// Which field, colour or name is due.
+/// What the file has next. Colours and names are counted from 0.
 #[derive(Clone, Copy, Debug, PartialEq, Eq)]
 enum Due {
     VersionOne,
     CountOne,
-    Colour,
+    Colour(usize),
     VersionTwo,
     CountTwo,
-    Twin,
-    NameCount,
-    Units,
-    Nothing,
-    /// A fault is known, and bytes are only counted.
-    Counting,
+    Twin(usize),
+    NameCount(usize),
+    Units(Units),
+    /// Behind list 2 there is nothing.
+    End,
+    /// The first fault was found; all that comes is only counted.
+    Fault(Refusal),
+}
+
+/// How much of a name has come.
+#[derive(Clone, Copy, Debug, PartialEq, Eq)]
+struct Units {
+    name: usize,
+    /// The bytes of all its units, and those that have not come.
+    len: u64,
+    left: u64,
+    /// Whether a unit before the last was zero.
+    zero: bool,
 }
 
 /// What is kept between two chunks.
 #[derive(Clone, Copy, Debug, PartialEq, Eq)]
 pub struct Stream {
+    total: u64,
     due: Due,
+    /// Where what is due begins.
+    place: usize,
+    /// What has come of it; of units, of one that was cut.
+    kept: [u8; COLOUR_LEN],
+    kept_len: usize,
+    colours: usize,
     ended: bool,
-    /// How many bytes of what is due have come, which lie in `held`; of a name's
-    /// units that is one byte at most.
-    held_len: u8,
-    held: [u8; COLOUR_LEN],
-    /// The bytes that have come; above the limit it may stop.
-    total: usize,
-    colours: u16,
-    /// The colour or twin that is due.
-    index: u16,
-    /// Of the name that is due: bytes to come, and whether a unit before the last
-    /// was zero.
-    name_left: u64,
-    zero_seen: bool,
-    /// Where its count stands.
-    name_place: usize,
-    fault: Refusal,
 }
 
 /// What start and feed answer: 0 or a number, and the stream for the next call.
@@ -66,48 +72,62 @@ pub struct Finished {
     pub stream: Stream,
 }
 
-/// The stream before the first chunk.
+/// The stream before the first chunk; one that has ended where the store is short.
 pub fn start(store: &[u8]) -> Fed {
     let short = store.len() < STORE_LEN;
     let stream = Stream {
-        due: Due::VersionOne,
-        ended: short,
-        held_len: 0,
-        held: [0; COLOUR_LEN],
         total: 0,
+        due: Due::VersionOne,
+        place: 0,
+        kept: [0; COLOUR_LEN],
+        kept_len: 0,
         colours: 0,
-        index: 0,
-        name_left: 0,
-        zero_seen: false,
-        name_place: 0,
-        fault: Refusal::of_call(0),
+        ended: short,
     };
-    let number = if short { number::NO_ROOM } else { 0 };
-    Fed { number, stream }
+    Fed {
+        number: if short { number::NO_ROOM } else { 0 },
+        stream,
+    }
 }
 
 /// Takes a chunk.
 pub fn feed(mut stream: Stream, store: &mut [u8], chunk: &[u8]) -> Fed {
-    if let Err(number) = stream.refusal(store) {
+    if let Err(number) = stream.judge_call(store) {
         return Fed { number, stream };
     }
-    stream.take(&mut store[..STORE_LEN], chunk);
+    stream.total += chunk.len() as u64;
+    let mut rest = chunk;
+    while !rest.is_empty() {
+        rest = stream.take(store, rest);
+    }
     Fed { number: 0, stream }
 }
 
 /// The end of the file.
 pub fn finish(mut stream: Stream, store: &[u8]) -> Finished {
-    if let Err(number) = stream.refusal(store) {
+    if let Err(number) = stream.judge_call(store) {
         let answer = Err(Refusal::of_call(number));
         return Finished { answer, stream };
     }
-    stream.ended = true;
     let answer = stream.answer(store);
+    stream.ended = true;
     Finished { answer, stream }
 }
 
+impl Due {
+    /// The bytes of a field or colour; units are counted apart.
+    fn len(self) -> usize {
+        match self {
+            Due::Colour(_) | Due::Twin(_) => COLOUR_LEN,
+            Due::NameCount(_) => NAME_COUNT_LEN,
+            _ => FIELD_LEN,
+        }
+    }
+}
+
 impl Stream {
-    fn refusal(&self, store: &[u8]) -> Result<(), u32> {
+    /// A stream that has ended is refused before a store that is short.
+    fn judge_call(&self, store: &[u8]) -> Result<(), u32> {
         if self.ended {
             return Err(number::OUT_OF_RANGE);
         }
@@ -117,235 +137,197 @@ impl Stream {
         Ok(())
     }
 
-    fn take(&mut self, store: &mut [u8], chunk: &[u8]) {
-        let mut rest = chunk;
-        while !rest.is_empty() && self.due != Due::Counting {
-            let before = rest.len();
-            rest = match self.due {
-                Due::Colour if self.held_len == 0 && before >= COLOUR_LEN => {
-                    self.take_colours(store, rest, self.total)
-                }
-                Due::Twin if self.held_len == 0 && before >= COLOUR_LEN + NAME_COUNT_LEN => {
-                    self.take_twin(store, rest)
-                }
-                Due::Units => self.take_units(rest),
-                _ => self.take_bytes(store, rest),
-            };
-            self.total += before - rest.len();
-        }
-        self.total = self.total.saturating_add(rest.len());
-    }
-
-    fn fail(&mut self, fault: Refusal) {
-        self.due = Due::Counting;
-        self.fault = fault;
-    }
-
-    /// Where what is due begins; `total` counts all that was taken of it.
-    fn begun(&self) -> usize {
-        self.total - usize::from(self.held_len)
-    }
-
-    /// Whole colours, as many as stand in these bytes, the first of them at `place`.
-    fn take_colours<'a>(&mut self, store: &mut [u8], bytes: &'a [u8], place: usize) -> &'a [u8] {
-        let due = usize::from(self.colours - self.index);
-        let (whole, _) = bytes.as_chunks::<COLOUR_LEN>();
-        let whole = &whole[..due.min(whole.len())];
-        let sound = whole
-            .iter()
-            .position(|colour| !is_sound(colour))
-            .unwrap_or(whole.len());
-        let (taken, rest) = bytes.split_at(sound * COLOUR_LEN);
-        let first = usize::from(self.index) * COLOUR_LEN;
-        store[first..first + taken.len()].copy_from_slice(taken);
-        if sound < whole.len() {
-            self.fail(colour_fault(&whole[sound], place + taken.len()));
-            return rest;
-        }
-        self.index += sound as u16;
-        if self.index == self.colours {
-            self.due = Due::VersionTwo;
-        }
-        rest
-    }
-
-    /// A whole colour of list 2 and its name's count.
-    fn take_twin<'a>(&mut self, store: &[u8], bytes: &'a [u8]) -> &'a [u8] {
-        let (twin, rest) = bytes.split_at(COLOUR_LEN);
-        let colour = self.own(store);
-        if twin != colour {
-            self.fail(first_difference(
-                &colour,
-                twin,
-                self.total,
-                self.index.into(),
-            ));
-            return rest;
-        }
-        let (count, rest) = rest.split_first_chunk().expect("there is a count");
-        self.begin_name(u32::from_be_bytes(*count), self.total + COLOUR_LEN);
-        rest
-    }
-
-    /// The colour of list 1 that the twin is due to equal.
-    fn own(&self, store: &[u8]) -> [u8; COLOUR_LEN] {
-        let first = usize::from(self.index) * COLOUR_LEN;
-        *store[first..].first_chunk().expect("a store has them all")
-    }
-
-    fn begin_name(&mut self, count: u32, place: usize) {
-        if count == 0 {
-            return self.fail(Refusal::at(number::BADLY_CLOSED, place));
-        }
-        self.due = Due::Units;
-        self.name_left = bytes_of(count);
-        self.name_place = place;
-        self.zero_seen = false;
-    }
-
-    /// Units of a name, as many as stand in these bytes; half a unit is held.
-    fn take_units<'a>(&mut self, bytes: &'a [u8]) -> &'a [u8] {
-        if self.held_len == 1 {
-            self.held_len = 0;
-            self.judge_units(&[self.held[0], bytes[0]]);
-            return &bytes[1..];
-        }
-        if bytes.len() < UNIT_LEN {
-            self.held[0] = bytes[0];
-            self.held_len = 1;
-            return &bytes[1..];
-        }
-        let whole = (bytes.len() / UNIT_LEN * UNIT_LEN) as u64;
-        let (units, rest) = bytes.split_at(whole.min(self.name_left) as usize);
-        self.judge_units(units);
-        rest
-    }
-
-    fn judge_units(&mut self, units: &[u8]) {
-        self.name_left -= units.len() as u64;
-        if self.name_left > 0 {
-            self.zero_seen = self.zero_seen || holds_zero_unit(units);
-            return;
-        }
-        let (earlier, closing) = units.split_at(units.len() - UNIT_LEN);
-        if closing != [0; UNIT_LEN] || self.zero_seen || holds_zero_unit(earlier) {
-            return self.fail(Refusal::at(number::BADLY_CLOSED, self.name_place));
-        }
-        self.index += 1;
-        self.due = if self.index == self.colours {
-            Due::Nothing
-        } else {
-            Due::Twin
-        };
-    }
-
-    /// The length of what is due, where it has one.
-    fn due_len(&self) -> usize {
-        match self.due {
-            Due::Colour | Due::Twin => COLOUR_LEN,
-            Due::NameCount => NAME_COUNT_LEN,
-            Due::Nothing => 1,
-            _ => FIELD_LEN,
-        }
-    }
-
-    /// Bytes of what is due, which is judged when it is whole.
-    fn take_bytes<'a>(&mut self, store: &mut [u8], bytes: &'a [u8]) -> &'a [u8] {
-        let due = self.due_len();
-        let held = usize::from(self.held_len);
-        let (taken, rest) = bytes.split_at((due - held).min(bytes.len()));
-        self.held[held..held + taken.len()].copy_from_slice(taken);
-        self.held_len += taken.len() as u8;
-        if usize::from(self.held_len) == due {
-            self.judge_held(store, self.total - held);
-            self.held_len = 0;
-        }
-        rest
-    }
-
-    fn judge_held(&mut self, store: &mut [u8], place: usize) {
-        let held = self.held;
-        let field = u16::from_be_bytes([held[0], held[1]]);
-        match self.due {
-            Due::VersionOne => self.judge_version(field, VERSION_ONE, place, Due::CountOne),
-            Due::CountOne if usize::from(field) > MAX_COLOURS => {
-                self.fail(Refusal::at(number::OUT_OF_RANGE, place));
-            }
-            Due::CountOne => {
-                self.colours = field;
-                self.due = if field == 0 {
-                    Due::VersionTwo
-                } else {
-                    Due::Colour
-                };
-            }
-            Due::Colour => {
-                self.take_colours(store, &held, place);
-            }
-            Due::VersionTwo => self.judge_version(field, VERSION_TWO, place, Due::CountTwo),
-            Due::CountTwo if field != self.colours => {
-                self.fail(Refusal::disagreement(place, 0, COUNT_FIELD));
-            }
-            Due::CountTwo => {
-                self.index = 0;
-                self.due = if field == 0 { Due::Nothing } else { Due::Twin };
-            }
-            Due::Twin => {
-                let colour = self.own(store);
-                if held == colour {
-                    self.due = Due::NameCount;
-                } else {
-                    let index = self.index.into();
-                    self.fail(first_difference(&colour, &held, place, index));
-                }
-            }
-            Due::NameCount => {
-                let count = u32::from_be_bytes([held[0], held[1], held[2], held[3]]);
-                self.begin_name(count, place);
-            }
-            Due::Nothing => self.fail(Refusal::at(number::LEFT_OVER, place)),
-            Due::Units | Due::Counting => unreachable!("held elsewhere, or not at all"),
-        }
-    }
-
-    fn judge_version(&mut self, found: u16, version: u16, place: usize, next: Due) {
-        if found == version {
-            self.due = next;
-        } else {
-            self.fail(Refusal::at(number::WRONG_VERSION, place));
-        }
-    }
-
     fn answer(&self, store: &[u8]) -> Result<Accepted, Refusal> {
-        if self.total > LIMIT {
+        if self.total > LIMIT as u64 {
             return Err(Refusal::of_call(number::TOO_LONG));
         }
-        let place = self.begun();
-        let held = &self.held[..usize::from(self.held_len)];
-        let colours = usize::from(self.colours);
+        let accepted = |lists| {
+            Ok(Accepted {
+                colours: self.colours,
+                lists,
+            })
+        };
+        let kept = &self.kept[..self.kept_len];
         match self.due {
-            Due::Counting => Err(self.fault),
-            Due::Nothing => Ok(Accepted { colours, lists: 2 }),
-            Due::VersionTwo if held.is_empty() => Ok(Accepted { colours, lists: 1 }),
-            Due::Colour => Err(colour_fault(held, place)),
-            Due::Twin => {
-                let colour = self.own(store);
-                Err(first_difference(&colour, held, place, self.index.into()))
+            Due::Fault(refusal) => Err(refusal),
+            Due::End => accepted(2),
+            Due::VersionTwo if kept.is_empty() => accepted(1),
+            // What there is of a colour is judged, and then it is cut.
+            Due::Colour(_) => Err(self.colour_fault(kept)),
+            Due::Twin(index) => Err(first_difference(
+                stored(store, index),
+                kept,
+                self.place,
+                index,
+            )),
+            _ => Err(Refusal::at(number::CUT, self.place)),
+        }
+    }
+
+    /// Takes what is due, or what has come of it, and gives what is left of a chunk.
+    fn take<'a>(&mut self, store: &mut [u8], chunk: &'a [u8]) -> &'a [u8] {
+        match self.due {
+            Due::Fault(_) => &[],
+            Due::End => {
+                self.due = Due::Fault(Refusal::at(number::LEFT_OVER, self.place));
+                &[]
             }
-            Due::Units => {
-                let body = self.name_place + NAME_COUNT_LEN;
-                Err(Refusal::at(number::CUT, body))
+            Due::Units(units) => self.take_units(units, chunk),
+            Due::Colour(index) if self.kept_len == 0 => {
+                let rest = self.take_colours(index, store, chunk);
+                if rest.len() == chunk.len() {
+                    self.take_field(store, chunk)
+                } else {
+                    rest
+                }
             }
-            _ => Err(Refusal::at(number::CUT, place)),
+            _ => self.take_field(store, chunk),
+        }
+    }
+
+    /// The colours at the chunk's start that are whole and sound, all at once.
+    fn take_colours<'a>(&mut self, index: usize, store: &mut [u8], chunk: &'a [u8]) -> &'a [u8] {
+        let (whole, _) = chunk.as_chunks::<COLOUR_LEN>();
+        let due = &whole[..whole.len().min(self.colours - index)];
+        let sound = due.iter().take_while(|colour| is_sound(colour)).count();
+        let (taken, rest) = chunk.split_at(sound * COLOUR_LEN);
+        store[index * COLOUR_LEN..][..taken.len()].copy_from_slice(taken);
+        self.place += taken.len();
+        self.due = self.colour_or_list_two(index + sound);
+        rest
+    }
+
+    /// A field or a colour, or a part of it.
+    fn take_field<'a>(&mut self, store: &mut [u8], chunk: &'a [u8]) -> &'a [u8] {
+        let len = self.due.len();
+        let (taken, rest) = chunk.split_at(chunk.len().min(len - self.kept_len));
+        self.kept[self.kept_len..][..taken.len()].copy_from_slice(taken);
+        self.kept_len += taken.len();
+        if self.kept_len == len {
+            self.due = self.judge_field(store).unwrap_or_else(Due::Fault);
+            self.place += len;
+            self.kept_len = 0;
+        }
+        rest
+    }
+
+    /// Judges what is due, all of which has come; gives what is due behind it.
+    fn judge_field(&mut self, store: &mut [u8]) -> Result<Due, Refusal> {
+        let refused = |number| Err(Refusal::at(number, self.place));
+        let short = u16::from_be_bytes([self.kept[0], self.kept[1]]);
+        match self.due {
+            Due::VersionOne if short != VERSION_ONE => refused(number::WRONG_VERSION),
+            Due::VersionOne => Ok(Due::CountOne),
+            Due::CountOne if usize::from(short) > MAX_COLOURS => refused(number::OUT_OF_RANGE),
+            Due::CountOne => {
+                self.colours = usize::from(short);
+                Ok(self.colour_or_list_two(0))
+            }
+            Due::Colour(_) if !is_sound(&self.kept) => Err(self.colour_fault(&self.kept)),
+            Due::Colour(index) => {
+                store[index * COLOUR_LEN..][..COLOUR_LEN].copy_from_slice(&self.kept);
+                Ok(self.colour_or_list_two(index + 1))
+            }
+            Due::VersionTwo if short != VERSION_TWO => refused(number::WRONG_VERSION),
+            Due::VersionTwo => Ok(Due::CountTwo),
+            Due::CountTwo if usize::from(short) != self.colours => {
+                Err(Refusal::disagreement(self.place, 0, COUNT_FIELD))
+            }
+            Due::CountTwo => Ok(self.twin_or_end(0)),
+            Due::Twin(index) if stored(store, index) != &self.kept => Err(first_difference(
+                stored(store, index),
+                &self.kept,
+                self.place,
+                index,
+            )),
+            Due::Twin(index) => Ok(Due::NameCount(index)),
+            Due::NameCount(name) => {
+                let [a, b, c, d, ..] = self.kept;
+                match bytes_of(u32::from_be_bytes([a, b, c, d])) {
+                    0 => refused(number::BADLY_CLOSED),
+                    len => Ok(Due::Units(Units {
+                        name,
+                        len,
+                        left: len,
+                        zero: false,
+                    })),
+                }
+            }
+            Due::Units(_) | Due::End | Due::Fault(_) => unreachable!("these are no fields"),
+        }
+    }
+
+    /// Units of a name, or a part of one. A name is judged once all of it has come.
+    fn take_units<'a>(&mut self, mut units: Units, chunk: &'a [u8]) -> &'a [u8] {
+        let len = units.left.min(chunk.len() as u64);
+        let (taken, rest) = chunk.split_at(len as usize);
+        units.left -= len;
+        let mut whole = taken;
+        let mut closing = [1; UNIT_LEN];
+        // The half that waits makes a unit with the first byte.
+        if self.kept_len == 1 {
+            let unit = [self.kept[0], taken[0]];
+            whole = &taken[1..];
+            if whole.is_empty() && units.left == 0 {
+                closing = unit;
+            } else {
+                units.zero |= unit == [0; UNIT_LEN];
+            }
+        }
+        let (whole, half) = whole.split_at(whole.len() / UNIT_LEN * UNIT_LEN);
+        match whole.split_last_chunk() {
+            Some((before, last)) if units.left == 0 => {
+                units.zero |= holds_zero_unit(before);
+                closing = *last;
+            }
+            _ => units.zero |= holds_zero_unit(whole),
+        }
+        self.kept_len = half.len();
+        self.kept[..half.len()].copy_from_slice(half);
+        if units.left > 0 {
+            self.due = Due::Units(units);
+        } else {
+            self.close_name(units, closing);
+        }
+        rest
+    }
+
+    fn close_name(&mut self, units: Units, closing: [u8; UNIT_LEN]) {
+        self.due = if units.zero || closing != [0; UNIT_LEN] {
+            let count = self.place - NAME_COUNT_LEN;
+            Due::Fault(Refusal::at(number::BADLY_CLOSED, count))
+        } else {
+            self.twin_or_end(units.name + 1)
+        };
+        self.place += units.len as usize;
+    }
+
+    fn colour_fault(&self, bytes: &[u8]) -> Refusal {
+        match judge_colour(bytes) {
+            Err(fault) => Refusal::at(fault.number, self.place + fault.offset),
+            Ok(()) => unreachable!("called for a colour that is cut or not sound"),
+        }
+    }
+
+    fn colour_or_list_two(&self, index: usize) -> Due {
+        if index < self.colours {
+            Due::Colour(index)
+        } else {
+            Due::VersionTwo
+        }
+    }
+
+    fn twin_or_end(&self, index: usize) -> Due {
+        if index < self.colours {
+            Due::Twin(index)
+        } else {
+            Due::End
         }
     }
 }
 
-/// The refusal of a colour of list 1 that has a fault or is cut.
-#[cold]
-fn colour_fault(bytes: &[u8], place: usize) -> Refusal {
-    match judge_colour(bytes) {
-        Err(fault) => Refusal::at(fault.number, place + fault.offset),
-        Ok(()) => unreachable!("called for a colour that has a fault or is cut"),
-    }
+/// A colour of list 1 as the store has it.
+fn stored(store: &[u8], index: usize) -> &[u8; COLOUR_LEN] {
+    let (colours, _) = store.as_chunks();
+    &colours[index]
 }

@@ -1,5 +1,6 @@
 //! A palette in chunks, rule by rule.
 
+use generate::{chunks, damage, Cutting, Damage, Palette, Random};
 use reference::chunks::{feed, finish, start, Fed, Finished, STORE_LEN};
 use reference::{judge, number, Accepted, Refusal, LIMIT};
 
@@ -31,6 +32,39 @@ fn cut_anywhere() {
             taken(&[&front[..cut / 2], &front[cut / 2..]]).0,
             judge(front)
         );
+    }
+}
+
+/// T2: whatever is wrong with a file, and wherever it is cut, the end says what the
+/// whole file does, and the store has the colours before the place it says.
+#[test]
+fn made_up_files_cut_in_every_way() {
+    for seed in 0..4_000 {
+        let mut random = Random::new(seed);
+        let palette = Palette::small(&mut random);
+        let mut file = palette.file();
+        for _ in 0..random.below(4) {
+            damage(&mut file, &palette, Damage::any(&mut random), &mut random);
+        }
+        let wanted = judge(&file);
+        let count = file.get(2..4).map_or(0, |field| {
+            256 * usize::from(field[0]) + usize::from(field[1])
+        });
+        let whole = match wanted {
+            Ok(accepted) => accepted.colours,
+            Err(refusal) => (refusal.place.saturating_sub(4) / 10).min(count),
+        };
+        for cutting in Cutting::ALL {
+            let places = cutting.places(&palette, file.len(), &mut random);
+            let (answer, store) = taken(&chunks(&file, &places));
+            assert_eq!(answer, wanted, "seed {seed} cut at {places:?}");
+            let end = 10 * whole;
+            assert!(
+                whole == 0 || store[..end] == file[4..4 + end],
+                "seed {seed}"
+            );
+            assert!(store[end..].iter().all(|byte| *byte == 7), "seed {seed}");
+        }
     }
 }
 

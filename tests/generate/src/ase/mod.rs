@@ -18,4 +18,4 @@ const ENVELOPE_LEN: usize = 6;
 const GROUP_START: u16 = 0xC001;
 const GROUP_END: u16 = 0xC002;
 const COLOUR: u16 = 0x0001;
-const MAX_OPEN: usize = 16;
+pub(crate) const MAX_OPEN: usize = 16;

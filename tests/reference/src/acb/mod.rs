@@ -2,6 +2,7 @@
 //! formats.
 
 mod header;
+mod index;
 mod layout;
 mod listing;
 mod reader;
@@ -9,8 +10,11 @@ mod shown;
 mod writer;
 
 pub use header::{Header, Tag, Text};
+pub use index::{find, index};
 pub use layout::{BARE_HEAD_LEN, CODE_LEN, COMPONENTS, MAX_COLOURS, ROW_LEN, STRINGS, TAG_LEN};
+pub(crate) use layout::{CMYK, RGB};
 pub use listing::list;
+pub(crate) use reader::judge_whole;
 pub use reader::{judge, read, record, Accepted, Record};
 pub use shown::{full_length, full_name, page, shown, shown_start, shown_text, Shown};
 pub use writer::{length, write};

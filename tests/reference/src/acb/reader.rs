@@ -52,14 +52,14 @@ pub fn record(file: &[u8], index: usize) -> Result<Record, Refusal> {
 
 /// An accepted file, and where its colours begin.
 #[derive(Clone, Copy)]
-pub(super) struct Judged {
-    pub(super) accepted: Accepted,
+pub(crate) struct Judged {
+    pub(crate) accepted: Accepted,
     components: usize,
     first_record: usize,
 }
 
 impl Judged {
-    pub(super) fn records<'a>(&self, file: &'a [u8]) -> Records<'a> {
+    pub(crate) fn records<'a>(&self, file: &'a [u8]) -> Records<'a> {
         Records {
             rest: &file[self.first_record..],
             file_len: file.len(),
@@ -79,7 +79,7 @@ impl Judged {
     }
 }
 
-pub(super) fn judge_whole(file: &[u8]) -> Result<Judged, Refusal> {
+pub(crate) fn judge_whole(file: &[u8]) -> Result<Judged, Refusal> {
     if file.len() > LIMIT {
         return Err(Refusal::of_call(number::TOO_LONG));
     }
@@ -189,7 +189,7 @@ pub(super) fn string(file: &[u8], text: Text) -> &[u8] {
 }
 
 /// Goes over the colours of an accepted file, in file order.
-pub(super) struct Records<'a> {
+pub(crate) struct Records<'a> {
     /// The file from the next colour on.
     rest: &'a [u8],
     file_len: usize,

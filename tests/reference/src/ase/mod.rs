@@ -11,6 +11,7 @@ pub use layout::{
     CHANNELS, COLOUR, ENVELOPE_LEN, GROUP_END, GROUP_START, HEAD_LEN, MAX_OPEN, ROW_LEN,
 };
 pub use listing::list;
+pub(crate) use reader::Records;
 pub use reader::{judge, read, record, Accepted, Record};
 pub use walk::{walk, walk_block, walk_start};
 pub use writer::{length, write};

@@ -267,7 +267,7 @@ impl Record {
 }
 
 /// Goes over the records of an accepted file, in file order.
-pub(super) struct Records<'a> {
+pub(crate) struct Records<'a> {
     /// The file from the next block on.
     rest: &'a [u8],
     file_len: usize,
@@ -275,7 +275,7 @@ pub(super) struct Records<'a> {
 }
 
 impl<'a> Records<'a> {
-    pub(super) fn new(file: &'a [u8], accepted: Accepted) -> Self {
+    pub(crate) fn new(file: &'a [u8], accepted: Accepted) -> Self {
         Records::starting_at(file, HEAD_LEN, accepted.blocks)
     }
 
