@@ -18,6 +18,15 @@ impl<'a> Cursor<'a> {
         }
     }
 
+    /// The file from a place in it on.
+    #[inline(always)]
+    pub fn at(file: &'a [u8], place: usize) -> Self {
+        Cursor {
+            rest: &file[place..],
+            file_len: file.len(),
+        }
+    }
+
     /// Where the next field begins.
     #[inline(always)]
     pub fn place(&self) -> usize {

@@ -101,7 +101,7 @@ impl Laid {
 
     fn item(&mut self, value: &Value, first: usize, parent: Parent) {
         self.field(Field::Type);
-        let tag = tag(value);
+        let tag = value.tag();
         self.file.extend(tag);
         let row = self.open(tag, first, parent);
         match value {
@@ -214,21 +214,5 @@ impl Laid {
     fn double(&mut self, bits: u64) {
         self.field(Field::Double);
         self.u64(bits);
-    }
-}
-
-fn tag(value: &Value) -> Tag {
-    match value {
-        Value::Bool(_) => *b"bool",
-        Value::Double(_) => *b"doub",
-        Value::Enumerated(..) => *b"enum",
-        Value::Long(_) => *b"long",
-        Value::Large(_) => *b"comp",
-        Value::List(_) => *b"VlLs",
-        Value::Reference(_) => *b"obj ",
-        Value::Text(_) => *b"TEXT",
-        Value::Unit(..) => *b"UntF",
-        Value::Array(_) => *b"ObAr",
-        Value::Class(tag, _) | Value::Bytes(tag, _) | Value::Object(tag, _) => *tag,
     }
 }

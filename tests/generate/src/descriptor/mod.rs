@@ -2,8 +2,10 @@
 
 mod damage;
 mod fixed;
+mod keys;
 mod laid;
 mod long;
+mod lot;
 mod tags;
 mod tree;
 
@@ -12,8 +14,10 @@ pub use fixed::{
     fixed_files, Answer, Fixed, EVERY_TYPE, EVERY_TYPE_LISTING, EVERY_TYPE_VALUES, P11, P12,
     P12_LISTING, P12_ROWS,
 };
+pub use keys::{any_keys, root_keys};
 pub use laid::{Field, Laid};
 pub use long::{deep, flat, lists, wide, Long};
+pub use lot::{any_number, Lot, LotDamage};
 pub use tags::{ARRAY_UNITS, FORMS, TYPES, UNITS};
 pub use tree::{Array, Class, Form, Id, Object, Rest, Value};
 

@@ -86,6 +86,24 @@ pub enum Value {
     Array(Array),
 }
 
+impl Value {
+    pub(super) fn tag(&self) -> Tag {
+        match self {
+            Value::Bool(_) => *b"bool",
+            Value::Double(_) => *b"doub",
+            Value::Enumerated(..) => *b"enum",
+            Value::Long(_) => *b"long",
+            Value::Large(_) => *b"comp",
+            Value::List(_) => *b"VlLs",
+            Value::Reference(_) => *b"obj ",
+            Value::Text(_) => *b"TEXT",
+            Value::Unit(..) => *b"UntF",
+            Value::Array(_) => *b"ObAr",
+            Value::Class(tag, _) | Value::Bytes(tag, _) | Value::Object(tag, _) => *tag,
+        }
+    }
+}
+
 /// A descriptor that is being made up.
 struct Making<'a> {
     random: &'a mut Random,
