@@ -33,7 +33,7 @@ heads-length (o ∷ os) = ap suc (heads-length os)
 -- ---- the root
 
 -- its head is the file's first
-record Rootly (s : List ℕ) (o : Opened) : Type 0 where
+pub record Rootly (s : List ℕ) (o : Opened) : Type 0 where
   pub first : o .head .first ≡ 0
   pub depth : o .head .depth ≡ 0
   pub value : o .head .value ≡ 4
@@ -50,7 +50,7 @@ rootly s o q e =
     record { first = sym (ap (λ (y : Opened). y .head .first) x); depth = sym (ap (λ (y : Opened). y .head .depth) x); value = omega (arith, j .2, v) }
 
 -- the parts of an accepted file
-record Parts (s : List ℕ) (all : List Opened) (e : ℕ) : Type 0 where
+pub record Parts (s : List ℕ) (all : List Opened) (e : ℕ) : Type 0 where
   pub o : Opened
   pub q : ℕ
   pub os : List Opened
@@ -62,7 +62,7 @@ record Parts (s : List ℕ) (all : List Opened) (e : ℕ) : Type 0 where
   pub inside : q ≤ length s
   pub lies : Rootly s o
 
-parts : (s : List ℕ) (all : List Opened) (e : ℕ) → fileHeads s ≡ ok all e → Parts s all e
+pub parts : (s : List ℕ) (all : List Opened) (e : ℕ) → fileHeads s ≡ ok all e → Parts s all e
 unfolding fileHeads wholeHeads
 parts s all e h =
     let i = pick-inv (leb (length s) limit) (wholeHeads s 0) 1 0 0 0 h in
@@ -112,7 +112,7 @@ module _ (s : List ℕ) (rows : ℕ) (r : Rooted s rows) where
 
     -- a column stored from the root's head on
     module _ (t : Parts s (r .all) (length s)) where
-      rest-is : rest s (u .what) (u .objects) (u .count) (u .end) ≡ headsOf (t .os)
+      pub rest-is : rest s (u .what) (u .objects) (u .count) (u .end) ≡ headsOf (t .os)
       rest-is = ap behind (waiting t)
 
       from-root : (g : ℕ → ℕ → Entry) (c : List ℕ) → puts (g (length s) rows) 0 (t .o .head ∷ headsOf (t .os)) c ≡ stored g s (fileHeads s) c

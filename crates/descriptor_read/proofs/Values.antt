@@ -1,4 +1,4 @@
--- One row of a file, as the table of one row has it. Assumes nothing.
+-- Where a row's value lies. Assumes nothing.
 use Prim.Native.Nat.{ℕ, zero, suc, _+_, _-_, _*_, _≤_, _<_}
 use mathlib.Core.Path.{_≡_, refl, sym, ap, _∙_, subst}
 use mathlib.Core.List.{List, [], _∷_, _++_}
@@ -10,79 +10,21 @@ use Rattle.descriptor.specs.Reading.{Row, root, descriptor}
 use Rattle.descriptor.specs.Tiles.{Tiled, none, one}
 use Rattle.descriptor.proofs.Tiling.{five-each}
 use Rattle.descriptor.proofs.Rows.{of-root, rows-laid}
-use Rattle.descriptor_read.specs.declared.NextRow.{NextRow}
-use Rattle.descriptor_read.specs.scaffold.Table.{extent, putRow, putRows, Done}
-use Rattle.descriptor_judge.specs.Answer.{accepted, refused as refusedIn, verdict}
+use Rattle.descriptor_judge.specs.Answer.{refused as refusedIn, verdict}
 use Rattle.descriptor_read.specs.Values.{RowAnswer, found, missing, rowAt, rowIn, valueSize, lies, refusal, placeOf, valueIn}
 use Rattle.descriptor_read.specs.scaffold.Values.{is, refused, extentOf}
-use Rattle.descriptor_read.proofs.Table.{length-putRow, three, not-yet, no-room}
 
 -- ---- the verdict's case
-
-pub accepted-rows : (m : Res (List Row)) (n : ℕ) → accepted n ≡ verdict m → (rs : List Row) × (q : ℕ) × (m ≡ ok rs q) × (n ≡ length rs)
-accepted-rows (ok rs q) n e = (rs, q, refl, cc)
-accepted-rows (refuse x p r f) n e = let z : _≡_ {A = ℕ} 0 1 = cc in absurd (omega arith)
 
 pub refused-by : (m : Res (List Row)) (x p : ℕ) → refusedIn x p ≡ verdict m → (r : ℕ) × (f : ℕ) × (m ≡ refuse x p r f)
 refused-by (ok rs q) x p e = let z : _≡_ {A = ℕ} 0 1 = cc in absurd (omega arith)
 refused-by (refuse y q r f) x p e = let a : y ≡ x = cc in let b : q ≡ p = cc in (r, f, cc)
-
--- ---- the row that is left in a table of three numbers
-
-others-none : (rs : List Row) (t : List ℕ) (j k : ℕ) → k < j → length t < 5 → putRows k t j rs ≡ t
-others-none [] t j k h l = refl
-others-none (r ∷ rs) t j k h l =
-    let e : t ≡ putRow k t j r = no-room k t j r h (omega arith) in
-    ap (λ (u : List ℕ). putRows k u (j + 1) rs) (sym e) ∙ others-none rs t (j + 1) k (omega arith) l
-
--- the row i of those from the number j on
-found-row : (rs : List Row) (x y z j i k : ℕ) → k ≡ j + i → i < length rs → (r : Row) × (rowAt i rs ≡ found r) × (putRows k (x ∷ y ∷ z ∷ []) j rs ≡ extent r)
-found-row [] x y z j i k h l = absurd (omega arith)
-found-row (r ∷ rs) x y z j zero k h l =
-    let t : List ℕ = x ∷ y ∷ z ∷ [] in
-    let w : extent r ≡ putRow k t j r = three k t j r (omega arith) (omega arith) (omega arith) (valueSize r) refl in
-    (r, refl, others-none rs (putRow k t j r) (j + 1) k (omega arith) (omega (arith, length-putRow k t j r)) ∙ sym w)
-found-row (r ∷ rs) x y z j (suc i) k h l =
-    let t : List ℕ = x ∷ y ∷ z ∷ [] in
-    let e : t ≡ putRow k t j r = not-yet k t j r (omega arith) in
-    let ih = found-row rs x y z (j + 1) i k (omega arith) (omega arith) in
-    (ih .0, ih .1, ap (λ (u : List ℕ). putRows k u (j + 1) rs) (sym e) ∙ ih .2)
-
-no-row : (rs : List Row) (k : ℕ) → length rs ≤ k → rowAt k rs ≡ missing 12 0
-no-row [] k h = refl
-no-row (r ∷ rs) zero h = absurd (omega arith)
-no-row (r ∷ rs) (suc k) h = no-row rs k (omega arith)
 
 -- ---- what is answered
 
 module _ (s : List ℕ) (k : ℕ) where
   pub row-refused : (x p : ℕ) → refusedIn x p ≡ verdict (descriptor s) → rowIn k (descriptor s) ≡ missing x p
   row-refused x p e = ap (rowIn k) (refused-by (descriptor s) x p e .2)
-
-  module _ (n : ℕ) (e : accepted n ≡ verdict (descriptor s)) where
-    pub row-past : n ≤ k → rowIn k (descriptor s) ≡ missing 12 0
-    row-past h = let m = accepted-rows (descriptor s) n e in ap (rowIn k) (m .2) ∙ no-row (m .0) k (omega (arith, m .3))
-
-    -- the file is within the limit, as the second reading asks
-    pub within : length s ≤ limit
-    within = let m = accepted-rows (descriptor s) n e in of-root s (m .0) (m .1) (m .2) .0
-
-    pub row-small : n * 5 ≤ length s
-    row-small =
-        let m = accepted-rows (descriptor s) n e in
-        let b : 0 + 5 * length (m .0) ≤ length s = five-each (rows-laid s (m .0) (m .1) (m .2) .tiled) in
-        omega (arith, m .3)
-
-    pub row-found : k < n → (w : NextRow) (u : List ℕ) → Done w k (0 ∷ 0 ∷ 0 ∷ []) u 0 (root s 0)
-        → (a b : ℕ) → a ≡ getD u 1 0 → b ≡ getD u 2 0 → is (getD u 0 0) a b ≡ extentOf (rowIn k (descriptor s))
-    row-found h w u d a b x y =
-        let m = accepted-rows (descriptor s) n e in
-        let t = of-root s (m .0) (m .1) (m .2) in
-        let z : k ≡ 0 + k = omega arith in
-        let f = found-row (m .0) 0 0 0 0 k k z (omega (arith, m .3)) in
-        let v : u ≡ extent (f .0) = d .rows (m .0) (m .1) (t .1) ∙ f .2 in
-        ap (λ (i : ℕ). is (getD u 0 0) i b) x ∙ ap (λ (i : ℕ). is (getD u 0 0) (getD u 1 0) i) y ∙ ap (λ (l : List ℕ). is (getD l 0 0) (getD l 1 0) (getD l 2 0)) v
-        ∙ sym (ap extentOf (ap (rowIn k) (m .2) ∙ f .1))
 
 -- ---- a value lies in its file
 
