@@ -1,6 +1,6 @@
 //! The rules of the name index, each with its answer written out.
 
-use generate::acb::{Book, Colour, P10, P8};
+use generate::acb::{Book, Colour, IndexChange, P10, P8};
 use generate::Random;
 use reference::acb::{find, index, judge};
 use reference::Refusal;
@@ -135,5 +135,30 @@ fn no_other_order_is_taken() {
             };
             assert_eq!(found, wanted, "{names:?} {entries:?}");
         }
+    }
+}
+
+/// Books whose names are hard to tell apart, by what they were laid out from.
+#[test]
+fn made_up_books_are_searched() {
+    for seed in 0..4_000 {
+        let mut random = Random::new(seed);
+        let book = Book::of_pickers(&mut random);
+        let (file, right) = (book.file(), book.index());
+        assert_eq!(index_of(&book), right, "seed {seed}");
+        let name = book.looked_for(&mut random);
+        let mut entries = right.clone();
+        if random.one_in(2) {
+            let change = random.pick(&IndexChange::ALL);
+            change.change(&mut entries, book.colours.len(), &mut random);
+        }
+        let named = |colour: &Colour| !name.is_empty() && colour.name == name;
+        let first = book.colours.iter().position(named);
+        let wanted = if entries.starts_with(&right) {
+            first.map_or(refused(12, 0), Ok)
+        } else {
+            refused(5, 0)
+        };
+        assert_eq!(find(&file, &entries, &name), wanted, "seed {seed}");
     }
 }

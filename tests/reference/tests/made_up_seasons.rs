@@ -87,7 +87,10 @@ fn pairs_are_what_they_were_laid_out_as() {
                 said(second.kind(), &second_file),
                 &mut table,
             );
-            assert_eq!(compared.map(|compared| compared.positions), Ok(wanted.len()));
+            assert_eq!(
+                compared.map(|compared| compared.positions),
+                Ok(wanted.len())
+            );
             let found: Vec<u32> = table.iter().skip(1).step_by(2).copied().collect();
             assert_eq!(found, wanted, "seed {seed}");
             let kinds = first.kind() != second.kind();

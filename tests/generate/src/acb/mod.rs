@@ -3,6 +3,7 @@
 mod book;
 mod damage;
 mod fixed;
+mod pickers;
 mod records;
 
 pub use book::{components, Book, Colour, Layout};
@@ -11,6 +12,7 @@ pub use fixed::{
     fixed_files, fixed_strings, Answer, Fixed, FixedString, ANPA, ANPA_FULL_NAME, ANPA_LISTING,
     P10, P10_PAGES, P8, P8_SHOWN, P9, P9_SHOWN,
 };
+pub use pickers::IndexChange;
 pub use records::{Header, Lot, LotDamage};
 
 const RGB: u16 = 0;
