@@ -11,7 +11,7 @@ use Rattle.descriptor.specs.Tiles.{Tiled, none, one}
 use Rattle.descriptor.proofs.Tiling.{five-each}
 use Rattle.descriptor.proofs.Rows.{of-root, rows-laid}
 use Rattle.descriptor_judge.specs.Answer.{refused as refusedIn, verdict}
-use Rattle.descriptor_read.specs.Values.{RowAnswer, found, missing, rowAt, rowIn, valueSize, lies, refusal, placeOf, valueIn}
+use Rattle.descriptor_read.specs.Values.{RowAnswer, found, missing, rowAt, rowIn, valueSize, span, refusal, placeOf, valueIn}
 use Rattle.descriptor_read.specs.scaffold.Values.{is, refused, extentOf}
 
 -- ---- the verdict's case
@@ -78,10 +78,10 @@ module _ (s : List ℕ) (k : ℕ) where
   part-no x p e = ap (valueIn s) (extent-no (rowIn k (descriptor s)) x p e)
 
   module _ (t v n : ℕ) (e : is t v n ≡ extentOf (rowIn k (descriptor s))) where
-    pub place-is : lies v n ≡ placeOf (rowIn k (descriptor s))
+    pub place-is : span v n ≡ placeOf (rowIn k (descriptor s))
     place-is =
         let x = extent-is (rowIn k (descriptor s)) t v n e in
-        ap (λ (a : ℕ). lies a n) (x .3) ∙ ap (λ (a : ℕ). lies (x .0 .value) a) (x .4) ∙ sym (ap placeOf (x .1))
+        ap (λ (a : ℕ). span a n) (x .3) ∙ ap (λ (a : ℕ). span (x .0 .value) a) (x .4) ∙ sym (ap placeOf (x .1))
 
     pub part-inside : v + n ≤ length s
     part-inside =

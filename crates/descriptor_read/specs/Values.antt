@@ -31,15 +31,15 @@ valueSize r = r .first + r .size - r .value
 
 -- its first byte and its length, or a refusal's number and place
 pub data Place : Type 0 where
-  lies : ℕ → ℕ → Place
+  span : ℕ → ℕ → Place
   refusal : ℕ → ℕ → Place
 
 abbrev pub placeOf : RowAnswer → Place
-placeOf (found r) = lies (r .value) (valueSize r)
+placeOf (found r) = span (r .value) (valueSize r)
 placeOf (missing x p) = refusal x p
 
 abbrev pub toldValue : ValueAt → Place
-toldValue (vv.Is v n) = lies v n
+toldValue (vv.Is v n) = span v n
 toldValue (vv.Refused x p) = refusal x p
 
 -- the bytes of a value; none where there is no row

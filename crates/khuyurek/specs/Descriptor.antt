@@ -5,7 +5,7 @@ use mathlib.Core.Bool.{Bool, true, false}
 use lib.Ieee.{binary64, toBits}
 use Rattle.algebra.specs.Chars.{chars}
 use Rattle.descriptor_judge.specs.Answer.{Verdict, accepted, refused}
-use Rattle.descriptor_read.specs.Values.{Place, lies, refusal}
+use Rattle.descriptor_read.specs.Values.{Place, span, refusal}
 use Rattle.descriptor_read.specs.declared.Typed.{Typed}
 use Rattle.descriptor_read.specs.declared.Typed.the-variants as vt
 use Rattle.khuyurek.specs.declared.columns.Parents.{Parents}
@@ -29,7 +29,7 @@ abbrev pub parentedOf : Verdict × List ℕ → Parents × List ℕ
 parentedOf v = (parentsOf (v .0), v .1)
 
 abbrev pub valueOf : Place → DescriptorValue
-valueOf (lies v n) = record { number = 0; place = 0; first = v; size = n }
+valueOf (span v n) = record { number = 0; place = 0; first = v; size = n }
 valueOf (refusal x p) = record { number = x; place = p; first = 0; size = 0 }
 
 -- ---- values by their kind
