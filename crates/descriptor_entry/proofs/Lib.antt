@@ -1,0 +1,10 @@
+pub mod Laws
+pub mod Meeting
+pub mod Fields
+pub mod Suited
+pub mod Headed
+pub mod Members
+pub mod Whole
+pub mod Faultless
+pub mod RoundTrip
+pub mod Tables
