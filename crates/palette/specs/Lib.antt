@@ -1,0 +1,4 @@
+pub mod Palette
+pub mod Step
+pub mod Answer
+pub mod scaffold

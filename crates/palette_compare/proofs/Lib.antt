@@ -1,0 +1,5 @@
+pub mod Same
+pub mod Laws
+pub mod Both
+pub mod Whole
+pub mod Theorems
