@@ -57,8 +57,8 @@ fn put_end(size: &mut [u32], next: &mut [u32], row: usize, bytes: usize, sibling
     next[row] = sibling as u32;
 }
 
-// The next sibling of a row at whose level so many members are left.
-fn sibling(left: u32, row: usize, rows: usize) -> usize
+// The next sibling of a row at whose level so many members are left, in a file of so many rows.
+pub fn sibling(left: u32, row: usize, rows: usize) -> usize
     ensures { λ r. ⌜ r ≡ pick (eqb left 0) rows row ⌝ }
 {
     if left == 0 {
@@ -178,7 +178,7 @@ fn fill_all(
 }
 
 // Whether there is room for so many rows in each run.
-fn is_room(
+pub fn is_room(
     first: &[u32],
     size: &[u32],
     next: &[u32],

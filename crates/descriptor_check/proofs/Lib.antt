@@ -1,0 +1,4 @@
+pub mod Decided
+pub mod Begun
+pub mod Turns
+pub mod Checking
