@@ -8,7 +8,7 @@ use crate::colour::{
     is_sound, judge_colour, COLOUR_LEN, FIELD_LEN, MAX_COLOURS, NAME_COUNT_LEN, VERSION_ONE,
     VERSION_TWO,
 };
-use crate::name::{bytes_of, holds_zero_unit, UNIT_LEN};
+use crate::name::{bytes_of, holds_zero_unit, is_closed, UNIT_LEN};
 use crate::reader::{first_difference, Accepted, COUNT_FIELD};
 use crate::refusal::{number, Refusal};
 use crate::LIMIT;
@@ -175,14 +175,27 @@ impl Stream {
             Due::Units(units) => self.take_units(units, chunk),
             Due::Colour(index) if self.kept_len == 0 => {
                 let rest = self.take_colours(index, store, chunk);
-                if rest.len() == chunk.len() {
-                    self.take_field(store, chunk)
-                } else {
-                    rest
-                }
+                self.take_field_unless(rest, store, chunk)
+            }
+            Due::Twin(index) if self.kept_len == 0 => {
+                let rest = self.take_records(index, store, chunk);
+                self.take_field_unless(rest, store, chunk)
             }
             _ => self.take_field(store, chunk),
         }
+    }
+
+    /// What taking at once left of a chunk; where it took nothing, a field is taken.
+    fn take_field_unless<'a>(
+        &mut self,
+        rest: &'a [u8],
+        store: &mut [u8],
+        chunk: &'a [u8],
+    ) -> &'a [u8] {
+        if rest.len() < chunk.len() {
+            return rest;
+        }
+        self.take_field(store, chunk)
     }
 
     /// The colours at the chunk's start that are whole and sound, all at once.
@@ -194,6 +207,23 @@ impl Stream {
         store[index * COLOUR_LEN..][..taken.len()].copy_from_slice(taken);
         self.place += taken.len();
         self.due = self.colour_or_list_two(index + sound);
+        rest
+    }
+
+    /// The records of list 2 at the chunk's start that are whole and sound, all at once.
+    fn take_records<'a>(&mut self, index: usize, store: &[u8], chunk: &'a [u8]) -> &'a [u8] {
+        let (colours, _) = store[..self.colours * COLOUR_LEN].as_chunks();
+        let mut rest = chunk;
+        let mut next = index;
+        for colour in &colours[index..] {
+            let Some(behind) = behind_record(colour, rest) else {
+                break;
+            };
+            rest = behind;
+            next += 1;
+        }
+        self.place += chunk.len() - rest.len();
+        self.due = self.twin_or_end(next);
         rest
     }
 
@@ -324,6 +354,19 @@ impl Stream {
             Due::End
         }
     }
+}
+
+/// What is behind a record of list 2, where all of it is there and nothing is wrong.
+#[inline(always)]
+fn behind_record<'a>(colour: &[u8; COLOUR_LEN], bytes: &'a [u8]) -> Option<&'a [u8]> {
+    let (twin, bytes) = bytes.split_first_chunk()?;
+    let (count, bytes) = bytes.split_first_chunk()?;
+    let len = bytes_of(u32::from_be_bytes(*count));
+    if twin != colour || len == 0 || len > bytes.len() as u64 {
+        return None;
+    }
+    let (body, behind) = bytes.split_at(len as usize);
+    is_closed(body).then_some(behind)
 }
 
 /// A colour of list 1 as the store has it.
