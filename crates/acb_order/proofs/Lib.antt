@@ -1,0 +1,4 @@
+pub mod Names
+pub mod Index
+pub mod Files
+pub mod Theorems
