@@ -60,6 +60,18 @@ extern "C" {
 /* The longest file that is taken or written, in bytes: a longer one is 1. */
 #define KHUYUREK_LIMIT 16777216u
 
+/* Counted up at every change of a struct or of a record's numbers; docs/CHANGES.md
+ * says what changed. */
+#define KHUYUREK_VERSION 2
+
+/* The inks of a record: to which station of the press a colour goes. An ASE file
+ * states one of the first three. */
+#define KHUYUREK_INK_GLOBAL 0
+#define KHUYUREK_INK_SPOT 1
+#define KHUYUREK_INK_NORMAL 2
+#define KHUYUREK_INK_PROCESS 3
+#define KHUYUREK_INK_NOT_STATED 4
+
 /* What a writer answers. number 0: accepted, with the length in bytes. Else the
  * refusal; its place is 0. */
 typedef struct {
@@ -198,8 +210,9 @@ khuyurek_aco_finished khuyurek_aco_stream_finish(khuyurek_aco_stream stream,
 
 /* The numbers of a record in a table or run: the block's type, place of the name's
  * first unit in the file or text, number of its units (as for ACO), model, bits of
- * four channels, colour type (0 global, 1 spot, 2 normal). A reader fills places that
- * a record does not use with 0; a writer ignores them. */
+ * four channels, ink (that of a colour, which is its type in the file: global, spot or
+ * normal). A reader fills places that a record does not use with 0; a writer ignores
+ * them. */
 #define KHUYUREK_ASE_WIDTH 9
 
 /* The types of a block. */
@@ -226,7 +239,7 @@ typedef struct {
     uint32_t units;
     uint32_t model;
     uint32_t channels[4];
-    uint32_t type;
+    uint32_t ink;
 } khuyurek_ase_record;
 
 khuyurek_ase_answer khuyurek_ase_judge(const uint8_t *file, size_t file_len);
@@ -563,7 +576,7 @@ typedef struct {
     size_t name;
     uint32_t model;
     uint32_t channels[4];
-    uint32_t type;
+    uint32_t ink;
 } khuyurek_ase_step;
 
 khuyurek_ase_start khuyurek_ase_walk_start(const uint8_t *file, size_t file_len);

@@ -134,7 +134,7 @@ static int ase(void) {
 
     khuyurek_ase_record record = khuyurek_ase_record_at(P6, sizeof P6, 0);
     CHECK(record.number == 0 && record.block == 1 && record.name == 20 && record.units == 0);
-    CHECK(record.model == GRAY_MODEL && record.channels[0] == ONE && record.type == 2);
+    CHECK(record.model == GRAY_MODEL && record.channels[0] == ONE && record.ink == KHUYUREK_INK_NORMAL);
     CHECK(khuyurek_ase_record_at(P6, sizeof P6, 1).number == KHUYUREK_NO_RECORD);
 
     CHECK(khuyurek_ase_length(table, KHUYUREK_ASE_WIDTH, P6, sizeof P6).length == sizeof P6);
@@ -309,7 +309,7 @@ static int walks(void) {
     khuyurek_ase_step colour = khuyurek_ase_walk(P6, sizeof P6, ase.at);
     CHECK(colour.number == 0 && colour.done == 0 && colour.next == sizeof P6);
     CHECK(colour.block == KHUYUREK_ASE_COLOUR && colour.name == 20 && colour.units == 0);
-    CHECK(colour.model == KHUYUREK_GRAY && colour.channels[0] == ONE && colour.type == 2);
+    CHECK(colour.model == KHUYUREK_GRAY && colour.channels[0] == ONE && colour.ink == KHUYUREK_INK_NORMAL);
     CHECK(khuyurek_ase_walk(P6, sizeof P6, colour.next).done == 1);
     khuyurek_ase_step block = khuyurek_ase_walk_block(P6, sizeof P6, ase.at);
     CHECK(block.block == KHUYUREK_ASE_COLOUR && block.next == sizeof P6);

@@ -2,7 +2,7 @@
 
 use crate::raw::ase as raw;
 use crate::text::{exact, length, Text};
-use crate::{Model, Refusal, Units};
+use crate::{Ink, Model, Refusal, Units};
 
 /// How many numbers a record has in a table.
 pub const WIDTH: usize = 9;
@@ -38,8 +38,8 @@ pub struct Colour<'a> {
     pub name: Units<'a>,
     /// The channels by their model.
     pub channels: Channels,
-    /// How the colour is used.
-    pub colour_type: ColourType,
+    /// Its ink: global, spot or normal in a file.
+    pub ink: Ink,
 }
 
 /// Channels by their model: from 0 to 1, save in Lab.
@@ -53,17 +53,6 @@ pub enum Channels {
     Lab([f32; 3]),
     /// Gray.
     Gray(f32),
-}
-
-/// How a colour is used.
-#[derive(Clone, Copy, Debug, PartialEq, Eq, Hash)]
-pub enum ColourType {
-    /// A change of it changes all that use it.
-    Global,
-    /// An ink of its own.
-    Spot,
-    /// Neither.
-    Normal,
 }
 
 /// The blocks of an accepted file, in a table of the exact length.
@@ -91,7 +80,7 @@ pub fn record_at(file: &[u8], index: usize) -> Result<Block<'_>, Refusal> {
     let r = raw::record(file, index);
     Refusal::unless(r.number, r.place)?;
     let name = Units::lying(file, r.name, r.units);
-    Ok(block(r.block, name, r.model, r.channels, r.colour_type))
+    Ok(block(r.block, name, r.model, r.channels, r.ink))
 }
 
 fn counts(answer: raw::Answer) -> Result<Counts, Refusal> {
@@ -103,14 +92,14 @@ fn counts(answer: raw::Answer) -> Result<Counts, Refusal> {
 }
 
 /// An accepted block by its numbers.
-fn block(kind: u32, name: Units<'_>, model: u32, bits: [u32; 4], colour_type: u32) -> Block<'_> {
+fn block(kind: u32, name: Units<'_>, model: u32, bits: [u32; 4], ink: u32) -> Block<'_> {
     match kind {
         START => Block::Start(name),
         STOP => Block::Stop,
         COLOUR => Block::Colour(Colour {
             name,
             channels: Channels::from_bits(Model::known(model), bits),
-            colour_type: ColourType::known(colour_type),
+            ink: Ink::known(ink),
         }),
         _ => unreachable!("an accepted block has a known type"),
     }
@@ -152,26 +141,6 @@ impl Channels {
             *bits = value.to_bits();
         }
         bits
-    }
-}
-
-impl ColourType {
-    /// Its number in a file.
-    pub fn number(self) -> u16 {
-        match self {
-            ColourType::Global => 0,
-            ColourType::Spot => 1,
-            ColourType::Normal => 2,
-        }
-    }
-
-    fn known(number: u32) -> ColourType {
-        match number {
-            0 => ColourType::Global,
-            1 => ColourType::Spot,
-            2 => ColourType::Normal,
-            _ => unreachable!("an accepted colour has a known type"),
-        }
     }
 }
 
@@ -251,7 +220,7 @@ fn laid_out(blocks: &[Block<'_>]) -> (Vec<u32>, Vec<u8>) {
                 numbers.extend(text.add(colour.name));
                 numbers.push(colour.channels.model().tag());
                 numbers.extend(colour.channels.bits());
-                numbers.push(colour.colour_type.number().into());
+                numbers.push(colour.ink.number());
             }
         }
     }
@@ -299,7 +268,7 @@ fn stepped(file: &[u8], step: raw::Step) -> Result<Option<(Block<'_>, usize)>, R
         name,
         step.model,
         step.channels,
-        step.colour_type,
+        step.ink,
     );
     Ok(Some((block, step.next)))
 }

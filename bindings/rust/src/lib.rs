@@ -6,7 +6,7 @@
 //! counterpart:
 //!
 //! ```
-//! use khuyurek::{aco, ase, to_channel, Refusal, Space};
+//! use khuyurek::{aco, ase, to_channel, Ink, Refusal, Space};
 //!
 //! fn to_ase(file: &[u8]) -> Result<Vec<u8>, Refusal> {
 //!     let mut blocks = Vec::new();
@@ -21,8 +21,9 @@
 //!             _ => ase::Channels::Rgb([channel(0)?, channel(1)?, channel(2)?]),
 //!         };
 //!         let name = swatch.name;
-//!         let colour_type = ase::ColourType::Global;
-//!         blocks.push(ase::Block::Colour(ase::Colour { name, channels, colour_type }));
+//!         // An ACO file does not state an ink, and an ASE file must.
+//!         let ink = Ink::Global;
+//!         blocks.push(ase::Block::Colour(ase::Colour { name, channels, ink }));
 //!     }
 //!     ase::write(&blocks)
 //! }
@@ -46,6 +47,7 @@ pub mod aco;
 pub mod ase;
 mod convert;
 pub mod descriptor;
+mod ink;
 mod refusal;
 pub mod resource;
 mod space;
@@ -54,6 +56,7 @@ mod text;
 mod units;
 
 pub use convert::{to_channel, to_channels, to_sample, to_samples};
+pub use ink::Ink;
 pub use khuyurek_sys as raw;
 pub use refusal::Refusal;
 pub use space::{Model, Space};

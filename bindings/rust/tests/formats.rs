@@ -6,8 +6,8 @@ use std::path::Path;
 
 use khuyurek::descriptor::{self, Tag, Value};
 use khuyurek::{
-    acb, aco, ase, stream, to_channel, to_channels, to_sample, to_samples, Model, Refusal, Space,
-    Units,
+    acb, aco, ase, stream, to_channel, to_channels, to_sample, to_samples, Ink, Model, Refusal,
+    Space, Units,
 };
 
 const P2: [u8; 4] = [0, 1, 0, 0];
@@ -206,7 +206,7 @@ fn ase_is_read() {
     let gray = ase::Block::Colour(ase::Colour {
         name: Units::default(),
         channels: ase::Channels::Gray(1.0),
-        colour_type: ase::ColourType::Normal,
+        ink: Ink::Normal,
     });
     assert!(ase::read(&P5).unwrap().is_empty());
     let palette = ase::read(&P6).unwrap();
@@ -262,7 +262,7 @@ fn ase_is_written() {
         ase::Block::Colour(ase::Colour {
             name: Units::default(),
             channels: ase::Channels::Gray(channel),
-            colour_type: ase::ColourType::Spot,
+            ink: Ink::Spot,
         })
     };
     assert_eq!(ase::write(&[gray(f32::NAN)]), Err(refusal(5, 0)));

@@ -27,14 +27,12 @@ type Structs = BTreeMap<String, Type>;
 
 /// Names of the library's source, and what they are called outside of it: some
 /// are words of the language there, or here.
-const RENAMED: [(&str, &str); 7] = [
+const RENAMED: [(&str, &str); 5] = [
     ("rec", "record"),
     ("i", "index"),
     ("size", "length"),
     ("size", "page_size"),
     ("offset", "page_offset"),
-    ("kind", "type"),
-    ("kind", "colour_type"),
 ];
 
 #[test]

@@ -17,7 +17,7 @@ use Rattle.colour.specs.Models.{isModel, channelsOf}
 use Rattle.colour.specs.Channels.{allowsBits}
 use Rattle.ase.specs.Grammar.{Block, groupStart, groupEnd, colour, other, Channel, Colour, Allowed, Nested}
 use Rattle.ase.specs.Reading.{deepest, openAfter}
-use Rattle.ase.specs.Faults.{nameFault, channelFault, colourFault, blockFault, blocksFault, paletteFault, NameFits, ColourFits, BlockFits}
+use Rattle.ase.specs.Faults.{nameFault, channelFault, typeFault, colourFault, blockFault, blocksFault, paletteFault, NameFits, ColourFits, BlockFits}
 use Rattle.ase.proofs.Tables.{model-known, model-count, known-model, model-small, channel-allowed, allowed-channel, channel-small}
 use Rattle.ase.proofs.Laws.{Steps}
 use Rattle.ase.proofs.Blocks.{nested-steps, steps-nested}
@@ -34,14 +34,14 @@ colour-sound : (us : List ℕ) (t : ℕ) (bs : List ℕ) (k : ℕ) → ColourFit
 unfolding colourFault
 colour-sound us t bs k f n e =
     let g : ℕ → ℕ → ℕ = λ i. channelFault t in
-    let b = first-inv (pick (isModel t) 0 4) (firstOf (faultsFrom g 0 bs) (pick (leb k 2) 0 5)) e in
-    let c = first-inv (faultsFrom g 0 bs) (pick (leb k 2) 0 5) (b .1) in record {
+    let b = first-inv (pick (isModel t) 0 4) (firstOf (faultsFrom g 0 bs) (typeFault k)) e in
+    let c = first-inv (faultsFrom g 0 bs) (typeFault k) (b .1) in record {
       count = channelsOf t;
       model = known-model t (pick-none (isModel t) 4 (omega arith) (b .0));
       all = f .all;
       channels = all-map (λ i v. (v < 256 ^ 4) × (channelFault t v ≡ 0)) (λ i v. Channel t v) (λ i v h. allowed-channel t v (h .0) (pick-none (allowsBits t v) 5 (omega arith) (h .1))) 0 bs
           (all-both (λ i v. v < 256 ^ 4) (λ i v. channelFault t v ≡ 0) 0 bs (f .channels) (faults-inv g 0 bs (c .0)));
-      type = leb-true k 2 (pick-none (leb k 2) 5 (omega arith) (c .1));
+      type = omega (arith, leb-true k 4 (pick-none (leb k 4) 5 (omega arith) (c .1)), f .no-process, f .no-unstated);
       name = name-sound us (f .name) n;
     }
 
@@ -78,8 +78,8 @@ colour-content-complete us t bs k a =
     let g : ℕ → ℕ → ℕ = λ i. channelFault t in
     let known : isModel t ≡ true = model-known (a .model) in
     let c : faultsFrom g 0 bs ≡ 0 = faults-none g 0 bs (all-map (λ i v. Channel t v) (λ i v. channelFault t v ≡ 0) (λ i v h. ap (λ (b : Bool). pick b 0 5) (channel-allowed known h)) 0 bs (a .channels)) in
-    first-none (pick (isModel t) 0 4) (firstOf (faultsFrom g 0 bs) (pick (leb k 2) 0 5)) (ap (λ (b : Bool). pick b 0 4) known)
-    ∙ first-none (faultsFrom g 0 bs) (pick (leb k 2) 0 5) c ∙ ap (λ (b : Bool). pick b 0 5) (le-leb k 2 (a .type))
+    first-none (pick (isModel t) 0 4) (firstOf (faultsFrom g 0 bs) (typeFault k)) (ap (λ (b : Bool). pick b 0 4) known)
+    ∙ first-none (faultsFrom g 0 bs) (typeFault k) c ∙ ap (λ (b : Bool). pick b 0 5) (le-leb k 4 (omega (arith, a .type)))
 
 block-complete : (d : ℕ) (b : Block) → Allowed b → Steps d b → blockFault 0 d b ≡ 0
 unfolding blockFault
@@ -113,4 +113,6 @@ allowed-fits (colour us t bs k) a = record {
   all = a .all ∙ sym (model-count (a .model));
   channels = all-map (λ i v. Channel t v) (λ i v. v < 256 ^ 4) (λ i v h. channel-small h) 0 bs (a .channels);
   type = omega (arith, a .type);
+  no-process = λ e. omega (arith, a .type);
+  no-unstated = λ e. omega (arith, a .type);
 }

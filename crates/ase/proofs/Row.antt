@@ -22,7 +22,7 @@ four-same (a ∷ b ∷ c ∷ d ∷ x ∷ bs) e = absurd (omega arith)
 
 -- a record of four channels is the one that its row gives
 pub taken-back : (g : RecordRow) → length (g .channels) ≡ 4 → taken (numbers g) ≡ g
-taken-back g e = ap (λ (bs : List ℕ). record { block = g .block; first = g .first; units = g .units; model = g .model; channels = bs; type = g .type }) (four-same (g .channels) e)
+taken-back g e = ap (λ (bs : List ℕ). record { block = g .block; first = g .first; units = g .units; model = g .model; channels = bs; ink = g .ink }) (four-same (g .channels) e)
 
 -- and the one record of a run that is its row
 pub row-back : (g : RecordRow) → length (g .channels) ≡ 4 → getD (whole width taken (numbers g)) 0 noRecord ≡ g

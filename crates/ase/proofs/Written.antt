@@ -1,12 +1,13 @@
 -- Of blocks that were written, the reader's number is their own first fault. Assumes nothing.
-use Prim.Native.Nat.{ℕ, _+_, _^_, _≤_, _<_}
+use Prim.Native.Nat.{ℕ, _+_, _-_, _^_, _≤_, _<_}
 use mathlib.Core.Path.{_≡_, refl, sym, ap, ap₂, _∙_, subst}
 use mathlib.Core.List.{List, [], _∷_, _++_, map}
 use mathlib.Core.Bool.{Bool, true, false}
 use lib.Dec.{leb, ltb, eqb}
 use lib.ListN.{length, length-append, take}
-use borrow.Author.Tests.{eq-eqb, ne-eqb}
+use borrow.Author.Tests.{eq-eqb, ne-eqb, le-leb, lt-leb}
 use native.Mathlib.Omega.{arith}
+use native.Mathlib.Decide.{ℕ-discrete}
 use native.Mathlib.Nat.{add-zero}
 use Rattle.algebra.specs.Numbers.{be, joined, At, Bytes, All, AllIn}
 use Rattle.algebra.specs.Reader.{Res, ok, refuse, then, pick, rule, unless, judged, each, numberOf, stateAfter, chain, ended}
@@ -21,7 +22,7 @@ use Rattle.colour.specs.Models.{isModel, channelsOf}
 use Rattle.colour.specs.Channels.{allowsBits}
 use Rattle.ase.specs.Grammar.{Block, groupStart, groupEnd, colour, other, typeOf, payload, blockBytes}
 use Rattle.ase.specs.Reading.{Entry, groupStartRead, groupEndRead, colourRead, blockOf, groupContent, model, channel, type, colourContent, inside, within, content, block, openAfter, openAfterEntry, heading, blocks, palette}
-use Rattle.ase.specs.Faults.{nameFault, channelFault, colourFault, blockFault, blocksFault, paletteFault, NameFits, ColourFits, BlockFits}
+use Rattle.ase.specs.Faults.{nameFault, channelFault, typeFault, colourFault, blockFault, blocksFault, paletteFault, NameFits, ColourFits, BlockFits}
 use Rattle.ase.proofs.Payload.{at-cut, inside-ok}
 use Rattle.ase.proofs.Turns.{unknown-stops}
 use Rattle.ase.proofs.Laws.{Typed, length-block, block-passes, block-reads}
@@ -47,21 +48,29 @@ module _ (s : List ℕ) where
   channels-gives t = each-gives {p = λ i. judged 4 (channel t)} {Fits = λ i b. b < 256 ^ 4} (λ i. judged-gives s 4 (channel t)) (channelsOf t) 0
 
   module _ (us : List ℕ) (t : ℕ) (bs : List ℕ) (k : ℕ) (f : ColourFits us t bs k) where
+    -- what the reader refuses is no ink, since process and not stated are left out
+    typed : leb k 2 ≡ leb k 4
+    typed = elim (ℕ-discrete (k - 2) 0) [
+      | yes z ↦ le-leb k 2 (omega arith) ∙ sym (le-leb k 4 (omega arith))
+      | no z ↦ lt-leb k 2 (omega arith) ∙ sym (lt-leb k 4 (omega (arith, f .no-process, f .no-unstated)))
+    ]
+
     -- the type, and the colour that is given
-    type-outcome : (mk : ℕ → Entry) (at : ℕ) → At s at (be 2 k) → Outcome (then (judged 2 type s at) (λ v q. ok (mk v) q)) (pick (leb k 2) 0 5) (at + length (be 2 k))
+    type-outcome : (mk : ℕ → Entry) (at : ℕ) → At s at (be 2 k) → Outcome (then (judged 2 type s at) (λ v q. ok (mk v) q)) (typeFault k) (at + length (be 2 k))
     type-outcome mk at h =
         let end : ℕ = at + length (be 2 k) in
-        outcome-fault _ _ _ end (first-zero (pick (leb k 2) 0 5))
-        (outcome-then (judged 2 type s at) (λ v q. ok (mk v) q) (pick (leb k 2) 0 5) 0 end end (outcome (unless-tells s 2 (λ v. leb v 2) 5 (omega arith)) at k (f .type) h) (λ v e. good (mk v) refl refl))
+        subst (λ (b : Bool). Outcome (then (judged 2 type s at) (λ v q. ok (mk v) q)) (pick b 0 5) end) typed
+        (outcome-fault _ _ _ end (first-zero (pick (leb k 2) 0 5))
+        (outcome-then (judged 2 type s at) (λ v q. ok (mk v) q) (pick (leb k 2) 0 5) 0 end end (outcome (unless-tells s 2 (λ v. leb v 2) 5 (omega arith)) at k (f .type) h) (λ v e. good (mk v) refl refl)))
 
     -- the channels before it
     channels-outcome : (mk : List ℕ → ℕ → Entry) (at : ℕ) → At s at (joined (be 4) bs ++ be 2 k)
-        → Outcome (then (each (channelsOf t) 0 (λ i. judged 4 (channel t)) s at) (λ vs q. then (judged 2 type s q) (λ v r. ok (mk vs v) r))) (firstOf (faultsFrom (λ i. channelFault t) 0 bs) (pick (leb k 2) 0 5)) (at + length (joined (be 4) bs ++ be 2 k))
+        → Outcome (then (each (channelsOf t) 0 (λ i. judged 4 (channel t)) s at) (λ vs q. then (judged 2 type s q) (λ v r. ok (mk vs v) r))) (firstOf (faultsFrom (λ i. channelFault t) 0 bs) (typeFault k)) (at + length (joined (be 4) bs ++ be 2 k))
     channels-outcome mk at h =
         let c : List ℕ = joined (be 4) bs in
         let mid : ℕ = at + length c in
         let l : mid + length (be 2 k) ≡ at + length (c ++ be 2 k) = omega (arith, length-append c (be 2 k)) in
-        let g : ℕ = pick (leb k 2) 0 5 in
+        let g : ℕ = typeFault k in
         outcome-then (each (channelsOf t) 0 (λ i. judged 4 (channel t)) s at) (λ vs q. then (judged 2 type s q) (λ v r. ok (mk vs v) r)) (faultsFrom (λ i. channelFault t) 0 bs) g mid (at + length (c ++ be 2 k))
         (outcome (channels-tells t) at bs (f .all, f .channels) (at-left s at c (be 2 k) h))
         (λ vs e. subst (λ (z : ℕ). Outcome (then (judged 2 type s mid) (λ v r. ok (mk vs v) r)) g z) l (type-outcome (mk vs) mid (at-right s at c (be 2 k) h)))
@@ -76,7 +85,7 @@ module _ (s : List ℕ) where
         let mid : ℕ = at + length (be 4 t) in
         let end : ℕ = at + length (be 4 t ++ c) in
         let l : mid + length c ≡ end = omega (arith, length-append (be 4 t) c) in
-        let g : ℕ = firstOf (faultsFrom (λ i. channelFault t) 0 bs) (pick (leb k 2) 0 5) in
+        let g : ℕ = firstOf (faultsFrom (λ i. channelFault t) 0 bs) (typeFault k) in
         let h1 = at-left s at (be 4 t) c h in
         outcome-then (judged 4 model s at) (λ x p. then (each (channelsOf x) 0 (λ i. judged 4 (channel x)) s p) (λ vs q. then (judged 2 type s q) (λ v r. ok (mk x vs v) r))) (pick (isModel t) 0 4) g mid end
         (outcome (unless-tells s 4 isModel 4 (omega arith)) at t (f .model) h1)
@@ -124,8 +133,8 @@ name-other us e = pick-other (anyZero us) 8 0 (λ z. omega arith) (λ z. omega a
 colour-content-other : (t : ℕ) (bs : List ℕ) (k : ℕ) → colourFault t bs k ≡ 2 → ⊥
 unfolding colourFault
 colour-content-other t bs k e =
-    first-other (pick (isModel t) 0 4) (firstOf (faultsFrom (λ i. channelFault t) 0 bs) (pick (leb k 2) 0 5)) (pick-other (isModel t) 0 4 (λ z. omega arith) (λ z. omega arith))
-    (first-other (faultsFrom (λ i. channelFault t) 0 bs) (pick (leb k 2) 0 5) (channels-other t 0 bs) (pick-other (leb k 2) 0 5 (λ z. omega arith) (λ z. omega arith))) e
+    first-other (pick (isModel t) 0 4) (firstOf (faultsFrom (λ i. channelFault t) 0 bs) (typeFault k)) (pick-other (isModel t) 0 4 (λ z. omega arith) (λ z. omega arith))
+    (first-other (faultsFrom (λ i. channelFault t) 0 bs) (typeFault k) (channels-other t 0 bs) (pick-other (leb k 4) 0 5 (λ z. omega arith) (λ z. omega arith))) e
 
 -- ---- a block, where d groups stand open
 

@@ -21,9 +21,13 @@ nameFault x us = firstOf x (pick (anyZero us) 8 0)
 abbrev pub channelFault : ℕ → ℕ → ℕ
 channelFault t b = pick (allowsBits t b) 0 5
 
+-- a number that is no ink is 5; process and not stated, which no file has, are refused after all other faults, by the writer
+abbrev pub typeFault : ℕ → ℕ
+typeFault k = pick (leb k 4) 0 5
+
 -- a colour behind its name: model, channels, type
 unfoldable pub colourFault : ℕ → List ℕ → ℕ → ℕ
-colourFault t bs k = firstOf (pick (isModel t) 0 4) (firstOf (faultsFrom (λ i b. channelFault t b) 0 bs) (pick (leb k 2) 0 5))
+colourFault t bs k = firstOf (pick (isModel t) 0 4) (firstOf (faultsFrom (λ i b. channelFault t b) 0 bs) (typeFault k))
 
 -- a block whose name was found with the fault x, where d groups stand open; an unknown type is 4
 unfoldable pub blockFault : ℕ → ℕ → Block → ℕ
@@ -54,6 +58,9 @@ pub record ColourFits (us : List ℕ) (t : ℕ) (bs : List ℕ) (k : ℕ) : Type
   pub all : length bs ≡ channelsOf t
   pub channels : All (λ i b. b < 256 ^ 4) 0 bs
   pub type : k < 256 ^ 2
+  -- 14 aside
+  pub no-process : k ≡ 3 → ⊥
+  pub no-unstated : k ≡ 4 → ⊥
 
 abbrev pub BlockFits : Block → Type 0
 BlockFits (groupStart us) = NameFits us

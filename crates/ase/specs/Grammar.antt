@@ -9,7 +9,7 @@ use Rattle.algebra.specs.Numbers.{be, joined, All}
 use Rattle.algebra.specs.Text.{nameBytes, Named}
 
 -- a block: the start of a group with the units of its name; the end of a group;
--- a colour: the units of its name, the tag of its model, the bits of its channels, and its type;
+-- a colour: the units of its name, the tag of its model, the bits of its channels, and its ink by its number, which is its type;
 -- or a block of another type, without a payload, which no file has and a writer may be given
 pub data Block : Type 0 where
   groupStart : List ℕ → Block

@@ -5,14 +5,14 @@ use lib.ListN.{length, getD}
 use Rattle.ase.specs.Reading.{Entry, groupStartRead, groupEndRead, colourRead}
 use Rattle.ase.specs.declared.RowNumbers.{RowNumbers}
 
--- a record: its block's type, its name by place and number of units in lent bytes, and a colour's model, channels and type
+-- a record: its block's type, its name by place and number of units in lent bytes, and a colour's model, channels and ink, which is its type
 pub record RecordRow : Type 0 where
   pub block : ℕ
   pub first : ℕ
   pub units : ℕ
   pub model : ℕ
   pub channels : List ℕ
-  pub type : ℕ
+  pub ink : ℕ
 
 -- ---- a row
 
@@ -24,9 +24,9 @@ width = 9
 abbrev pub fourOf : List ℕ → List ℕ
 fourOf bs = getD bs 0 0 ∷ getD bs 1 0 ∷ getD bs 2 0 ∷ getD bs 3 0 ∷ []
 
--- type of the block, place of the name's first unit, number of units, model, four channels, the colour's type
+-- type of the block, place of the name's first unit, number of units, model, four channels, the ink
 abbrev pub numbers : RecordRow → List ℕ
-numbers g = g .block ∷ g .first ∷ g .units ∷ g .model ∷ (fourOf (g .channels) ++ (g .type ∷ []))
+numbers g = g .block ∷ g .first ∷ g .units ∷ g .model ∷ (fourOf (g .channels) ++ (g .ink ∷ []))
 
 -- the record that a row's numbers give
 abbrev pub taken : List ℕ → RecordRow
@@ -36,7 +36,7 @@ taken l = record {
   units = getD l 2 0;
   model = getD l 3 0;
   channels = getD l 4 0 ∷ getD l 5 0 ∷ getD l 6 0 ∷ getD l 7 0 ∷ [];
-  type = getD l 8 0;
+  ink = getD l 8 0;
 }
 
 -- the same as the code has it
@@ -47,22 +47,22 @@ givenIn r = record {
   units = r .units;
   model = r .model;
   channels = r .a ∷ r .b ∷ r .c ∷ r .d ∷ [];
-  type = r .kind;
+  ink = r .ink;
 }
 
 -- ---- the records of a file that was read: what a record does not have is 0
 
 abbrev pub noRecord : RecordRow
-noRecord = record { block = 0; first = 0; units = 0; model = 0; channels = 0 ∷ 0 ∷ 0 ∷ 0 ∷ []; type = 0 }
+noRecord = record { block = 0; first = 0; units = 0; model = 0; channels = 0 ∷ 0 ∷ 0 ∷ 0 ∷ []; ink = 0 }
 
 abbrev pub groupStartRow : ℕ → ℕ → RecordRow
-groupStartRow p u = record { block = 0xC001; first = p; units = u; model = 0; channels = 0 ∷ 0 ∷ 0 ∷ 0 ∷ []; type = 0 }
+groupStartRow p u = record { block = 0xC001; first = p; units = u; model = 0; channels = 0 ∷ 0 ∷ 0 ∷ 0 ∷ []; ink = 0 }
 
 abbrev pub groupEndRow : RecordRow
-groupEndRow = record { block = 0xC002; first = 0; units = 0; model = 0; channels = 0 ∷ 0 ∷ 0 ∷ 0 ∷ []; type = 0 }
+groupEndRow = record { block = 0xC002; first = 0; units = 0; model = 0; channels = 0 ∷ 0 ∷ 0 ∷ 0 ∷ []; ink = 0 }
 
 abbrev pub colourRow : ℕ → ℕ → ℕ → List ℕ → ℕ → RecordRow
-colourRow p u t bs k = record { block = 0x0001; first = p; units = u; model = t; channels = bs; type = k }
+colourRow p u t bs k = record { block = 0x0001; first = p; units = u; model = t; channels = bs; ink = k }
 
 abbrev pub givenOf : Entry → RecordRow
 givenOf (groupStartRead nm) = groupStartRow (nm .first) (length (nm .units))

@@ -16,7 +16,7 @@ pub const COLOUR: u16 = 0x0001;
 pub const SIGNATURE: u32 = 0x4153_4546;
 
 // A record's numbers in the order of a row: its block's type, where its name lies, and of a colour
-// the tag of its model, the bits of its channels, and its type.
+// the tag of its model, the bits of its channels, and its ink.
 pub struct RowNumbers {
     pub block: u32,
     pub first: u32,
@@ -26,5 +26,5 @@ pub struct RowNumbers {
     pub b: u32,
     pub c: u32,
     pub d: u32,
-    pub kind: u32,
+    pub ink: u32,
 }

@@ -6,6 +6,8 @@ use lib.ListN.{length, take}
 use native.Mathlib.Omega.{arith}
 use Rattle.algebra.specs.Numbers.{joined}
 use Rattle.algebra.specs.Reader.{Res, ok, refuse}
+use Rattle.colour.specs.Inks.{inkNumber}
+use Rattle.colour.specs.declared.ink.Ink.{Ink}
 use Rattle.colour.specs.Models.{traitsOf, modelOf, channelsOf}
 use Rattle.colour.specs.Channels.{bitsOf, modelIn}
 use Rattle.colour.specs.declared.model.Traits.{Traits}
@@ -42,10 +44,10 @@ few t Cmyk e = omega (arith, ap (λ (x : Traits). x .channels) e)
 few t Lab e = omega (arith, ap (λ (x : Traits). x .channels) e)
 few t Gray e = omega (arith, ap (λ (x : Traits). x .channels) e)
 
-pub put-colour-content : (o : Buffer) (m : Model) (t : Traits) (bs : List ℕ) (c : Channels) (k : ℕ) (b : List ℕ) {p q r x : Buffer} → m ≡ modelIn c → t ≡ traitsOf m → bs ≡ bitsOf c
-    → p ≡ putAll o (model m) → q ≡ putAll p (joined channel (take (t .channels) bs)) → r ≡ putAll q (type k) → x ≡ putAll r (name b) → x ≡ putAll o (colourText c k b)
-put-colour-content o m t bs c k b d e f g h i j =
-    put-both _ _ _ (put-both _ _ _ (put-both _ _ _ g h) i) j
+pub put-colour-content : (o : Buffer) (m : Model) (t : Traits) (bs : List ℕ) (c : Channels) (k j : ℕ) (b : List ℕ) {p q r x : Buffer} → m ≡ modelIn c → t ≡ traitsOf m → bs ≡ bitsOf c → j ≡ k
+    → p ≡ putAll o (model m) → q ≡ putAll p (joined channel (take (t .channels) bs)) → r ≡ putAll q (type j) → x ≡ putAll r (name b) → x ≡ putAll o (colourText c k b)
+put-colour-content o m t bs c k j b {p} {q} d e f n g h i y =
+    put-both _ _ _ (put-both _ _ _ (put-both _ _ _ g h) (i ∙ ap (λ (z : ℕ). putAll q (type z)) n)) y
     ∙ ap₂ (λ (m : Model) (l : List ℕ). putAll o (model m ++ joined channel l ++ type k ++ name b)) d (ap₂ (λ (t : Traits) (l : List ℕ). take (t .channels) l) (e ∙ ap traitsOf d) f)
 
 -- the same by its model's tag
@@ -63,9 +65,9 @@ module _ (s : List ℕ) (o : Buffer) (b : Block) where
   put-group n e f g =
       put-both _ _ _ f g ∙ ap (λ (l : List ℕ). putAll o (ascii " group " ++ name l)) n ∙ ap (λ (b : Block). putAll o (answer s (toldBlock b))) (sym e)
 
-  pub put-shown : {place u : ℕ} {c : Channels} {k : ℕ} {nm : List ℕ} {p q : Buffer} → nm ≡ namePart s place u → b ≡ vb.Colour place u c k → p ≡ putAll o (ascii " colour ") → q ≡ putAll p (colourText c k nm) → q ≡ putAll o (answer s (toldBlock b))
+  pub put-shown : {place u : ℕ} {c : Channels} {k : Ink} {nm : List ℕ} {p q : Buffer} → nm ≡ namePart s place u → b ≡ vb.Colour place u c k → p ≡ putAll o (ascii " colour ") → q ≡ putAll p (colourText c (inkNumber k) nm) → q ≡ putAll o (answer s (toldBlock b))
   put-shown {place} {u} {c} {k} n e f g =
-      put-both _ _ _ f g ∙ ap (λ (l : List ℕ). putAll o (ascii " colour " ++ colourText c k l)) n ∙ ap (λ (l : List ℕ). putAll o (ascii " colour " ++ l)) (colour-content-is c k (namePart s place u))
+      put-both _ _ _ f g ∙ ap (λ (l : List ℕ). putAll o (ascii " colour " ++ colourText c (inkNumber k) l)) n ∙ ap (λ (l : List ℕ). putAll o (ascii " colour " ++ l)) (colour-content-is c (inkNumber k) (namePart s place u))
       ∙ ap (λ (b : Block). putAll o (answer s (toldBlock b))) (sym e)
 
 -- ---- the loop

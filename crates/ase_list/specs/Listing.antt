@@ -43,7 +43,7 @@ abbrev pub block : List ℕ → RecordRow → List ℕ
 block s g =
     pick (eqb (g .block) 0xC001) (ascii " group " ++ name (namePart s (g .first) (g .units)))
     (pick (eqb (g .block) 0xC002) (ascii " close")
-    (ascii " colour " ++ (tagged (modelOf (g .model)) ++ joined channel (take (channelsOf (g .model)) (g .channels)) ++ type (g .type) ++ name (namePart s (g .first) (g .units)))))
+    (ascii " colour " ++ (tagged (modelOf (g .model)) ++ joined channel (take (channelsOf (g .model)) (g .channels)) ++ type (g .ink) ++ name (namePart s (g .first) (g .units)))))
 
 abbrev pub line : List ℕ → ℕ → Entry → List ℕ
 line s i e = decimal i ++ block s (givenOf e) ++ ascii "\n"

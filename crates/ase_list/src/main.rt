@@ -3,6 +3,7 @@ ghost use mathlib.Core.Path.{_≡_};
 ghost use Prim.Native.Nat.{_≤_, _<_};
 ghost use lib.ListN.{length, take};
 ghost use Rattle.algebra.specs.Numbers.{joined};
+ghost use Rattle.colour.specs.Inks.{inkNumber};
 ghost use Rattle.ase.specs.Reading.{ase};
 ghost use Rattle.ase_walk.specs.Walking.{firstPlace};
 ghost use Rattle.walk.specs.scaffold.Walk.{answers};
@@ -15,6 +16,7 @@ ghost use Rattle.ase_list.specs.Listing.{model as Listing·model, type a
 use ase_judge::Answer;
 use ase_walk::Block;
 use colour::Channels;
+use colour::Ink;
 use colour::Model;
 use listing::finish;
 use listing::put;
@@ -56,7 +58,7 @@ fn put_channels(out: &mut [u8], n: usize, bits: [u32; 4], channels: u16) -> usiz
     at
 }
 
-fn put_type(out: &mut [u8], n: usize, kind: u16) -> usize
+fn put_type(out: &mut [u8], n: usize, kind: u32) -> usize
     ensures { λ r. ⌜ (now (out .exit), r) ≡ putAll (now (out .entry), n) (Listing·type kind) ⌝ }
 {
     if kind == 0 {
@@ -69,13 +71,13 @@ fn put_type(out: &mut [u8], n: usize, kind: u16) -> usize
 }
 
 // A colour: its model, channels, type and name.
-fn put_colour(out: &mut [u8], n: usize, colour: Channels, kind: u16, name: &[u8]) -> usize
-    ensures { λ r. ⌜ (now (out .exit), r) ≡ putAll (now (out .entry), n) (colourText colour kind (now (name .entry))) ⌝ }
+fn put_colour(out: &mut [u8], n: usize, colour: Channels, ink: Ink, name: &[u8]) -> usize
+    ensures { λ r. ⌜ (now (out .exit), r) ≡ putAll (now (out .entry), n) (colourText colour (inkNumber ink) (now (name .entry))) ⌝ }
 {
     let model = colour.model();
     let mut at = put_model(out, n, model);
     at = put_channels(out, at, colour.bits(), model.traits().channels);
-    at = put_type(out, at, kind);
+    at = put_type(out, at, ink.number());
     put_name(out, at, name)
 }
 
@@ -93,10 +95,10 @@ fn put_block(out: &mut [u8], n: usize, file: &[u8], block: Block) -> usize
             place,
             units,
             colour,
-            kind,
+            ink,
         } => {
             let at = put_text(out, n, b" colour ");
-            put_colour(out, at, colour, kind, name_part(file, place, units))
+            put_colour(out, at, colour, ink, name_part(file, place, units))
         }
         Block::Done => n,
         Block::Refused {

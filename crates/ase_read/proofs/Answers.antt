@@ -1,12 +1,14 @@
 -- What `read`, `record_at` and `name_at` answer, on plain values. Assumes nothing.
-use Prim.Native.Nat.{ℕ, _+_, _*_, _-_, _^_, _≤_, _<_}
+use Prim.Native.Nat.{ℕ, zero, suc, _+_, _*_, _-_, _^_, _≤_, _<_}
 use mathlib.Core.Path.{_≡_, refl, sym, ap, ap₂, _∙_, subst}
 use mathlib.Core.List.{List, [], _∷_}
 use mathlib.Core.Bool.{Bool, true, false, _&&_}
 use lib.ListN.{length, getD, take, drop, List·getD-eq-default}
-use lib.Dec.{ltb}
-use borrow.Author.Tests.{ltb-true}
+use lib.Dec.{leb, ltb}
+use borrow.Author.Tests.{le-leb, lt-leb, ltb-true}
 use native.Mathlib.Omega.{arith}
+use native.Mathlib.Nat.{lt-of-not-le}
+use native.Mathlib.Decide.{decLe}
 use Rattle.algebra.specs.Reader.{Res, ok, refuse, pick}
 use Rattle.algebra.specs.Text.{Name}
 use Rattle.colour.specs.Models.{traitsOf, modelOf, isKnown, countIn, isModel, channelsOf}
@@ -18,6 +20,10 @@ use Rattle.colour.specs.declared.model.KnownModel.the-variants.{Is, Unknown}
 use Rattle.colour.specs.declared.channel.Channels.{Channels}
 use Rattle.colour.specs.declared.channel.Channels.the-variants as vc
 use Rattle.colour.specs.declared.channel.Made.the-variants as vm
+use Rattle.colour.specs.Inks.{inkNumber, inkOf}
+use Rattle.colour.specs.declared.ink.Ink.{Ink}
+use Rattle.colour.specs.declared.ink.KnownInk.the-variants as vi
+use Rattle.colour.proofs.Inks.{ink-small, number-back}
 use Rattle.colour.proofs.Models.{tag-known}
 use Rattle.colour.proofs.Kept.{same-four, bits-kept}
 use Rattle.ase.specs.Reading.{Entry, groupStartRead, groupEndRead, colourRead, ase}
@@ -49,6 +55,29 @@ module _ (t a b c d : ℕ) (is : IsColour t a b c d) where
   colour-is x e ha hb hc hd p u k =
       let z = bits-kept (is .0) a b c d ha hb hc hd x (sym by-tag ∙ e) in
       ap₂ (λ (g : ℕ) (l : List ℕ). colourRow p u g l k) (ap (λ (y : Model). traitsOf y .tag) (z .0) ∙ tag-known t (is .0) (is .2)) (z .1 ∙ is .4)
+
+-- the ink with a number, where one has it
+pub ink-known : (n : ℕ) (i : Ink) → inkOf n ≡ vi.Is i → inkNumber i ≡ pick (leb n 4) n 4
+ink-known n i e = let b : inkNumber i ≡ n = number-back n i e in b ∙ sym (rw (le-leb n 4 (omega (arith, ink-small i))))
+
+few : (n : ℕ) → n ≤ 4 → inkOf n ≡ vi.Unknown → ⊥
+unfolding inkOf
+few zero h e = let w : _≡_ {A = ℕ} 0 1 = cc in absurd (omega arith)
+few (suc zero) h e = let w : _≡_ {A = ℕ} 0 1 = cc in absurd (omega arith)
+few (suc (suc zero)) h e = let w : _≡_ {A = ℕ} 0 1 = cc in absurd (omega arith)
+few (suc (suc (suc zero))) h e = let w : _≡_ {A = ℕ} 0 1 = cc in absurd (omega arith)
+few (suc (suc (suc (suc zero)))) h e = let w : _≡_ {A = ℕ} 0 1 = cc in absurd (omega arith)
+few (suc (suc (suc (suc (suc n))))) h e = absurd (omega arith)
+
+pub ink-none : (n : ℕ) → inkOf n ≡ vi.Unknown → 4 ≡ pick (leb n 4) n 4
+ink-none n e = elim (decLe n 4) [
+  | yes h ↦ absurd (few n h e)
+  | no h ↦ sym (rw (lt-leb n 4 (lt-of-not-le h)))
+]
+
+-- the ink with a number that a file has
+pub ink-is : (n x : ℕ) → x ≡ pick (leb n 4) n 4 → n ≤ 2 → x ≡ n
+ink-is n x e h = e ∙ rw (le-leb n 4 (omega arith))
 
 -- what is judged makes a colour
 pub sound-colour : (nm : Name) (t : ℕ) (bs : List ℕ) (k : ℕ) → Sound (colourRead nm t bs k) → IsColour t (getD bs 0 0) (getD bs 1 0) (getD bs 2 0) (getD bs 3 0)
@@ -114,16 +143,16 @@ module _ (r : RowNumbers) where
 -- the colour that they make
 pub record Hue (e : Entry) (r : RowNumbers) : Type 0 where
   pub is : IsColour (r .model) (r .a) (r .b) (r .c) (r .d)
-  pub type : r .kind ≤ 2
-  pub shows : colourRow (r .first) (r .units) (r .model) (r .a ∷ r .b ∷ r .c ∷ r .d ∷ []) (r .kind) ≡ givenOf e
+  pub ink : r .ink ≤ 2
+  pub shows : colourRow (r .first) (r .units) (r .model) (r .a ∷ r .b ∷ r .c ∷ r .d ∷ []) (r .ink) ≡ givenOf e
 
 pub is-colour : (e : Entry) → Sound e → (r : RowNumbers) → givenIn r ≡ givenOf e → (r .block ≡ 0xC001 → ⊥) → (r .block ≡ 0xC002 → ⊥) → Hue e r
 is-colour (groupStartRead nm) o r w h g = absurd (h (block-is r w))
 is-colour groupEndRead o r w h g = absurd (g (block-is r w))
 is-colour (colourRead nm t bs k) o r w h g = record {
   is = subst (λ (x : RecordRow). IsColour (x .model) (getD (x .channels) 0 0) (getD (x .channels) 1 0) (getD (x .channels) 2 0) (getD (x .channels) 3 0)) (sym w) (sound-colour nm t bs k o);
-  type = subst (λ (x : RecordRow). x .type ≤ 2) (sym w) (o .3);
-  shows = ap (λ (x : RecordRow). colourRow (x .first) (x .units) (x .model) (x .channels) (x .type)) w;
+  ink = subst (λ (x : RecordRow). x .ink ≤ 2) (sym w) (o .3);
+  shows = ap (λ (x : RecordRow). colourRow (x .first) (x .units) (x .model) (x .channels) (x .ink)) w;
 }
 
 -- ---- from the verdict to what the file holds

@@ -112,8 +112,8 @@ named-as u at n nm q r =
 -- ---- its row
 
 pub same : {a b c d e f g h j a′ b′ c′ d′ e′ f′ g′ h′ j′ : ℕ} → a ≡ a′ → b ≡ b′ → c ≡ c′ → d ≡ d′ → e ≡ e′ → f ≡ f′ → g ≡ g′ → h ≡ h′ → j ≡ j′
-    → _≡_ {A = RecordRow} (record { block = a; first = b; units = c; model = d; channels = e ∷ f ∷ g ∷ h ∷ []; type = j }) (record { block = a′; first = b′; units = c′; model = d′; channels = e′ ∷ f′ ∷ g′ ∷ h′ ∷ []; type = j′ })
-same a b c d e f g h j = λ i. record { block = a i; first = b i; units = c i; model = d i; channels = e i ∷ f i ∷ g i ∷ h i ∷ []; type = j i }
+    → _≡_ {A = RecordRow} (record { block = a; first = b; units = c; model = d; channels = e ∷ f ∷ g ∷ h ∷ []; ink = j }) (record { block = a′; first = b′; units = c′; model = d′; channels = e′ ∷ f′ ∷ g′ ∷ h′ ∷ []; ink = j′ })
+same a b c d e f g h j = λ i. record { block = a i; first = b i; units = c i; model = d i; channels = e i ∷ f i ∷ g i ∷ h i ∷ []; ink = j i }
 
 -- a group start ends with its name, whose closing zero is the last number
 group-ended : (u : List ℕ) (at : ℕ) (nm : Name) → num 2 u at ≡ 0xC001 → Naming u at nm (length u) → Ended u at (groupStartRead nm)

@@ -23,7 +23,7 @@ use Rattle.ase_read.proofs.Blocks.{same, Sound, NameIn, Blocked, blocke
 
 pub numbers-loaded : (u : List ℕ) (p kind count place units tag a b c d last : ℕ) → kind ≡ load 2 u p → count ≡ countAt u p → place ≡ pick (eqb count 0) 0 (p + 8) → units ≡ count - 1
     → tag ≡ load 4 u (p + 8 + 2 * count) → a ≡ load 4 u (p + 8 + 2 * count + 4) → b ≡ load 4 u (p + 8 + 2 * count + 8) → c ≡ load 4 u (p + 8 + 2 * count + 12) → d ≡ load 4 u (p + 8 + 2 * count + 16) → last ≡ load 2 u (length u - 2)
-    → record { block = kind; first = place; units = units; model = tag; channels = a ∷ b ∷ c ∷ d ∷ []; type = last } ≡ loaded u p
+    → record { block = kind; first = place; units = units; model = tag; channels = a ∷ b ∷ c ∷ d ∷ []; ink = last } ≡ loaded u p
 numbers-loaded u p kind count place units tag a b c d last ek en ep eu et ea eb ec ed el =
     let four : (k v : ℕ) → v ≡ load 4 u (p + 8 + 2 * count + k) → v ≡ load 4 u (modelAt u p + k) = λ k v e. e ∙ ap (λ (n : ℕ). load 4 u (p + 8 + 2 * n + k)) en in
     same ek (ep ∙ ap (λ (n : ℕ). pick (eqb n 0) 0 (p + 8)) en) (eu ∙ ap (λ (n : ℕ). n - 1) en) (et ∙ ap (λ (n : ℕ). load 4 u (p + 8 + 2 * n)) en) (four 4 a ea) (four 8 b eb) (four 12 c ec) (four 16 d ed) el

@@ -2,12 +2,14 @@
 ghost use mathlib.Core.Path.{_≡_};
 ghost use mathlib.Core.List.{_∷_, []};
 ghost use Prim.Native.Nat.{_+_, _-_, _*_, _≤_, _<_};
-ghost use lib.Dec.{eqb};
+ghost use lib.Dec.{eqb, leb};
 ghost use lib.ListN.{length};
 ghost use lib.Seq.{sets};
 ghost use Rattle.algebra.specs.Numbers.{joined};
 ghost use Rattle.algebra.specs.Reader.{pick, limit};
 ghost use Rattle.algebra.specs.Table.{accepted};
+ghost use Rattle.colour.specs.Inks.{inkNumber};
+ghost use Rattle.colour.specs.declared.ink.Ink.the-variants.{NotStated};
 ghost use Rattle.ase.specs.Reading.{ase};
 ghost use Rattle.ase.specs.Row.{width, numbers, givenIn, colourRow};
 ghost use Rattle.ase_judge.specs.Answer.{told};
@@ -20,6 +22,8 @@ use ase::RowNumbers;
 use ase::WIDTH;
 use ase_judge::Answer;
 use colour::Channels;
+use colour::Ink;
+use colour::KnownInk;
 use colour::Made;
 
 // The length of the heading.
@@ -31,7 +35,7 @@ const START: u32 = ase::GROUP_START as u32;
 const STOP: u32 = ase::GROUP_END as u32;
 
 // A record: a group start with its name's place and number of units, a group end, or a colour with
-// its name, its channels and its type; or a refusal.
+// its name, its channels and its ink; or a refusal.
 pub enum Record {
     GroupStart {
         place: usize,
@@ -42,7 +46,7 @@ pub enum Record {
         place: usize,
         units: u32,
         colour: Channels,
-        kind: u16,
+        ink: Ink,
     },
     Refused {
         number: u32,
@@ -97,7 +101,7 @@ fn numbers_in(part: &[u8], at: usize) -> RowNumbers
         b: fields::u32_or_zero(part, model + 8),
         c: fields::u32_or_zero(part, model + 12),
         d: fields::u32_or_zero(part, model + 16),
-        kind: fields::u16_or_zero(part, part.len() - 2) as u32,
+        ink: fields::u16_or_zero(part, part.len() - 2) as u32,
     }
 }
 
@@ -115,7 +119,7 @@ fn put_numbers(table: &mut [u32], to: usize, row: RowNumbers)
     table[to + 5] = row.b;
     table[to + 6] = row.c;
     table[to + 7] = row.d;
-    table[to + 8] = row.kind;
+    table[to + 8] = row.ink;
 }
 
 // Stores the row of the block from `at` to `end`. All is loaded and only then stored, which compilers
@@ -157,17 +161,27 @@ fn block_place(file: &[u8], n: usize, i: usize) -> usize
     at
 }
 
+// The ink with a number; not stated for a number that no ink has.
+pub fn ink_of(number: u32) -> Ink
+    ensures { λ r. ⌜ inkNumber r ≡ pick (leb number 4) number (inkNumber NotStated) ⌝ }
+{
+    match Ink::from(number) {
+        KnownInk::Is(ink) => ink,
+        KnownInk::Unknown => Ink::NotStated,
+    }
+}
+
 // A colour by its numbers, which are judged.
 fn coloured(row: RowNumbers) -> Record
-    requires { ⌜ IsColour (row .model) (row .a) (row .b) (row .c) (row .d) × (row .kind ≤ 2) ⌝ }
-    ensures { λ r. ⌜ toldRecord r ≡ accepted (colourRow (row .first) (row .units) (row .model) (row .a ∷ row .b ∷ row .c ∷ row .d ∷ []) (row .kind)) ⌝ }
+    requires { ⌜ IsColour (row .model) (row .a) (row .b) (row .c) (row .d) × (row .ink ≤ 2) ⌝ }
+    ensures { λ r. ⌜ toldRecord r ≡ accepted (colourRow (row .first) (row .units) (row .model) (row .a ∷ row .b ∷ row .c ∷ row .d ∷ []) (row .ink)) ⌝ }
 {
     match Channels::from_tag(row.model, row.a, row.b, row.c, row.d) {
         Made::Is(colour) => Record::Colour {
             place: fields::wide(row.first),
             units: row.units,
             colour,
-            kind: row.kind as u16,
+            ink: ink_of(row.ink),
         },
         Made::Refused(number) => Record::Refused { number, place: 0 },
     }
@@ -246,7 +260,7 @@ pub fn name_at(file: &[u8], i: usize) -> &[u8]
             place,
             units,
             colour: _,
-            kind: _,
+            ink: _,
         } => {
             let end = place + 2 * (units as usize);
             &file[place..end]

@@ -162,7 +162,9 @@ taken-fits s (colourRead nm t bs k) l f = a-colour refl (record { counted = omeg
   model-small = f .model;
   four = refl;
   each-small = subst (λ (cs : List ℕ). All (λ i b. b < 256 ^ 4) 0 cs) (sym (used-back t bs (f .all))) (f .channels);
-  type-small = omega (arith, f .type);
+  ink-small = omega (arith, f .type);
+  no-process = f .no-process;
+  no-unstated = f .no-unstated;
 })
 
 blocks-fit : {bs : List Block} {b : List ℕ} → File bs b → All (λ i b. BlockFits b) 0 bs

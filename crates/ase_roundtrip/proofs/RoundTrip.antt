@@ -66,7 +66,7 @@ read-needs s b e = needs-all s b e
 
 -- ---- refusals
 
--- of records that fit their fields the writer's refusal, 11 aside, has the number that the reader gives for the bytes made of them; 0 is none
+-- of records that fit their fields the writer's refusal, 11 and 14 aside, has the number that the reader gives for the bytes made of them; 0 is none
 pub refusals-agree : (text : List ℕ) → Bytes text → (gs : List RecordRow) → All (λ k g. Fitting text g) 0 gs → fault text gs ≡ numberOf (ase (made text gs))
 refusals-agree text b gs fit = fault-same text gs fit ∙ sym (written-number (map (blockIn text) gs) (all-fit text gs fit b))
 

@@ -5,14 +5,14 @@ use mathlib.Core.List.{List, [], _∷_, map}
 use lib.Dec.{leb, eqb}
 use Rattle.algebra.specs.Numbers.{nums}
 use Rattle.algebra.specs.Reader.{pick, body, numberOf, stateAfter, limit}
-use Rattle.algebra.specs.Faults.{firstOf, faultsIn}
+use Rattle.algebra.specs.Faults.{firstOf, faults, faultsIn}
 use Rattle.algebra.specs.Writing.{needs, writes}
 use Rattle.colour.specs.Models.{channelsOf}
 use Rattle.ase.specs.Grammar.{Block, groupStart, groupEnd, colour, other, fileBytes}
 use Rattle.ase.specs.Reading.{openAfter}
 use Rattle.ase.specs.Faults as f
 use Rattle.ase.specs.Row.{RecordRow}
-use Rattle.ase_write_judge.specs.Writing.{unitsIn, blockIn, sizeIn, sizes, foundIn, blockFault, fault, needed, written}
+use Rattle.ase_write_judge.specs.Writing.{unitsIn, blockIn, sizeIn, sizes, foundIn, blockFault, inkFault, fault, needed, written}
 use Rattle.ase_write_judge.specs.scaffold.Parts.{standingIn}
 use Rattle.ase_roundtrip.specs.Tie.{Alike, starts, ends, colours, AllAlike}
 
@@ -35,6 +35,11 @@ module _ (names : List ℕ) where
   fault-alike d g h (ends x y) = rw (x, y)
   fault-alike d g h (colours x a b m c k) = λ i. f.blockFault (found-alike g h a b i) d (block-alike g h (colours x a b m c k) i)
 
+ink-alike : (g h : RecordRow) → Alike g h → inkFault g ≡ inkFault h
+ink-alike g h (starts x y a b) = rw (x, y)
+ink-alike g h (ends x y) = rw (x, y)
+ink-alike g h (colours x a b m c k) = λ i. pick (eqb (x i) 0x0001) (pick (eqb (k i) 3) 14 (pick (eqb (k i) 4) 14 0)) 0
+
 pub size-alike : (g h : RecordRow) → Alike g h → sizeIn g ≡ sizeIn h
 size-alike g h (starts x y a b) = rw (x, y) (ap (λ (n : ℕ). 6 + (4 + 2 * n)) b)
 size-alike g h (ends x y) = rw (x, y)
@@ -49,6 +54,13 @@ sizes-alike [] [] x = refl
 sizes-alike [] (h ∷ hs) x = absurd x
 sizes-alike (g ∷ gs) [] x = absurd x
 sizes-alike (g ∷ gs) (h ∷ hs) x = ap₂ (λ (m n : ℕ). m + n) (size-alike g h (x .0)) (sizes-alike gs hs (x .1))
+
+inks-alike : (gs hs : List RecordRow) → AllAlike gs hs → faults inkFault gs ≡ faults inkFault hs
+unfolding faults
+inks-alike [] [] x = refl
+inks-alike [] (h ∷ hs) x = absurd x
+inks-alike (g ∷ gs) [] x = absurd x
+inks-alike (g ∷ gs) (h ∷ hs) x = ap₂ (λ (m n : ℕ). firstOf m n) (ink-alike g h (x .0)) (inks-alike gs hs (x .1))
 
 module _ (names : List ℕ) where
   pub blocks-alike : (gs hs : List RecordRow) → AllAlike gs hs → map (blockIn names) gs ≡ map (blockIn names) hs
@@ -76,7 +88,7 @@ module _ (names : List ℕ) where
   module _ (gs hs : List RecordRow) (x : AllAlike gs hs) where
     pub first-alike : fault names gs ≡ fault names hs
     unfolding fault f.blocksFault
-    first-alike = λ i. pick (leb (12 + sizes-alike gs hs x i) limit) (firstOf (faults-alike 0 gs hs x i) (pick (eqb (state-alike 0 gs hs x i) 0) 0 9)) 1
+    first-alike = λ i. pick (leb (12 + sizes-alike gs hs x i) limit) (firstOf (firstOf (faults-alike 0 gs hs x i) (pick (eqb (state-alike 0 gs hs x i) 0) 0 9)) (inks-alike gs hs x i)) 1
 
     pub needed-alike : needed names gs ≡ needed names hs
     needed-alike = λ i. needs (first-alike i) (12 + sizes-alike gs hs x i)

@@ -38,7 +38,10 @@ pub record ColourFitting (g : RecordRow) : Type 0 where
   pub model-small : g .model < 256 ^ 4
   pub four : length (g .channels) ≡ 4
   pub each-small : All (λ i b. b < 256 ^ 4) 0 (channelsIn g)
-  pub type-small : g .type < 65536
+  pub ink-small : g .ink < 65536
+  -- process and not stated, which only the writer refuses, are left out
+  pub no-process : g .ink ≡ 3 → ⊥
+  pub no-unstated : g .ink ≡ 4 → ⊥
 
 -- a group start, a group end or a colour: of each, what is written; or a block of another type, which is refused
 pub data Fitting (text : List ℕ) (g : RecordRow) : Type 0 where
@@ -49,11 +52,11 @@ pub data Fitting (text : List ℕ) (g : RecordRow) : Type 0 where
 
 -- ---- records that differ only in spare places
 
--- group starts of the same name; group ends; records of one type whose names, models, used channels and colour types are the same
+-- group starts of the same name; group ends; records of one type whose names, models, used channels and inks are the same
 pub data Alike (g h : RecordRow) : Type 0 where
   starts : g .block ≡ 0xC001 → h .block ≡ 0xC001 → g .first ≡ h .first → g .units ≡ h .units → Alike g h
   ends : g .block ≡ 0xC002 → h .block ≡ 0xC002 → Alike g h
-  colours : g .block ≡ h .block → g .first ≡ h .first → g .units ≡ h .units → g .model ≡ h .model → channelsIn g ≡ channelsIn h → g .type ≡ h .type → Alike g h
+  colours : g .block ≡ h .block → g .first ≡ h .first → g .units ≡ h .units → g .model ≡ h .model → channelsIn g ≡ channelsIn h → g .ink ≡ h .ink → Alike g h
 
 -- one by one
 abbrev pub AllAlike : List RecordRow → List RecordRow → Type 0

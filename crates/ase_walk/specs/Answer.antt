@@ -3,6 +3,7 @@ use Prim.Native.Nat.{ℕ}
 use Rattle.ase.specs.Reading.{Entry}
 use Rattle.colour.specs.Models.{traitsOf}
 use Rattle.colour.specs.Channels.{bitsOf, modelIn}
+use Rattle.colour.specs.Inks.{inkNumber}
 use Rattle.ase.specs.Row.{RecordRow, groupStartRow, groupEndRow, colourRow, givenOf}
 use Rattle.walk.specs.Walk.{Call, gives, over, refused}
 use Rattle.ase_walk.specs.Walking.{Started, starts, refusal, called, following}
@@ -21,7 +22,7 @@ use Rattle.ase_walk.specs.declared.WalkStart.the-variants as vs
 abbrev pub toldBlock : Block → Call RecordRow
 toldBlock (vb.GroupStart p u) = gives (groupStartRow p u)
 toldBlock vb.GroupEnd = gives groupEndRow
-toldBlock (vb.Colour p u c k) = gives (colourRow p u (traitsOf (modelIn c) .tag) (bitsOf c) k)
+toldBlock (vb.Colour p u c k) = gives (colourRow p u (traitsOf (modelIn c) .tag) (bitsOf c) (inkNumber k))
 toldBlock vb.Done = over
 toldBlock (vb.Refused x p) = refused x p
 
@@ -30,7 +31,7 @@ toldBlockStep r = (toldBlock (r .block), r .next)
 
 -- what it gives: the same of a colour
 abbrev pub toldNextColour : Answer → Call RecordRow
-toldNextColour (vg.Colour p u c k) = gives (colourRow p u (traitsOf (modelIn c) .tag) (bitsOf c) k)
+toldNextColour (vg.Colour p u c k) = gives (colourRow p u (traitsOf (modelIn c) .tag) (bitsOf c) (inkNumber k))
 toldNextColour vg.Done = over
 toldNextColour (vg.Refused x p) = refused x p
 

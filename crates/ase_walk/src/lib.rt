@@ -20,10 +20,11 @@ use ase::GROUP_START;
 use ase_judge::Answer;
 use ase_judge::Passed;
 use colour::Channels;
+use colour::Ink;
 use colour::Made;
 
 // What a call of the block step gives: a group start with its name's place and number of units, a
-// group end, or a colour with its name, its channels and its type; done; or a refusal.
+// group end, or a colour with its name, its channels and its ink; done; or a refusal.
 pub enum Block {
     GroupStart {
         place: usize,
@@ -34,7 +35,7 @@ pub enum Block {
         place: usize,
         units: u32,
         colour: Channels,
-        kind: u16,
+        ink: Ink,
     },
     Done,
     Refused {
@@ -50,13 +51,13 @@ pub struct BlockStep {
 }
 
 // What a call of the colour step gives: a colour with its name's place and number of units, its
-// channels and its type; done; or a refusal.
+// channels and its ink; done; or a refusal.
 pub enum NextColour {
     Colour {
         place: usize,
         units: u32,
         colour: Channels,
-        kind: u16,
+        ink: Ink,
     },
     Done,
     Refused {
@@ -101,16 +102,16 @@ fn units_of(count: u16) -> u32
 }
 
 // A colour by its tag and the bits of its channels, which are judged.
-fn coloured(place: usize, units: u32, tag: u32, a: u32, b: u32, c: u32, d: u32, kind: u16) -> Block
-    requires { ⌜ IsColour tag a b c d ⌝ }
-    ensures { λ r. ⌜ toldBlock r ≡ gives (colourRow place units tag (a ∷ b ∷ c ∷ d ∷ []) kind) ⌝ }
+fn coloured(place: usize, units: u32, tag: u32, a: u32, b: u32, c: u32, d: u32, ink: u16) -> Block
+    requires { ⌜ IsColour tag a b c d × (ink ≤ 2) ⌝ }
+    ensures { λ r. ⌜ toldBlock r ≡ gives (colourRow place units tag (a ∷ b ∷ c ∷ d ∷ []) ink) ⌝ }
 {
     match Channels::from_tag(tag, a, b, c, d) {
         Made::Is(colour) => Block::Colour {
             place,
             units,
             colour,
-            kind,
+            ink: ase_read::ink_of(ink as u32),
         },
         Made::Refused(number) => Block::Refused { number, place: 0 },
     }
@@ -191,7 +192,7 @@ fn is_group(block: Block) -> bool
             place: _,
             units: _,
             colour: _,
-            kind: _,
+            ink: _,
         } => false,
         Block::Done => false,
         Block::Refused {
@@ -213,12 +214,12 @@ fn given_of(block: Block) -> NextColour
             place,
             units,
             colour,
-            kind,
+            ink,
         } => NextColour::Colour {
             place,
             units,
             colour,
-            kind,
+            ink,
         },
         Block::Done => NextColour::Done,
         Block::Refused { number, place } => NextColour::Refused { number, place },

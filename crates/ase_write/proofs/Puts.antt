@@ -121,18 +121,18 @@ module _ (g : RecordRow) (l : length (g .channels) ≡ 4) where
 
   length-colour-content : length (afterNameBytes g) ≡ 6 + 4 * channelsOf (g .model)
   length-colour-content =
-      let x = length-append (be 4 (g .model)) (joined (be 4) (channelsIn g) ++ be 2 (g .type)) in
-      let y = length-append (joined (be 4) (channelsIn g)) (be 2 (g .type)) in
-      omega (arith, x, y, length-be 4 (g .model), length-be 2 (g .type), length-channels)
+      let x = length-append (be 4 (g .model)) (joined (be 4) (channelsIn g) ++ be 2 (g .ink)) in
+      let y = length-append (joined (be 4) (channelsIn g)) (be 2 (g .ink)) in
+      omega (arith, x, y, length-be 4 (g .model), length-be 2 (g .ink), length-channels)
 
   pub put-after-name : (o₀ o₁ o₂ o₃ : List ℕ) (at n : ℕ) → n ≡ channelsOf (g .model) → at + 6 + 4 * channelsOf (g .model) ≤ length o₀ → o₁ ≡ stored o₀ at (be 4 (g .model))
-      → o₂ ≡ sets o₁ (at + 4) (joined (be 4) (channelsIn g)) → length o₂ ≡ length o₁ → o₃ ≡ stored o₂ (at + 4 + 4 * n) (be 2 (g .type)) → o₃ ≡ sets o₀ at (afterNameBytes g)
+      → o₂ ≡ sets o₁ (at + 4) (joined (be 4) (channelsIn g)) → length o₂ ≡ length o₁ → o₃ ≡ stored o₂ (at + 4 + 4 * n) (be 2 (g .ink)) → o₃ ≡ sets o₀ at (afterNameBytes g)
   put-after-name o₀ o₁ o₂ o₃ at n m h e₁ e₂ l₂ e₃ =
       let l₁ = length-kept o₁ o₀ at (be 4 (g .model)) e₁ in
       let p : at + 4 + 4 * channelsOf (g .model) ≡ at + 4 + 4 * n = omega arith in
       sym (
-      peel-be 4 (g .model) o₀ o₁ _ at (at + 4) refl (omega arith) e₁ ∙ peel o₁ o₂ (joined (be 4) (channelsIn g)) (be 2 (g .type)) (at + 4) (4 * channelsOf (g .model)) (at + 4 + 4 * n) length-channels p e₂
-      ∙ sym (as-sets o₃ o₂ (at + 4 + 4 * n) (be 2 (g .type)) 2 e₃ (length-be 2 (g .type)) (omega arith)))
+      peel-be 4 (g .model) o₀ o₁ _ at (at + 4) refl (omega arith) e₁ ∙ peel o₁ o₂ (joined (be 4) (channelsIn g)) (be 2 (g .ink)) (at + 4) (4 * channelsOf (g .model)) (at + 4 + 4 * n) length-channels p e₂
+      ∙ sym (as-sets o₃ o₂ (at + 4 + 4 * n) (be 2 (g .ink)) 2 e₃ (length-be 2 (g .ink)) (omega arith)))
 
 -- ---- a record
 
@@ -143,7 +143,7 @@ module _ (names : List ℕ) (g : RecordRow) where
   block-stop : g .block ≡ 0xC002 → blockIn names g ≡ groupEnd
   block-stop e = rw e
 
-  block-colour : g .block ≡ 0x0001 → blockIn names g ≡ colour (unitsIn names g) (g .model) (channelsIn g) (g .type)
+  block-colour : g .block ≡ 0x0001 → blockIn names g ≡ colour (unitsIn names g) (g .model) (channelsIn g) (g .ink)
   block-colour e = rw e
 
   type-is : Sound names 1 g → typeOf (blockIn names g) ≡ g .block

@@ -72,7 +72,7 @@ fn put_after_name(out: &mut [u8], at: usize, given: RowNumbers)
     let n = ase_write_judge::channels_of(given.model);
     fields::put_u32(out, at, given.model);
     put_channels(out, at + 4, n, given);
-    fields::put_u16(out, at + 4 + 4 * n, given.kind as u16);
+    fields::put_u16(out, at + 4 + 4 * n, given.ink as u16);
 }
 
 // A record of `size` bytes.

@@ -8,15 +8,17 @@ use Rattle.algebra.specs.Reader.{limit, stateAfter}
 use Rattle.algebra.specs.Text.{anyZero}
 use Rattle.algebra.specs.Writing.{refused}
 use Rattle.algebra.specs.Refusal.{Of, among}
-use Rattle.algebra.proofs.Numbered.{Fault, no-fault, pick-fault, first-fault, from-fault, in-fault, body-fault, needs-refused, writes-refused}
+use Rattle.algebra.proofs.Numbered.{Fault, no-fault, pick-fault, first-fault, from-fault, in-fault, faults-fault, body-fault, needs-refused, writes-refused}
 use Rattle.colour.specs.Models.{isModel}
+use Rattle.colour.specs.Inks.{inkNumber}
+use Rattle.colour.specs.declared.ink.Ink.the-variants.{Process, NotStated}
 use Rattle.colour.specs.Channels.{allowsBits}
 use Rattle.ase.specs.Grammar.{Block, groupStart, groupEnd, colour, other, fileBytes}
 use Rattle.ase.specs.Reading.{deepest}
 use Rattle.ase.specs.Faults.{nameFault, colourFault, blockFault, blocksFault}
 use Rattle.ase_write_judge.specs.Refusals.{refusals}
 use Rattle.ase.specs.Row.{RecordRow}
-use Rattle.ase_write_judge.specs.Writing.{blockIn, size, foundIn, fault, needed, written}
+use Rattle.ase_write_judge.specs.Writing.{blockIn, size, foundIn, inkFault, fault, needed, written}
 use Rattle.ase_write_judge.specs.scaffold.Parts.{standingIn}
 
 found-numbered : (text : List ℕ) (g : RecordRow) → Fault refusals (foundIn text g)
@@ -26,7 +28,7 @@ colour-content-numbered : (t : ℕ) (bs : List ℕ) (k : ℕ) → Fault refusals
 unfolding colourFault
 colour-content-numbered t bs k =
     first-fault _ _ (pick-fault (isModel t) no-fault (among refl))
-    (first-fault _ _ (from-fault _ (λ i b. pick-fault (allowsBits t b) no-fault (among refl)) 0 bs) (pick-fault (leb k 2) no-fault (among refl)))
+    (first-fault _ _ (from-fault _ (λ i b. pick-fault (allowsBits t b) no-fault (among refl)) 0 bs) (pick-fault (leb k 4) no-fault (among refl)))
 
 module _ (x d : ℕ) (h : Fault refusals x) where
   name-numbered : (us : List ℕ) → Fault refusals (nameFault x us)
@@ -39,11 +41,16 @@ module _ (x d : ℕ) (h : Fault refusals x) where
   block-numbered (colour us t bs k) = first-fault (nameFault x us) _ (name-numbered us) (colour-content-numbered t bs k)
   block-numbered (other t) = among refl
 
+ink-numbered : (g : RecordRow) → Fault refusals (inkFault g)
+ink-numbered g = pick-fault (eqb (g .block) 0x0001) (pick-fault (eqb (g .ink) (inkNumber Process)) (among refl) (pick-fault (eqb (g .ink) (inkNumber NotStated)) (among refl) no-fault)) no-fault
+
 fault-numbered : (text : List ℕ) (gs : List RecordRow) → Fault refusals (fault text gs)
 unfolding fault blocksFault
 fault-numbered text gs =
     pick-fault (leb (size gs) limit)
+    (first-fault _ _
     (first-fault _ _ (in-fault _ _ (λ d g. block-numbered (foundIn text g) d (found-numbered text g) (blockIn text g)) 0 gs) (pick-fault (eqb (stateAfter (standingIn text) 0 gs) 0) no-fault (among refl)))
+    (faults-fault inkFault ink-numbered gs))
     (among refl)
 
 -- the length that is needed is refused by one of these numbers

@@ -27,7 +27,8 @@ use Rattle.colour.specs.declared.model.Model.the-variants.{Rgb, Cmyk, Lab, Gray
 use Rattle.ase.specs.Reading.{deepest}
 use Rattle.ase.specs.Faults as f
 use Rattle.ase.specs.Row.{RecordRow}
-use Rattle.ase_write_judge.specs.Writing.{channelsIn, blockIn, sizeIn, sizes, foundIn, blockFault}
+use Rattle.ase_write_judge.specs.Writing.{channelsIn, blockIn, sizeIn, sizes, foundIn, blockFault, inkFault}
+use Rattle.ase_write_judge.proofs.After.{group-ink-ignored}
 use Rattle.ase_write_judge.specs.scaffold.Parts.{nameFault, standingIn, openAfterType, channelsFault, afterNameFault, start, ownFault, RecordFits, RecordsFit}
 use Rattle.algebra.proofs.Firsts.{first-found, hit, pass, test-holds, name-number}
 
@@ -155,7 +156,7 @@ module _ (g : RecordRow) where
   colour-content-unknown e = rw (← e)
 
   module _ (m : Model) (e : Is m ≡ modelOf (g .model)) where
-    colour-content-known : afterNameFault g ≡ firstOf (channelsFault m (g .channels)) (pick (leb (g .type) 2) 0 5)
+    colour-content-known : afterNameFault g ≡ firstOf (channelsFault m (g .channels)) (pick (leb (g .ink) 4) 0 5)
     unfolding f.colourFault isModel channelsOf allowsBits channelsFault
     colour-content-known = rw (← e)
 
@@ -163,17 +164,17 @@ module _ (g : RecordRow) where
       pub colour-content-bad : not x ≡ true → 5 ≡ afterNameFault g
       colour-content-bad z = hit 5 _ _ (sym (rw (failed x z)) ∙ h) (λ y. omega arith) ∙ sym colour-content-known
 
-      pub colour-content-typed : not x ≡ false → (v : ℕ) → v ≡ pick (leb (g .type) 2) 0 5 → v ≡ afterNameFault g
+      pub colour-content-typed : not x ≡ false → (v : ℕ) → v ≡ pick (leb (g .ink) 4) 0 5 → v ≡ afterNameFault g
       colour-content-typed z v w = pass v _ _ 0 (sym (rw (held x z)) ∙ h) refl w ∙ sym colour-content-known
 
--- a colour without a fault has a known model and a type of 16 bits
-pub colour-content-fine : (g : RecordRow) → afterNameFault g ≡ 0 → (isModel (g .model) ≡ true) × (g .type ≤ 2)
+-- a colour without a fault has a known model, and its ink is one
+pub colour-content-fine : (g : RecordRow) → afterNameFault g ≡ 0 → (isModel (g .model) ≡ true) × (g .ink ≤ 4)
 unfolding f.colourFault
 colour-content-fine g e =
     let f : ℕ = faultsFrom (λ i b. pick (allowsBits (g .model) b) 0 5) 0 (channelsIn g) in
-    let a = first-inv (pick (isModel (g .model)) 0 4) (firstOf f (pick (leb (g .type) 2) 0 5)) e in
-    let b = first-inv f (pick (leb (g .type) 2) 0 5) (a .1) in
-    (pick-none (isModel (g .model)) 4 (omega arith) (a .0), leb-true (g .type) 2 (pick-none (leb (g .type) 2) 5 (omega arith) (b .1)))
+    let a = first-inv (pick (isModel (g .model)) 0 4) (firstOf f (pick (leb (g .ink) 4) 0 5)) e in
+    let b = first-inv f (pick (leb (g .ink) 4) 0 5) (a .1) in
+    (pick-none (isModel (g .model)) 4 (omega arith) (a .0), leb-true (g .ink) 4 (pick-none (leb (g .ink) 4) 5 (omega arith) (b .1)))
 
 -- ---- a block's type
 
@@ -252,6 +253,22 @@ block-own : (names : List ℕ) (d : ℕ) (g : RecordRow) → Sound names d g →
 block-own names d g (is-group-start a k n) = block-start names 1 g a ∙ n
 block-own names d g (is-group-end a k) = block-stop names 1 g a
 block-own names d g (is-colour a n s) = block-colour names 1 g a ∙ first-none (nameFault names g) (afterNameFault g) n ∙ s
+
+-- ---- an ink
+
+module _ (g : RecordRow) where
+  pub ink-of-group : (g .block ≡ 0x0001 → ⊥) → 0 ≡ inkFault g
+  ink-of-group a = sym (group-ink-ignored g a)
+
+  module _ (a : g .block ≡ 0x0001) where
+    pub ink-process : g .ink ≡ 3 → 14 ≡ inkFault g
+    ink-process e = sym (rw (a, e))
+
+    pub ink-unstated : g .ink ≡ 4 → 14 ≡ inkFault g
+    ink-unstated e = sym (rw (a, e))
+
+    pub ink-stated : (g .ink ≡ 3 → ⊥) → (g .ink ≡ 4 → ⊥) → 0 ≡ inkFault g
+    ink-stated e h = sym (rw (a, ne-eqb (g .ink) 3 e, ne-eqb (g .ink) 4 h))
 
 -- ---- a loop over the records of a run
 

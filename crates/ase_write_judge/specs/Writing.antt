@@ -5,7 +5,10 @@ use lib.ListN.{take}
 use lib.Dec.{leb, eqb}
 use Rattle.algebra.specs.Numbers.{nums}
 use Rattle.algebra.specs.Reader.{pick, body, numberOf, limit}
+use Rattle.algebra.specs.Faults.{firstOf, faults}
 use Rattle.algebra.specs.Writing.{Outcome, needs, writes}
+use Rattle.colour.specs.Inks.{inkNumber}
+use Rattle.colour.specs.declared.ink.Ink.the-variants.{Process, NotStated}
 use Rattle.colour.specs.Models.{channelsOf}
 use Rattle.ase.specs.Grammar.{Block, groupStart, groupEnd, colour, other, fileBytes}
 use Rattle.ase.specs.Faults as f
@@ -24,7 +27,7 @@ abbrev pub blockIn : List ℕ → RecordRow → Block
 blockIn names g =
     pick (eqb (g .block) 0xC001) (groupStart (unitsIn names g))
     (pick (eqb (g .block) 0xC002) groupEnd
-    (pick (eqb (g .block) 0x0001) (colour (unitsIn names g) (g .model) (channelsIn g) (g .type))
+    (pick (eqb (g .block) 0x0001) (colour (unitsIn names g) (g .model) (channelsIn g) (g .ink))
     (other (g .block))))
 
 -- ---- how long the file is
@@ -57,9 +60,13 @@ foundIn names g = pick (leb (g .units + 1) 65535) (numberOf (body 2 (g .units) n
 abbrev pub blockFault : List ℕ → ℕ → RecordRow → ℕ
 blockFault names d g = f.blockFault (foundIn names g) d (blockIn names g)
 
--- first the limit, on the whole output's length; then the blocks in their order
+-- its ink: the file has no number for process and for not stated, 14; a group has none, and its place is not judged
+abbrev pub inkFault : RecordRow → ℕ
+inkFault g = pick (eqb (g .block) 0x0001) (pick (eqb (g .ink) (inkNumber Process)) 14 (pick (eqb (g .ink) (inkNumber NotStated)) 14 0)) 0
+
+-- first the limit, on the whole output's length; then the blocks in their order and a group that is left open; then the inks
 unfoldable pub fault : List ℕ → List RecordRow → ℕ
-fault names gs = pick (leb (size gs) limit) (f.blocksFault (foundIn names) (blockIn names) 0 gs) 1
+fault names gs = pick (leb (size gs) limit) (firstOf (f.blocksFault (foundIn names) (blockIn names) 0 gs) (faults inkFault gs)) 1
 
 -- ---- the answer
 

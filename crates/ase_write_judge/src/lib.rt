@@ -4,17 +4,19 @@ ghost use Prim.Native.Nat.{_+_, _*_, _≤_, _<_};
 ghost use lib.Dec.{leb};
 ghost use lib.ListN.{length, getD};
 ghost use Rattle.algebra.specs.Reader.{pick, limit};
+ghost use Rattle.algebra.specs.Faults.{faults};
 ghost use Rattle.algebra.specs.Table.{rowAt, rows, whole};
 ghost use Rattle.algebra.specs.Writing.{bytes, refused};
 ghost use Rattle.colour.specs.Models.{channelsOf};
 ghost use Rattle.ase.specs.Faults.{blocksFault};
 ghost use Rattle.ase.specs.Reading.{deepest};
 ghost use Rattle.ase.specs.Row.{width, taken, givenIn, noRecord};
-ghost use Rattle.ase_write_judge.specs.Writing.{blockIn, sizeIn, size, foundIn, blockFault, needed};
+ghost use Rattle.ase_write_judge.specs.Writing.{blockIn, sizeIn, size, foundIn, blockFault, inkFault, needed};
 ghost use Rattle.fields.specs.Answer.{toldWritten};
 ghost use Rattle.ase_write_judge.specs.scaffold.Parts.{nameFault, afterNameFault, openAfterType};
 use ase::RowNumbers;
 use ase::WIDTH;
+use colour::Ink;
 use colour::KnownModel;
 use colour::Model;
 use fields::FieldEnd;
@@ -44,7 +46,7 @@ fn taken_from(row: &[u32]) -> RowNumbers
         b: row[5],
         c: row[6],
         d: row[7],
-        kind: row[8],
+        ink: row[8],
     }
 }
 
@@ -69,7 +71,7 @@ fn no_record() -> RowNumbers
         b: 0,
         c: 0,
         d: 0,
-        kind: 0,
+        ink: 0,
     }
 }
 
@@ -140,7 +142,7 @@ fn name_fault(text: &[u8], given: RowNumbers) -> u32
     }
 }
 
-// The fault of what stands behind a colour's name: its model, its channels, its type.
+// The fault of what stands behind a colour's name: its model, its channels, its ink.
 fn after_name_fault(given: RowNumbers) -> u32
     ensures { λ r. ⌜ r ≡ afterNameFault (givenIn given) ⌝ }
 {
@@ -150,7 +152,7 @@ fn after_name_fault(given: RowNumbers) -> u32
     if !model.allows_all(given.a, given.b, given.c, given.d) {
         return 5;
     }
-    if 2 < given.kind {
+    if 4 < given.ink {
         return 5;
     }
     0
@@ -221,6 +223,39 @@ fn blocks_fault(run: &[u32], text: &[u8], n: usize) -> u32
     0
 }
 
+// The fault of a record's ink: the file has no number for process and for not stated. A group has
+// no ink, and its place is not looked at.
+fn ink_fault(given: RowNumbers) -> u32
+    ensures { λ r. ⌜ r ≡ inkFault (givenIn given) ⌝ }
+{
+    if given.block != COLOUR {
+        return 0;
+    }
+    if given.ink == Ink::Process.number() {
+        return 14;
+    }
+    if given.ink == Ink::NotStated.number() {
+        return 14;
+    }
+    0
+}
+
+// The first fault of the n records' inks.
+fn inks_fault(run: &[u32], n: usize) -> u32
+    requires { ⌜ width * n ≤ length (now run) ⌝ }
+    ensures { λ r. ⌜ r ≡ faults inkFault (rows width taken (now (run .entry)) n 0) ⌝ }
+{
+    let mut i: usize = 0;
+    while i < n {
+        let x = ink_fault(whole_at(run, i));
+        if x != 0 {
+            return x;
+        }
+        i += 1;
+    }
+    0
+}
+
 // The exact length that writing needs, or the refusal.
 pub fn write_length(records: &[u32], text: &[u8]) -> Written
     ensures { λ r. ⌜ toldWritten r ≡ needed (now (text .entry)) (whole width taken (now (records .entry))) ⌝ }
@@ -232,6 +267,10 @@ pub fn write_length(records: &[u32], text: &[u8]) -> Written
     let x = blocks_fault(records, text, n);
     if x != 0 {
         return Written::Refused(x);
+    }
+    let y = inks_fault(records, n);
+    if y != 0 {
+        return Written::Refused(y);
     }
     Written::Bytes(size)
 }

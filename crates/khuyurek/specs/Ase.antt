@@ -15,8 +15,8 @@ paletteReadOf v = (paletteOf (v .0), v .1)
 
 -- a record that is no colour, or a refusal
 abbrev pub plain : ℕ → ℕ → ℕ → ℕ → ℕ → AseRecord
-plain x b p n u = record { number = x; block = b; place = p; name = n; units = u; model = 0; channels = 0 ∷ 0 ∷ 0 ∷ 0 ∷ []; kind = 0 }
+plain x b p n u = record { number = x; block = b; place = p; name = n; units = u; model = 0; channels = 0 ∷ 0 ∷ 0 ∷ 0 ∷ []; ink = 0 }
 
 abbrev pub blockOf : Verdict RecordRow → AseRecord
-blockOf (accepted g) = record { number = 0; block = g .block; place = 0; name = g .first; units = g .units; model = g .model; channels = g .channels; kind = g .type }
+blockOf (accepted g) = record { number = 0; block = g .block; place = 0; name = g .first; units = g .units; model = g .model; channels = g .channels; ink = g .ink }
 blockOf (refused x p r f) = plain x 0 p 0 0

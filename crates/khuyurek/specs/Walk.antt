@@ -34,10 +34,10 @@ aseStart (blocks.refusal x p) = record { number = x; place = p; at = 0 }
 
 -- a block that is no colour, or none
 abbrev pub asePlain : ℕ → ℕ → ℕ → ℕ → ℕ → ℕ → AseStep
-asePlain x d b p u q = record { number = x; done = d; block = b; units = u; next = q; name = p; model = 0; channels = 0 ∷ 0 ∷ 0 ∷ 0 ∷ []; kind = 0 }
+asePlain x d b p u q = record { number = x; done = d; block = b; units = u; next = q; name = p; model = 0; channels = 0 ∷ 0 ∷ 0 ∷ 0 ∷ []; ink = 0 }
 
 abbrev pub aseGiven : ℕ → Call RecordRow → AseStep
-aseGiven q (gives g) = record { number = 0; done = 0; block = g .block; units = g .units; next = q; name = g .first; model = g .model; channels = g .channels; kind = g .type }
+aseGiven q (gives g) = record { number = 0; done = 0; block = g .block; units = g .units; next = q; name = g .first; model = g .model; channels = g .channels; ink = g .ink }
 aseGiven q over = asePlain 0 1 0 0 0 q
 aseGiven q (refused x p) = asePlain x 0 0 0 0 q
 

@@ -8,6 +8,7 @@ ghost use Rattle.ase_read.specs.Table.{filled, recordAt};
 ghost use Rattle.ase_write_judge.specs.Writing.{needed, written};
 ghost use Rattle.colour.specs.Models.{traitsOf};
 ghost use Rattle.colour.specs.Channels.{bitsOf, modelIn};
+ghost use Rattle.colour.specs.Inks.{inkNumber};
 ghost use Rattle.khuyurek.specs.Written.{writtenOf, wroteOf};
 ghost use Rattle.khuyurek.specs.Ase.{paletteOf, paletteReadOf, plain, blockOf};
 use crate::Length;
@@ -15,6 +16,7 @@ use crate::exported_length;
 use ase_judge::Answer;
 use ase_read::Record;
 use colour::Channels;
+use colour::Ink;
 
 // Number 0 is accepted, with the number of blocks and of colours; else the refusal.
 #[repr(C)]
@@ -26,7 +28,7 @@ pub struct AseAnswer {
 }
 
 // Number 0 is accepted, with the block's type, the place of the name's first unit and its units,
-// and a colour's model, channels and type; else the refusal.
+// and a colour's model, channels and ink; else the refusal.
 #[repr(C)]
 pub struct AseRecord {
     pub number: u32,
@@ -36,7 +38,7 @@ pub struct AseRecord {
     pub units: u32,
     pub model: u32,
     pub channels: [u32; 4],
-    pub kind: u32,
+    pub ink: u32,
 }
 
 fn exported(a: Answer) -> AseAnswer
@@ -85,12 +87,12 @@ fn no_colour(number: u32, block: u16, place: usize, name: usize, units: u32) -> 
         units,
         model: 0,
         channels: [0, 0, 0, 0],
-        kind: 0,
+        ink: 0,
     }
 }
 
-fn exported_colour(name: usize, units: u32, colour: Channels, kind: u16) -> AseRecord
-    ensures { λ r. ⌜ r ≡ blockOf (accepted (coloured name units (traitsOf (modelIn colour) .tag) (bitsOf colour) kind)) ⌝ }
+fn exported_colour(name: usize, units: u32, colour: Channels, ink: Ink) -> AseRecord
+    ensures { λ r. ⌜ r ≡ blockOf (accepted (coloured name units (traitsOf (modelIn colour) .tag) (bitsOf colour) (inkNumber ink))) ⌝ }
 {
     AseRecord {
         number: 0,
@@ -100,7 +102,7 @@ fn exported_colour(name: usize, units: u32, colour: Channels, kind: u16) -> AseR
         units,
         model: colour.model().traits().tag,
         channels: colour.bits(),
-        kind: kind as u32,
+        ink: ink.number(),
     }
 }
 
@@ -116,8 +118,8 @@ pub extern "C" fn khuyurek_ase_record_at(file: &[u8], i: usize) -> AseRecord
             place,
             units,
             colour,
-            kind,
-        } => exported_colour(place, units, colour, kind),
+            ink,
+        } => exported_colour(place, units, colour, ink),
         Record::Refused { number, place } => no_colour(number, 0, place, 0, 0),
     }
 }

@@ -4,6 +4,7 @@ ghost use Rattle.aco.specs.Reading.{aco};
 ghost use Rattle.ase.specs.Reading.{ase};
 ghost use Rattle.colour.specs.Models.{traitsOf};
 ghost use Rattle.colour.specs.Channels.{bitsOf, modelIn};
+ghost use Rattle.colour.specs.Inks.{inkNumber};
 ghost use Rattle.ase.specs.Row.{colourRow as coloured};
 ghost use Rattle.walk.specs.Walk.{gives};
 ghost use Rattle.aco_walk.specs.Walking.{walk, startOf};
@@ -15,6 +16,7 @@ use ase_walk::Block;
 use ase_walk::NextColour;
 use colour::Channels;
 use colour::Colour;
+use colour::Ink;
 
 // Number 0 is accepted, with the place where the walk starts; else the refusal with its place, and
 // for 7 the record and field.
@@ -49,7 +51,7 @@ pub struct AseStart {
 }
 
 // Number 0 is given, with the block's type, where its name lies and a colour's model, channels and
-// type, or done with 1 there; else the refusal, whose place is 0. `next` is the place of the next
+// ink, or done with 1 there; else the refusal, whose place is 0. `next` is the place of the next
 // call.
 #[repr(C)]
 pub struct AseStep {
@@ -61,7 +63,7 @@ pub struct AseStep {
     pub name: usize,
     pub model: u32,
     pub channels: [u32; 4],
-    pub kind: u32,
+    pub ink: u32,
 }
 
 fn aco_started(o: aco_walk::WalkStart) -> AcoStart
@@ -176,8 +178,8 @@ pub extern "C" fn khuyurek_ase_walk_start(file: &[u8]) -> AseStart
     ase_started(ase_walk::start_at(file))
 }
 
-fn ase_colour(name: usize, units: u32, colour: Channels, kind: u16, next: usize) -> AseStep
-    ensures { λ r. ⌜ r ≡ aseGiven next (gives (coloured name units (traitsOf (modelIn colour) .tag) (bitsOf colour) kind)) ⌝ }
+fn ase_colour(name: usize, units: u32, colour: Channels, ink: Ink, next: usize) -> AseStep
+    ensures { λ r. ⌜ r ≡ aseGiven next (gives (coloured name units (traitsOf (modelIn colour) .tag) (bitsOf colour) (inkNumber ink))) ⌝ }
 {
     AseStep {
         number: 0,
@@ -188,7 +190,7 @@ fn ase_colour(name: usize, units: u32, colour: Channels, kind: u16, next: usize)
         name,
         model: colour.model().traits().tag,
         channels: colour.bits(),
-        kind: kind as u32,
+        ink: ink.number(),
     }
 }
 
@@ -204,7 +206,7 @@ fn ase_plain(number: u32, done: u32, block: u16, name: usize, units: u32, next: 
         name,
         model: 0,
         channels: [0, 0, 0, 0],
-        kind: 0,
+        ink: 0,
     }
 }
 
@@ -221,8 +223,8 @@ pub extern "C" fn khuyurek_ase_walk(file: &[u8], at: usize) -> AseStep
             place,
             units,
             colour,
-            kind,
-        } => ase_colour(place, units, colour, kind, next),
+            ink,
+        } => ase_colour(place, units, colour, ink, next),
         NextColour::Done => ase_plain(0, 1, 0, 0, 0, next),
         NextColour::Refused { number, place: _ } => ase_plain(number, 0, 0, 0, 0, next),
     }
@@ -243,8 +245,8 @@ pub extern "C" fn khuyurek_ase_walk_block(file: &[u8], at: usize) -> AseStep
             place,
             units,
             colour,
-            kind,
-        } => ase_colour(place, units, colour, kind, next),
+            ink,
+        } => ase_colour(place, units, colour, ink, next),
         Block::Done => ase_plain(0, 1, 0, 0, 0, next),
         Block::Refused { number, place: _ } => ase_plain(number, 0, 0, 0, 0, next),
     }

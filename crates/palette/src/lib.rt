@@ -239,7 +239,7 @@ fn ase_step(file: &[u8], at: usize) -> Step
             place,
             units,
             colour,
-            kind: _,
+            ink: _,
         } => {
             let numbers = channels_of(colour);
             Step {

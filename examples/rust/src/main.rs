@@ -73,9 +73,9 @@ fn list_ase(file: &[u8]) -> Result<Vec<String>, Refusal> {
             ase::Block::Colour(colour) => {
                 let (name, channels) = (quoted(colour.name), colour.channels);
                 let (model, values) = (channels.model(), channels.values());
-                let colour_type = colour.colour_type;
+                let ink = colour.ink;
                 lines.push(format!(
-                    "{:indent$}{name} {model:?} {values:?} {colour_type:?}",
+                    "{:indent$}{name} {model:?} {values:?} {ink:?}",
                     ""
                 ));
             }

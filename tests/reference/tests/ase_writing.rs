@@ -121,8 +121,11 @@ fn numbers_that_their_fields_cannot_hold_are_refused() {
     for block in [0, 2, 0xC000, 0xC003, 0x1_0001, 0x1_C002, u32::MAX] {
         assert_eq!(changed(&[(0, block)]), Err(refused(4)), "type {block:X}");
     }
-    for colour_type in [3, 0x1_0000, 0x1_0002, u32::MAX] {
-        assert_eq!(changed(&[(8, colour_type)]), Err(refused(5)));
+    for ink in [5, 0x1_0000, 0x1_0002, u32::MAX] {
+        assert_eq!(changed(&[(8, ink)]), Err(refused(5)));
+    }
+    for ink in [3, 4] {
+        assert_eq!(changed(&[(8, ink)]), Err(refused(14)));
     }
     for units in [65_535, 65_536, 0x2_0000] {
         assert_eq!(changed(&[(2, units)]), Err(refused(5)));

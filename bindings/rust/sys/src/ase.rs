@@ -25,7 +25,7 @@ pub struct Record {
     pub units: u32,
     pub model: u32,
     pub channels: [u32; 4],
-    pub colour_type: u32,
+    pub ink: u32,
 }
 
 /// What starting a walk answers: the place of its first step, or the refusal
@@ -51,7 +51,7 @@ pub struct Step {
     pub name: usize,
     pub model: u32,
     pub channels: [u32; 4],
-    pub colour_type: u32,
+    pub ink: u32,
 }
 
 extern "C" {

@@ -55,7 +55,7 @@ wide-requires : tie.Need-wide-requires
 wide-requires c κs = search needs
 
 coloured-requires : tie.Need-coloured-requires
-coloured-requires c κs = let h = hue c in (h .is, h .type)
+coloured-requires c κs = let h = hue c in (h .is, h .ink)
 
 returns : tie.Need-returns
 returns c =

@@ -34,7 +34,7 @@ firstAt u p = pick (eqb (countAt u p) 0) 0 (p + 8)
 abbrev pub modelAt : List ℕ → ℕ → ℕ
 modelAt u p = p + 8 + 2 * countAt u p
 
--- the record of the block at p, in the file u that ends with it, each number 0 where the file ends before it. A colour's type is the last number of all;
+-- the record of the block at p, in the file u that ends with it, each number 0 where the file ends before it. A colour's ink is its type, the last number of all;
 -- of a group it is 0, since the last two bytes are then the closing zero of its name or its length
 abbrev pub loaded : List ℕ → ℕ → RecordRow
 loaded u p = record {
@@ -43,7 +43,7 @@ loaded u p = record {
   units = countAt u p - 1;
   model = load 4 u (modelAt u p);
   channels = load 4 u (modelAt u p + 4) ∷ load 4 u (modelAt u p + 8) ∷ load 4 u (modelAt u p + 12) ∷ load 4 u (modelAt u p + 16) ∷ [];
-  type = load 2 u (length u - 2);
+  ink = load 2 u (length u - 2);
 }
 
 -- the row of the block from p to `end`

@@ -23,7 +23,7 @@ numbersAt c = record {
   b = c .before .before .before .before .before .u32-or-zero3 .result;
   c = c .before .before .before .before .u32-or-zero4 .result;
   d = c .before .before .before .u32-or-zero5 .result;
-  kind = c .before .before .u16-or-zero3 .result;
+  ink = c .before .before .u16-or-zero3 .result;
 }
 
 -- they are the block's
@@ -109,7 +109,7 @@ units-of-requires c κs = search needs
 
 coloured-requires : tie.Need-coloured-requires
 coloured-requires c κs =
-    hue c .is
+    let h = hue c in (h .is, h .ink)
 
 returns : tie.Need-returns
 returns c =

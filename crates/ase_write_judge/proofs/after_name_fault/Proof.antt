@@ -25,10 +25,10 @@ returns-2 : tie.Need-returns-2
 returns-2 c = let g = givenIn (c .before .before .before .before .before .before .args .given) in colour-content-bad g _ (sym (c .before .before .before .model .given .1) ∙ c .before .before .before .before .before .from-tag .ensures) (c .before .allows-all .result) (channels-by _ _ _ _ _ _ (c .before .allows-all .ensures)) (c .if1 .taken)
 
 returns-3 : tie.Need-returns-3
-returns-3 c = let g = givenIn (c .before .before .before .before .before .before .before .before .args .given) in colour-content-typed g _ (sym (c .before .before .before .before .before .model .given .1) ∙ c .before .before .before .before .before .before .before .from-tag .ensures) (c .before .before .before .allows-all .result) (channels-by _ _ _ _ _ _ (c .before .before .before .allows-all .ensures)) (c .before .before .if1 .left) 5 (sym (rw (lt-leb (g .type) 2 (c .if2 .taken))))
+returns-3 c = let g = givenIn (c .before .before .before .before .before .before .before .before .args .given) in colour-content-typed g _ (sym (c .before .before .before .before .before .model .given .1) ∙ c .before .before .before .before .before .before .before .from-tag .ensures) (c .before .before .before .allows-all .result) (channels-by _ _ _ _ _ _ (c .before .before .before .allows-all .ensures)) (c .before .before .if1 .left) 5 (sym (rw (lt-leb (g .ink) 4 (c .if2 .taken))))
 
 returns-4 : tie.Need-returns-4
-returns-4 c = let g = givenIn (c .before .before .before .before .before .before .before .before .args .given) in colour-content-typed g _ (sym (c .before .before .before .before .before .model .given .1) ∙ c .before .before .before .before .before .before .before .from-tag .ensures) (c .before .before .before .allows-all .result) (channels-by _ _ _ _ _ _ (c .before .before .before .allows-all .ensures)) (c .before .before .if1 .left) 0 (sym (rw (le-leb (g .type) 2 (c .if2 .left))))
+returns-4 c = let g = givenIn (c .before .before .before .before .before .before .before .before .args .given) in colour-content-typed g _ (sym (c .before .before .before .before .before .model .given .1) ∙ c .before .before .before .before .before .before .before .from-tag .ensures) (c .before .before .before .allows-all .result) (channels-by _ _ _ _ _ _ (c .before .before .before .allows-all .ensures)) (c .before .before .if1 .left) 0 (sym (rw (le-leb (g .ink) 4 (c .if2 .left))))
 
 pub after-name-fault-spec : {M : Type 1} → statement M
 after-name-fault-spec =

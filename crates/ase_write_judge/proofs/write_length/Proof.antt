@@ -1,4 +1,4 @@
-use Rattle.ase_write_judge.proofs.Outcomes.{too-long, bad-block, all-fine}
+use Rattle.ase_write_judge.proofs.Outcomes.{too-long, bad-block, bad-ink, all-fine}
 use Rattle.algebra.proofs.Writing.{size-is, size-passes}
 use Rattle.fields.specs.Answer.{toldWritten}
 use mathlib.Core.Path.{sym, ap, _∙_}
@@ -36,12 +36,24 @@ returns-2 c =
     let s = size-is (12 + sizes gs) _ (sym (ap toldWritten (c .before .before .before .size .given .1)) ∙ c .before .before .before .before .before .size-of .ensures) in
     bad-block (a .text .now) gs (s .0) _ (c .before .blocks-fault .ensures) (c .if1 .taken)
 
+inks-fault-requires : tie.Need-inks-fault-requires
+inks-fault-requires c κs = search needs
+
 returns-3 : tie.Need-returns-3
 returns-3 c =
-    let a = c .before .before .before .before .before .before .before .before .args in
+    let b = c .before .before in
+    let a = b .before .before .before .before .before .before .before .before .args in
     let gs = whole width taken (a .records .now) in
-    let s = size-is (12 + sizes gs) _ (sym (ap toldWritten (c .before .before .before .size .given .1)) ∙ c .before .before .before .before .before .size-of .ensures) in
-    all-fine (a .text .now) gs (s .0) _ (c .before .blocks-fault .ensures) _ (c .if1 .left) (s .1)
+    let s = size-is (12 + sizes gs) _ (sym (ap toldWritten (b .before .before .before .size .given .1)) ∙ b .before .before .before .before .before .size-of .ensures) in
+    bad-ink (a .text .now) gs (s .0) _ (b .before .blocks-fault .ensures) (b .if1 .left) _ (c .before .inks-fault .ensures) (c .if2 .taken)
+
+returns-4 : tie.Need-returns-4
+returns-4 c =
+    let b = c .before .before in
+    let a = b .before .before .before .before .before .before .before .before .args in
+    let gs = whole width taken (a .records .now) in
+    let s = size-is (12 + sizes gs) _ (sym (ap toldWritten (b .before .before .before .size .given .1)) ∙ b .before .before .before .before .before .size-of .ensures) in
+    all-fine (a .text .now) gs (s .0) _ (b .before .blocks-fault .ensures) (b .if1 .left) _ (c .before .inks-fault .ensures) _ (c .if2 .left) (s .1)
 
 pub write-length-spec : {M : Type 1} → statement M
 write-length-spec =
@@ -53,4 +65,6 @@ write-length-spec =
     returns
     blocks-fault-requires
     returns-2
-    returns-3)
+    inks-fault-requires
+    returns-3
+    returns-4)

@@ -35,7 +35,7 @@ channelsFault m bs = faultsFrom (λ i b. pick (allows m (ofBits binary32 b)) 0 5
 
 -- a colour apart from its name
 abbrev pub afterNameFault : RecordRow → ℕ
-afterNameFault g = f.colourFault (g .model) (channelsIn g) (g .type)
+afterNameFault g = f.colourFault (g .model) (channelsIn g) (g .ink)
 
 -- where a name begins; 0 for a name of no units, whose place may be any
 abbrev pub start : RecordRow → ℕ
@@ -47,7 +47,7 @@ ownFault names g = blockFault names 1 g
 
 -- the fields of a colour behind its name
 abbrev pub afterNameBytes : RecordRow → List ℕ
-afterNameBytes g = be 4 (g .model) ++ (joined (be 4) (channelsIn g) ++ be 2 (g .type))
+afterNameBytes g = be 4 (g .model) ++ (joined (be 4) (channelsIn g) ++ be 2 (g .ink))
 
 -- what storing a record from `at` asks: room for it, a length of 32 bits, and no fault of its own
 pub record RecordFits (names : List ℕ) (g : RecordRow) (at room : ℕ) : Type 0 where

@@ -34,7 +34,7 @@ pub fn record(result: Result<ase::Record, Refusal>) -> Record {
             units,
             model,
             channels,
-            colour_type: u32::from(colour_type),
+            ink: u32::from(colour_type),
             ..Record::default()
         },
         Err(Refusal { number, place, .. }) => Record {

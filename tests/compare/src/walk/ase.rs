@@ -96,7 +96,7 @@ fn expected_step(step: reference::Step<Record>) -> Step {
             units,
             model,
             channels,
-            colour_type: u32::from(colour_type),
+            ink: u32::from(colour_type),
             ..nothing
         },
         Ok(None) => Step { done: 1, ..nothing },
@@ -120,7 +120,7 @@ fn row_of(step: &Step) -> Vec<u32> {
         b,
         c,
         d,
-        step.colour_type,
+        step.ink,
     ]
 }
 

@@ -41,7 +41,7 @@ const WRONG_MODELS: [u32; 6] = [
     u32::MAX,
 ];
 /// Colour types too large; some of them are not once cut to 16 bits.
-const WRONG_COLOUR_TYPES: [u32; 5] = [3, 0xFFFF, 0x1_0000, 0x1_0002, u32::MAX];
+const WRONG_COLOUR_TYPES: [u32; 7] = [3, 4, 5, 0xFFFF, 0x1_0000, 0x1_0002, u32::MAX];
 
 /// What a writer is handed.
 #[derive(Clone, Debug, PartialEq, Eq)]

@@ -18,6 +18,9 @@ const START_ROW: u32 = GROUP_START as u32;
 const END_ROW: u32 = GROUP_END as u32;
 const COLOUR_ROW: u32 = COLOUR as u32;
 
+/// The last ink that a record may state; a file has the first three for its types.
+const LAST_INK: u32 = 4;
+
 /// A name's count has 16 bits, and counts the closing zero.
 const MAX_UNITS: u32 = u16::MAX as u32 - 1;
 
@@ -104,7 +107,18 @@ fn judge_rows(rows: &[Row], text: &[u8]) -> Result<(), u32> {
     if open > 0 {
         return Err(number::UNBALANCED);
     }
-    Ok(())
+    judge_inks(rows)
+}
+
+/// Judged after all else: an ink that no type of a file is.
+fn judge_inks(rows: &[Row]) -> Result<(), u32> {
+    let stated =
+        |&[block, .., ink]: &Row| block != COLOUR_ROW || ink <= u32::from(LAST_COLOUR_TYPE);
+    if rows.iter().all(stated) {
+        Ok(())
+    } else {
+        Err(number::NO_COUNTERPART)
+    }
 }
 
 #[inline(always)]
@@ -129,7 +143,7 @@ fn judge_colour(row: &Row) -> Result<(), u32> {
     let in_range = channels[..count]
         .iter()
         .all(|&bits| is_in_range(model, bits));
-    if !in_range || colour_type > u32::from(LAST_COLOUR_TYPE) {
+    if !in_range || colour_type > LAST_INK {
         return Err(number::OUT_OF_RANGE);
     }
     Ok(())

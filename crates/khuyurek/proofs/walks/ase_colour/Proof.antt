@@ -14,8 +14,11 @@ traits-requires c κs = search needs
 bits-requires : tie.Need-bits-requires
 bits-requires c κs = search needs
 
+number-requires : tie.Need-number-requires
+number-requires c κs = search needs
+
 returns : tie.Need-returns
-returns c = rw (c .bits .ensures, c .before .traits .ensures, c .before .before .model .ensures)
+returns c = rw (c .number .ensures, c .before .bits .ensures, c .before .before .traits .ensures, c .before .before .before .model .ensures)
 
 pub ase-colour-spec : {M : Type 1} → statement M
-ase-colour-spec = tie.close (tie.spec cast-t6 model-requires traits-requires bits-requires returns)
+ase-colour-spec = tie.close (tie.spec cast-t6 model-requires traits-requires bits-requires number-requires returns)
