@@ -4,9 +4,9 @@ use mathlib.Core.Path.{_≡_, sym, ap, _∙_}
 use mathlib.Core.List.{List}
 use mathlib.Core.Bool.{Bool}
 use Rattle.algebra.specs.Reader.{ok, refuse, field}
-use Rattle.descriptor.specs.declared.Value.the-variants as vv
+use Rattle.descriptor_fields.specs.declared.Value.the-variants as vv
 use Rattle.descriptor.specs.Reading.{is, unknown, class, Sort, leaf, sortOf, siblings, valueOf, item}
-use Rattle.descriptor.specs.scaffold.Answer.{begun}
+use Rattle.descriptor_fields.specs.scaffold.Answer.{begun}
 use Rattle.descriptor.proofs.Fields.{then-no, then-to}
 use Rattle.descriptor_judge.specs.declared.RowsEnd.{RowsEnd}
 use Rattle.descriptor_judge.specs.declared.RowsEnd.the-variants as vw

@@ -10,10 +10,10 @@ use Rattle.algebra.specs.Chars.{chars}
 use Rattle.algebra.specs.Reader.{Res, ok, refuse, Reader, then, field, unless, judged}
 use Rattle.algebra.proofs.Laws.{judged-short, judged-bad, judged-ok}
 use Rattle.algebra.proofs.Inverse.{clash}
-use Rattle.descriptor.specs.declared.Value.{Value}
-use Rattle.descriptor.specs.declared.Value.the-variants as vv
+use Rattle.descriptor_fields.specs.declared.Value.{Value}
+use Rattle.descriptor_fields.specs.declared.Value.the-variants as vv
 use Rattle.descriptor.specs.Reading.{Known, is, unknown, known, Sort, leaf, list, object, reference, array, sortOf, formOf, id, class, Row, headed, plain, siblings, children, refValue, refItem, column, columnType, arrayPair, arrayOf, keyed, objectOf, valueOf, item, pair, version, root}
-use Rattle.descriptor.specs.scaffold.Answer.{endOf, begun}
+use Rattle.descriptor_fields.specs.scaffold.Answer.{endOf, begun}
 use Rattle.descriptor.proofs.Fields.{then-no, then-to}
 use Rattle.descriptor.proofs.Ends.{Accepts, yes, Past, lower, id-past, class-past}
 use Rattle.descriptor.proofs.Tiling.{Rows, keyed-rows, item-rows}

@@ -16,8 +16,8 @@ ghost use Rattle.descriptor_judge.specs.Answer.{verdict, told};
 ghost use Rattle.descriptor_judge.specs.scaffold.Answer.{closing};
 ghost use Rattle.descriptor_judge.specs.scaffold.Cycle.{optional, memberOf, holderOf, heldOf};
 ghost use Rattle.descriptor_judge.specs.scaffold.Counting.{walked, single, carried, ownToo, Small, Within};
-use descriptor::KnownForm;
-use descriptor::Value;
+use descriptor_fields::KnownForm;
+use descriptor_fields::Value;
 use fields::FieldEnd;
 use fields::Number32;
 
@@ -86,10 +86,10 @@ fn ref_item(file: &[u8], left: usize, at: usize) -> FieldEnd
     let Number32::Is(kind, value) = fields::u32_at(file, at) else {
         return FieldEnd::Refused(2, at);
     };
-    let KnownForm::Is(form) = descriptor::form_of(kind) else {
+    let KnownForm::Is(form) = descriptor_fields::form_of(kind) else {
         return FieldEnd::Refused(4, at);
     };
-    descriptor::ref_value_at(file, form, value)
+    descriptor_fields::ref_value_at(file, form, value)
 }
 
 // The pair of an object array at `at`: one row.
@@ -99,7 +99,7 @@ fn array_pair(file: &[u8], objects: u32, left: usize, at: usize) -> FieldEnd
     if left == 0 {
         return FieldEnd::Refused(10, at);
     }
-    match descriptor::id_at(file, at) {
+    match descriptor_fields::id_at(file, at) {
         FieldEnd::Refused(x, p) => FieldEnd::Refused(x, p),
         FieldEnd::Next(key) => {
             let Number32::Is(kind, value) = fields::u32_at(file, key) else {
@@ -108,7 +108,7 @@ fn array_pair(file: &[u8], objects: u32, left: usize, at: usize) -> FieldEnd
             if kind != descriptor::COLUMN {
                 return FieldEnd::Refused(4, key);
             }
-            descriptor::column_at(file, objects, value)
+            descriptor_fields::column_at(file, objects, value)
         }
     }
 }
@@ -171,7 +171,7 @@ fn array(file: &[u8], left: usize, at: usize) -> RowsEnd
     let Number32::Is(objects, class) = fields::u32_at(file, at) else {
         return RowsEnd::Refused(2, at);
     };
-    match descriptor::class_at(file, class) {
+    match descriptor_fields::class_at(file, class) {
         FieldEnd::Refused(x, p) => RowsEnd::Refused(x, p),
         FieldEnd::Next(pairs) => array_pairs(file, objects, left, pairs),
     }
@@ -196,7 +196,7 @@ fn class_if(file: &[u8], there: bool, at: usize) -> FieldEnd
     ensures { λ r. ⌜ toldFieldEnd r ≡ optional there class (now (file .entry)) at ⌝ }
 {
     if there {
-        return descriptor::class_at(file, at);
+        return descriptor_fields::class_at(file, at);
     }
     FieldEnd::Next(at)
 }
@@ -206,7 +206,7 @@ fn key_if(file: &[u8], there: bool, at: usize) -> FieldEnd
     ensures { λ r. ⌜ toldFieldEnd r ≡ optional there id (now (file .entry)) at ⌝ }
 {
     if there {
-        return descriptor::id_at(file, at);
+        return descriptor_fields::id_at(file, at);
     }
     FieldEnd::Next(at)
 }
@@ -222,7 +222,7 @@ fn item(file: &[u8], left: usize, first: usize, at: usize) -> RowsEnd
     let Number32::Is(kind, value) = fields::u32_at(file, at) else {
         return RowsEnd::Refused(2, at);
     };
-    match descriptor::begin(file, kind, value) {
+    match descriptor_fields::begin(file, kind, value) {
         Value::Ends(end) => RowsEnd::Next(end, 1),
         Value::List => with_own(list(file, false, left - 1, value)),
         Value::Object => with_own(object(file, left - 1, value)),

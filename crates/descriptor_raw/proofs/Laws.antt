@@ -12,11 +12,11 @@ use Rattle.algebra.specs.Chars.{chars}
 use Rattle.algebra.specs.Reader.{Res, Reader, ok, refuse, then, pick, field, body, rule, Judged, fine, fault, unless, judged, each, done, orZero}
 use Rattle.algebra.proofs.Inverse.{field-inv, body-inv, judged-inv, done-inv, clash, then-inv, ok-value, ok-place, each-none, each-inv}
 use Rattle.descriptor.specs.Reading.{Known, is, unknown, known, Sort, leaf, list, object, reference, array, sortOf, id, skip, shut, unicode, class, rawBytes, flag, double, isUnit, isArrayUnit, unitDouble, formOf, refValue, column}
-use Rattle.descriptor.specs.scaffold.Answer.{readerOf}
-use Rattle.descriptor.specs.scaffold.Answer as DA
-use Rattle.descriptor.specs.declared.Form.{Form}
-use Rattle.descriptor.specs.declared.KnownForm.{KnownForm}
-use Rattle.descriptor.specs.declared.KnownForm.the-variants as vk
+use Rattle.descriptor_fields.specs.scaffold.Answer.{readerOf}
+use Rattle.descriptor_fields.specs.scaffold.Answer as DA
+use Rattle.descriptor_fields.specs.declared.Form.{Form}
+use Rattle.descriptor_fields.specs.declared.KnownForm.{KnownForm}
+use Rattle.descriptor_fields.specs.declared.KnownForm.the-variants as vk
 use Rattle.descriptor_judge.specs.scaffold.Cycle.{optional}
 use Rattle.descriptor_raw.specs.Raw.{dueOf, Sees}
 use Rattle.descriptor_raw.specs.scaffold.Raw.{Ends, Values, Items}

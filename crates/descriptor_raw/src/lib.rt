@@ -8,7 +8,7 @@ ghost use Prim.Native.Nat.{_+_, _≤_, _<_};
 ghost use lib.Dec.{eqb};
 ghost use Rattle.algebra.specs.Reader.{field, orZero};
 ghost use Rattle.descriptor.specs.Reading.{id, unicode, class, enumerated, rawBytes};
-ghost use Rattle.descriptor.specs.scaffold.Answer.{readerOf};
+ghost use Rattle.descriptor_fields.specs.scaffold.Answer.{readerOf};
 ghost use Rattle.descriptor_heads.specs.Heads.{forms, columns, itemHead, memberHead, rootHead};
 ghost use Rattle.descriptor_judge.specs.scaffold.Cycle.{optional};
 ghost use Rattle.descriptor_raw.specs.Raw.{dueOf, Sees};
@@ -20,10 +20,8 @@ use descriptor::CLASS;
 use descriptor::COMP;
 use descriptor::DOUBLE;
 use descriptor::ENUMERATED;
-use descriptor::Form;
 use descriptor::GLOBAL_CLASS;
 use descriptor::GLOBAL_OBJECT;
-use descriptor::KnownForm;
 use descriptor::LIST;
 use descriptor::LONG;
 use descriptor::OBJECT;
@@ -32,6 +30,8 @@ use descriptor::RAW;
 use descriptor::REFERENCE;
 use descriptor::TEXT;
 use descriptor::UNIT_DOUBLE;
+use descriptor_fields::Form;
+use descriptor_fields::KnownForm;
 use descriptor_judge::LIMIT;
 
 // A head: its kind, what its children are (0 items, 1 pairs, 2 reference items, 3 the pairs of an
@@ -184,7 +184,7 @@ fn form_head(file: &[u8], at: usize) -> RawHead
 {
     let kind = fields::u32_or_zero(file, at);
     let class = class_end(file, at + 4);
-    match descriptor::form_of(kind) {
+    match descriptor_fields::form_of(kind) {
         KnownForm::Is(form) => leaf(kind, at + 4, form_end(file, form, class)),
         KnownForm::Unknown => leaf(kind, at + 4, class),
     }

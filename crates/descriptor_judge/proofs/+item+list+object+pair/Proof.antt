@@ -31,7 +31,7 @@ use Rattle.descriptor_judge.proofs.+item+list+object+pair.Lts-object as
 use Rattle.descriptor_judge.proofs.pair.Reads as pair
 use Rattle.descriptor_judge.proofs.pair.Kinds as pair-kinds
 use Rattle.descriptor_judge.proofs.+item+list+object+pair.Lts-pair as pair-lts
-use Rattle.descriptor.proofs.begin.Reads as begin-reads
+use Rattle.descriptor_fields.proofs.begin.Reads as begin-reads
 use Rattle.descriptor_judge.proofs.class_if.Reads as class-if-reads
 use Rattle.descriptor_judge.proofs.held.Reads as held-reads
 use Rattle.descriptor_judge.proofs.key_if.Reads as key-if-reads

@@ -1,4 +1,4 @@
-use Rattle.descriptor.specs.scaffold.Answer.{known, readerOf}
+use Rattle.descriptor_fields.specs.scaffold.Answer.{known, readerOf}
 use Rattle.descriptor.specs.Reading.{refValue}
 use Rattle.fields.specs.Answer.{told32}
 use Rattle.descriptor_judge.specs.scaffold.Counting.{walked, single}

@@ -7,7 +7,7 @@ use Rattle.descriptor_raw.proofs.form_head.Statement.{statement}
 use Rattle.descriptor_raw.proofs.form_head.Tie as tie
 use Rattle.descriptor_raw.proofs.form_head.Reads as reads
 use Rattle.descriptor_raw.proofs.form_head.Lts as lts
-use Rattle.descriptor.proofs.form_of.Reads as form-of-reads
+use Rattle.descriptor_fields.proofs.form_of.Reads as form-of-reads
 use Rattle.descriptor_raw.proofs.class_end.Reads as class-end-reads
 use Rattle.descriptor_raw.proofs.form_end.Reads as form-end-reads
 use Rattle.descriptor_raw.proofs.leaf.Reads as leaf-reads
