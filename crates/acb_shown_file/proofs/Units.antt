@@ -14,12 +14,8 @@ use Rattle.algebra.proofs.Places.{at-take, bes-nums, length-bes, length-nums}
 use Rattle.acb.specs.Reading.{string, Entry, componentsOf, header, closing, colour, Contents, book, acb}
 use Rattle.acb_read.specs.Table.{blank}
 use Rattle.acb_shown_values.specs.Texts.{shownText}
-use Rattle.acb_shown_file.specs.View.{bytesOf, prefixOf, suffixOf, fullName}
+use Rattle.acb_shown_file.specs.View.{bytesOf, unitBytes, prefixOf, suffixOf, fullName}
 use Rattle.acb_shown_file.proofs.Naming.{each-has, texts-have}
-
--- the bytes of a name's units
-abbrev pub unitBytes : Name → List ℕ
-unitBytes nm = joined (be 2) (nm .units)
 
 module _ (s : List ℕ) (bytes : Bytes s) where
   string-bytes : (at : ℕ) (nm : Name) (q : ℕ) → string s at ≡ ok nm q → bytesOf s nm ≡ unitBytes nm

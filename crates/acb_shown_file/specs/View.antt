@@ -5,6 +5,7 @@ use mathlib.Core.Bool.{Bool}
 use lib.Dec.{leb, ltb, eqb}
 use lib.IntN.{ℤ, pos}
 use lib.ListN.{length, getD, drop}
+use Rattle.algebra.specs.Numbers.{be, joined}
 use Rattle.algebra.specs.Reader.{Res, ok, refuse, pick}
 use Rattle.algebra.specs.Text.{Name, isEmpty}
 use Rattle.algebra.specs.Store.{part}
@@ -62,6 +63,10 @@ pageAt p (refuse x q r f) = refused x q
 pageAt p (ok c q) = pageOf (sampleOf (c .header .numbers .size) (c .header .numbers .offset) p (map dummy (c .entries)))
 
 -- ---- full names
+
+-- the bytes of a name's units
+abbrev pub unitBytes : Name → List ℕ
+unitBytes nm = joined (be 2) (nm .units)
 
 -- the bytes of a string's units in the file
 abbrev pub bytesOf : List ℕ → Name → List ℕ

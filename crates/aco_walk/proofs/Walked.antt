@@ -19,8 +19,8 @@ use Rattle.aco.specs.Reading.{colour, Entry, entry, Contents, zeroColour, unnam
 use Rattle.aco.proofs.Raw.{colour-inv}
 use Rattle.aco.proofs.Inverse.{First, Then, one, two, heading-inv, aco-inv}
 use Rattle.aco_read.specs.Table.{recordsOf}
-use Rattle.walk.specs.Walk.{gives, refused, after, call, inTurn}
-use Rattle.walk.proofs.Calls.{Walks, calls-are, after-calls, each-walks, step-over, step-read, step-five, step-past, lost-stays}
+use Rattle.walk.specs.Walk.{gives, refused, after, call, inTurn, Walks}
+use Rattle.walk.proofs.Calls.{calls-are, after-calls, each-walks, step-over, step-read, step-five, step-past, lost-stays}
 use Rattle.walk.specs.Names.{namePart}
 use Rattle.walk.proofs.Names.{part-is}
 use Rattle.aco_walk.specs.Walking.{isPlain, firstPlace, namedEntry, labelled, swatchFrom, walk, lentOf, called, following}

@@ -17,8 +17,8 @@ use Rattle.ase.specs.Reading.{Entry, groupStartRead, groupEndRead, colourRead, 
 use Rattle.ase_judge.specs.Answer.{colours}
 use Rattle.ase_read.specs.Table.{entriesOf}
 use Rattle.ase_read.proofs.Blocks.{blocked}
-use Rattle.walk.specs.Walk.{Call, gives, over, refused, after, call, inTurn, sought, seek, only}
-use Rattle.walk.proofs.Calls.{Walks, call-stays, calls-are, after-calls, chain-walks, step-over, step-read, step-five, step-past, only-walks, seek-five}
+use Rattle.walk.specs.Walk.{Call, gives, over, refused, after, call, inTurn, sought, seek, only, Walks}
+use Rattle.walk.proofs.Calls.{call-stays, calls-are, after-calls, chain-walks, step-over, step-read, step-five, step-past, only-walks, seek-five}
 use Rattle.walk.specs.Names.{namePart}
 use Rattle.walk.proofs.Names.{part-is}
 use Rattle.ase_walk.specs.Walking.{blockFrom, blockWalk, isColour, walk, firstPlace, lentOf, called, following}

@@ -12,11 +12,11 @@ use Rattle.descriptor.specs.Reading.{Row, class, siblings, children, keyed, ite
 use Rattle.descriptor.proofs.Ends.{Accepts, yes, no, Past}
 use Rattle.descriptor_heads.specs.Heads.{Due, pairs, Head, Opened, over, nextHead, settled, after, rootHead, wholeHeads, fileHeads}
 use Rattle.descriptor_heads.proofs.Members.{rowAt, member}
-use Rattle.descriptor_heads.specs.Rows.{headsOf, rowsFrom, rowsOf}
+use Rattle.descriptor_heads.specs.Rows.{headsOf, rowsFrom, rowsOf, headOf}
 use Rattle.descriptor_heads.proofs.Past.{root-past}
 use Rattle.descriptor.proofs.Rows.{rows-laid}
 use Rattle.descriptor_heads.proofs.Tiles.{tiled-rows}
-use Rattle.descriptor_heads.proofs.Under.{headOf, marks, under, heads-under}
+use Rattle.descriptor_heads.proofs.Under.{marks, under, heads-under}
 
 -- the root's head
 abbrev opening : ℕ → ℕ → ℕ → Res Opened

@@ -11,8 +11,7 @@ use Rattle.algebra.specs.Reader.{pick}
 use Rattle.descriptor.specs.Reading.{Row}
 use Rattle.descriptor.specs.Tiles.{Tiled, none, one}
 use Rattle.descriptor_heads.specs.Heads.{Head}
-use Rattle.descriptor_heads.specs.Rows.{rowEnd, nowUnder, rowsFrom}
-use Rattle.descriptor_heads.proofs.Under.{headOf}
+use Rattle.descriptor_heads.specs.Rows.{rowEnd, nowUnder, rowsFrom, headOf}
 
 -- the heads of some rows, and more behind them
 abbrev pub behind : List Row → List Head → List Head

@@ -11,13 +11,9 @@ use Rattle.algebra.specs.Reader.{Res, ok, refuse, Reader, then, pick, until, ma
 use Rattle.descriptor.specs.Reading.{Row, siblings, item, keyed, refItem, arrayPair}
 use Rattle.descriptor.proofs.Ends.{Accepts, yes, no, Past, accepted}
 use Rattle.descriptor_heads.specs.Heads.{Due, items, pairs, forms, columns, Head, Opened, memberHead, deepest, headAt, Stack, over, nextHead, settled, after}
-use Rattle.descriptor_heads.specs.Rows.{headsOf}
+use Rattle.descriptor_heads.specs.Rows.{headsOf, headOf}
 use Rattle.descriptor_heads.proofs.Members.{member, rowAt, filledOut, headed-then}
 use Rattle.descriptor_heads.proofs.Past.{head-past}
-
--- a row's head
-abbrev pub headOf : Row → Head
-headOf r = record { kind = r .kind; first = r .first; depth = r .depth; value = r .value }
 
 abbrev pub marks : Res (List Row) → Res (List Head)
 marks m = mapRes (map headOf) m

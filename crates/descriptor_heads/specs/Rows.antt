@@ -22,6 +22,10 @@ rowsFrom e k parents (h ∷ hs) =
     record { kind = h .kind; parent = parents (h .depth); first = h .first; size = rowEnd (h .depth) hs e - h .first; depth = h .depth; value = h .value }
     ∷ rowsFrom e (k + 1) (nowUnder parents (h .depth + 1) k) hs
 
+-- a row's head
+abbrev pub headOf : Row → Head
+headOf r = record { kind = r .kind; first = r .first; depth = r .depth; value = r .value }
+
 abbrev pub headsOf : List Opened → List Head
 headsOf os = map (λ (o : Opened). o .head) os
 

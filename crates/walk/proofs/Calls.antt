@@ -10,14 +10,9 @@ use native.Mathlib.Omega.{arith}
 use Rattle.algebra.specs.Reader.{Res, ok, refuse, Reader, pick, each, chain}
 use Rattle.algebra.proofs.Inverse.{each-none, each-inv}
 use Rattle.algebra.proofs.Chain.{chain-none, chain-inv}
-use Rattle.walk.specs.Walk.{Call, gives, over, refused, Step, placeAfter, after, call, inTurn, lost, answered, step, sought, seek, only}
+use Rattle.walk.specs.Walk.{Call, gives, over, refused, Step, placeAfter, after, call, inTurn, Walks, lost, answered, step, sought, seek, only}
 
 -- ---- calls in turn
-
--- from a place f gives the items of a list, and then says done and stands where it says so again
-abbrev pub Walks : {A : Type 0} → Step A → ℕ → List A → Type 0
-Walks f at [] = (end : ℕ) × (f at ≡ (over, end)) × (f end ≡ (over, end))
-Walks f at (a ∷ more) = (next : ℕ) × (f at ≡ (gives a, next)) × Walks f next more
 
 module _ {A : Type 0} (f : Step A) where
   answer : (at : ℕ) {a : Call A} {q : ℕ} → f at ≡ (a, q) → f at .0 ≡ a

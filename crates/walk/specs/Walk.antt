@@ -1,5 +1,6 @@
 -- A walk: the items of a file handed out one a call, each from the place that the call before it left.
 use Prim.Native.Nat.{ℕ, zero, suc, _+_}
+use mathlib.Core.Path.{_≡_}
 use mathlib.Core.List.{List, [], _∷_}
 use mathlib.Core.Bool.{Bool}
 use lib.Dec.{eqb}
@@ -37,6 +38,11 @@ unfoldable pub inTurn : {A : Type 0} → List A → ℕ → Call A
 inTurn [] i = over
 inTurn (a ∷ more) zero = gives a
 inTurn (a ∷ more) (suc i) = inTurn more i
+
+-- from a place a step gives the items of a list, and then says done and stands where it says so again
+abbrev pub Walks : {A : Type 0} → Step A → ℕ → List A → Type 0
+Walks f at [] = (end : ℕ) × (f at ≡ (over, end)) × (f end ≡ (over, end))
+Walks f at (a ∷ more) = (next : ℕ) × (f at ≡ (gives a, next)) × Walks f next more
 
 -- ---- a step by what a reader reads
 
