@@ -16,6 +16,7 @@ mod colour;
 mod convert;
 mod cursor;
 pub mod descriptor;
+pub mod ink;
 pub mod kind;
 mod listing;
 mod model;

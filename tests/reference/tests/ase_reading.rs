@@ -197,14 +197,14 @@ fn three_types_are_known() {
 }
 
 #[test]
-fn three_colour_types_are_known() {
-    for colour_type in 0..=u16::MAX {
-        let expected = match colour_type {
+fn three_inks_are_stated() {
+    for ink in 0..=u16::MAX {
+        let expected = match ink {
             0..=2 => Ok(ONE_COLOUR),
             _ => Err(refused(5, 30)),
         };
-        let file = p6_with(30, &colour_type.to_be_bytes());
-        assert_eq!(judge(&file), expected, "colour type {colour_type}");
+        let file = p6_with(30, &ink.to_be_bytes());
+        assert_eq!(judge(&file), expected, "ink {ink}");
     }
 }
 
@@ -377,7 +377,7 @@ fn a_record_is_asked_for_by_number() {
             units: row[2],
             model: row[3],
             channels: row[4..8].try_into().unwrap(),
-            colour_type: row[8] as u16,
+            ink: row[8],
         };
         assert_eq!(record(EVERY_MODEL, index), Ok(expected));
     }

@@ -96,7 +96,7 @@ fn room_is_judged_last_and_nothing_changes() {
 /// A record wrong in each of its fields, which are put right one by one.
 #[test]
 fn faults_of_a_record_come_in_turn() {
-    let mut record = [0x1_0001, 9, 8_400_000, 0, 0x7FC0_0000, JUNK, JUNK, JUNK, 3];
+    let mut record = [0x1_0001, 9, 8_400_000, 0, 0x7FC0_0000, JUNK, JUNK, JUNK, 5];
     let mut text = [0, 0];
     let mut steps = |index: usize, value: u32, zero: bool| {
         record[index] = value;
@@ -113,6 +113,7 @@ fn faults_of_a_record_come_in_turn() {
     assert_eq!(steps(1, 0, false), Err(refused(4)));
     assert_eq!(steps(3, GRAY, false), Err(refused(5)));
     assert_eq!(steps(4, ONE, false), Err(refused(5)));
+    assert_eq!(steps(8, 3, false), Err(refused(14)));
     assert_eq!(steps(8, 2, false), Ok(34));
 }
 
@@ -121,11 +122,8 @@ fn numbers_that_their_fields_cannot_hold_are_refused() {
     for block in [0, 2, 0xC000, 0xC003, 0x1_0001, 0x1_C002, u32::MAX] {
         assert_eq!(changed(&[(0, block)]), Err(refused(4)), "type {block:X}");
     }
-    for ink in [5, 0x1_0000, 0x1_0002, u32::MAX] {
+    for ink in [5, 0xFFFF, 0x1_0000, 0x1_0002, 0x1_0004, u32::MAX] {
         assert_eq!(changed(&[(8, ink)]), Err(refused(5)));
-    }
-    for ink in [3, 4] {
-        assert_eq!(changed(&[(8, ink)]), Err(refused(14)));
     }
     for units in [65_535, 65_536, 0x2_0000] {
         assert_eq!(changed(&[(2, units)]), Err(refused(5)));
@@ -323,6 +321,39 @@ fn bytes_made(lot: &Lot) -> Option<Vec<u8>> {
     Some(file)
 }
 
+/// Makes the inks that no file states normal; says whether there are any.
+fn state_inks(lot: &mut Lot) -> bool {
+    let rows = lot.records.chunks_exact_mut(ROW_LEN);
+    let unstated = rows.filter(|row| row[0] == 1 && (row[8] == 3 || row[8] == 4));
+    unstated.map(|row| row[8] = 2).count() > 0
+}
+
+#[test]
+fn process_and_not_stated_are_refused_after_every_fault() {
+    for ink in [3, 4] {
+        assert_eq!(changed(&[(8, ink)]), Err(refused(14)));
+        assert_eq!(changed(&[(8, ink), (3, 0)]), Err(refused(4)));
+        let mut unstated = NAMED;
+        unstated[8] = ink;
+        let lengths = |rows: &[[u32; ROW_LEN]]| length(&rows.concat(), &TEXT);
+        assert_eq!(lengths(&[unstated, END]), Err(refused(9)));
+        assert_eq!(lengths(&[START, unstated]), Err(refused(9)));
+        assert_eq!(lengths(&[START, unstated, END]), Err(refused(14)));
+        assert_eq!(lengths(&[unstated, [0; ROW_LEN]]), Err(refused(4)));
+        let mut none = unstated;
+        none[8] = 5;
+        assert_eq!(lengths(&[unstated, none]), Err(refused(5)));
+        // A group's ink is spare.
+        let (mut start, mut end) = (START, END);
+        (start[8], end[8]) = (ink, ink);
+        assert!(lengths(&[start, NAMED, end]).is_ok());
+        let mut out = [CANARY; 60];
+        assert_eq!(write(&unstated, &TEXT, &mut out), Err(refused(14)));
+        assert_eq!(write(&unstated, &TEXT, &mut []), Err(refused(14)));
+        assert_eq!(out, [CANARY; 60]);
+    }
+}
+
 #[test]
 fn the_writer_judges_as_the_reader_judges_the_bytes() {
     let mut made = 0;
@@ -333,17 +364,24 @@ fn the_writer_judges_as_the_reader_judges_the_bytes() {
         for _ in 0..random.below(4) {
             lot.damage(LotDamage::any(&mut random), &mut random);
         }
-        let Some(file) = bytes_made(&lot) else {
+        let mut stated = lot.clone();
+        let unstated = state_inks(&mut stated);
+        let Some(file) = bytes_made(&stated) else {
             continue;
         };
         made += 1;
         let number = length(&lot.records, &lot.text).map_err(|refusal| refusal.number);
         let judged = judge(&file).map_err(|refusal| refusal.number);
-        assert_eq!(number, judged.map(|_| file.len()), "{lot:?}");
+        // An ink that no file states is refused after every other fault.
+        let wanted = match judged {
+            Ok(_) if unstated => Err(14),
+            judged => judged.map(|_| file.len()),
+        };
+        assert_eq!(number, wanted, "{lot:?}");
         reached.extend(number.err());
     }
     assert!(made > 10_000, "{made} lots");
-    assert_eq!(reached, BTreeSet::from([4, 5, 8, 9, 10]));
+    assert_eq!(reached, BTreeSet::from([4, 5, 8, 9, 10, 14]));
 }
 
 #[test]
@@ -360,5 +398,5 @@ fn damaged_lots_never_panic() {
             reached.insert(refusal.number);
         }
     }
-    assert_eq!(reached, BTreeSet::from([1, 2, 4, 5, 8, 9, 10]));
+    assert_eq!(reached, BTreeSet::from([1, 2, 4, 5, 8, 9, 10, 14]));
 }

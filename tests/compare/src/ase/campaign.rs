@@ -24,7 +24,7 @@ const NAME_COUNT: usize = 18;
 const PAYLOAD: usize = 18;
 const MODEL: usize = 22;
 const FIRST_CHANNEL: usize = 26;
-const COLOUR_TYPE: usize = 30;
+const INK: usize = 30;
 const P6_RECORD: [u32; ROW_LEN] = [1, 0, 0, 0x4772_6179, 0x3F80_0000, 0, 0, 0, 2];
 
 /// The least and the most RGB colours whose names fill an output of the limit.
@@ -114,18 +114,21 @@ impl Campaign {
         Ok(())
     }
 
-    /// P6, and its record, with each block type, name count and colour type of
+    /// P6, and its record, with each block type, name count and ink of
     /// 16 bits, and with tags that are a model's or nearly so.
     fn every_number(&mut self) -> Checked {
         let mut random = self.random(Part::Numbers, 0);
         for value in 0..=u16::MAX {
-            for place in [TYPE, NAME_COUNT, COLOUR_TYPE] {
+            for place in [TYPE, NAME_COUNT, INK] {
                 let file = p6_with(place, &value.to_be_bytes());
                 check_file(&file, &mut random, &mut self.tally)?;
             }
             for index in [0, 8] {
                 self.check_record(index, u32::from(value), &mut random)?;
             }
+        }
+        for value in [0x1_0000, 0x1_0002, 0x1_0003, 0x1_0004, u32::MAX] {
+            self.check_record(8, value, &mut random)?;
         }
         for tag in tags(&mut random) {
             let file = p6_with(MODEL, &tag.to_be_bytes());

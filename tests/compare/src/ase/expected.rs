@@ -27,14 +27,14 @@ pub fn record(result: Result<ase::Record, Refusal>) -> Record {
             units,
             model,
             channels,
-            colour_type,
+            ink,
         }) => Record {
             block: u32::from(block),
             name,
             units,
             model,
             channels,
-            ink: u32::from(colour_type),
+            ink,
             ..Record::default()
         },
         Err(Refusal { number, place, .. }) => Record {

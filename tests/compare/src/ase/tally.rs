@@ -19,7 +19,7 @@ const READING: [u32; 12] = [
     number::NO_RECORD,
     number::WRONG_LENGTH,
 ];
-const WRITING: [u32; 8] = [
+const WRITING: [u32; 9] = [
     number::TOO_LONG,
     number::CUT,
     number::UNKNOWN_BLOCK,
@@ -28,6 +28,7 @@ const WRITING: [u32; 8] = [
     number::UNBALANCED,
     number::TOO_DEEP,
     number::NO_ROOM,
+    number::NO_COUNTERPART,
 ];
 
 #[derive(Default)]

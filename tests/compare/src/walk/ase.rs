@@ -89,14 +89,14 @@ fn expected_step(step: reference::Step<Record>) -> Step {
             units,
             model,
             channels,
-            colour_type,
+            ink,
         })) => Step {
             block: u32::from(block),
             name,
             units,
             model,
             channels,
-            ink: u32::from(colour_type),
+            ink,
             ..nothing
         },
         Ok(None) => Step { done: 1, ..nothing },
@@ -112,15 +112,7 @@ fn row_of(step: &Step) -> Vec<u32> {
     let [a, b, c, d] = step.channels;
     let name = step.name as u32;
     vec![
-        step.block,
-        name,
-        step.units,
-        step.model,
-        a,
-        b,
-        c,
-        d,
-        step.ink,
+        step.block, name, step.units, step.model, a, b, c, d, step.ink,
     ]
 }
 

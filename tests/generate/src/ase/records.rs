@@ -13,7 +13,7 @@ const NAME: RangeInclusive<usize> = 1..=2;
 const UNITS: usize = 2;
 const MODEL: usize = 3;
 const CHANNELS: usize = 4;
-const COLOUR_TYPE: usize = 8;
+const INK: usize = 8;
 
 type Row = [u32; ROW_LEN];
 
@@ -40,8 +40,9 @@ const WRONG_MODELS: [u32; 6] = [
     u32::from_be_bytes(*b"KYMC"),
     u32::MAX,
 ];
-/// Colour types too large; some of them are not once cut to 16 bits.
-const WRONG_COLOUR_TYPES: [u32; 7] = [3, 4, 5, 0xFFFF, 0x1_0000, 0x1_0002, u32::MAX];
+/// Inks that no file states, and numbers that are none; some of them are stated once
+/// cut to 16 bits.
+const WRONG_INKS: [u32; 8] = [3, 4, 5, 0xFFFF, 0x1_0000, 0x1_0002, 0x1_0004, u32::MAX];
 
 /// What a writer is handed.
 #[derive(Clone, Debug, PartialEq, Eq)]
@@ -64,7 +65,7 @@ pub enum LotDamage {
     ModelWrong,
     ModelOther,
     ChannelAny,
-    ColourTypeWrong,
+    InkWrong,
     StartAdded,
     EndAdded,
     RecordDropped,
@@ -91,7 +92,7 @@ impl LotDamage {
         LotDamage::ModelWrong,
         LotDamage::ModelOther,
         LotDamage::ChannelAny,
-        LotDamage::ColourTypeWrong,
+        LotDamage::InkWrong,
         LotDamage::StartAdded,
         LotDamage::EndAdded,
         LotDamage::RecordDropped,
@@ -214,7 +215,7 @@ impl Lot {
             LotDamage::ModelWrong => row[MODEL] = random.pick(&WRONG_MODELS),
             LotDamage::ModelOther => (row[MODEL], _) = random.pick(&MODELS),
             LotDamage::ChannelAny => row[CHANNELS + random.below(4)] = random.pick(&EACH_CLASS),
-            LotDamage::ColourTypeWrong => row[COLOUR_TYPE] = random.pick(&WRONG_COLOUR_TYPES),
+            LotDamage::InkWrong => row[INK] = random.pick(&WRONG_INKS),
             LotDamage::Noise => row[random.below(ROW_LEN)] = random.u32(),
             LotDamage::RecordDropped => drop(self.records.drain(start..end)),
             LotDamage::RecordTwice => self.records.extend_from_within(start..end),
@@ -291,7 +292,7 @@ fn put_colour(row: &mut Row, colour: &Colour) {
     row[MODEL] = colour.model;
     let used = colour.used();
     row[CHANNELS..][..used.len()].copy_from_slice(used);
-    row[COLOUR_TYPE] = u32::from(colour.colour_type);
+    row[INK] = u32::from(colour.colour_type);
 }
 
 fn bare_row(kind: u16) -> Row {

@@ -27,11 +27,8 @@ pub const MODEL_LEN: usize = 4;
 pub const CHANNEL_LEN: usize = 4;
 /// The most channels that a model has.
 pub const CHANNELS: usize = 4;
-pub const COLOUR_TYPE_LEN: usize = 2;
-/// Global is 0, spot 1 and normal 2.
-pub const LAST_COLOUR_TYPE: u16 = 2;
+pub const INK_LEN: usize = 2;
 
 /// The numbers that stand for a block in a table or in records to be written:
-/// its type, its name's place and units, the model, four channels and the
-/// colour type.
+/// its type, its name's place and units, the model, four channels and the ink.
 pub const ROW_LEN: usize = 9;

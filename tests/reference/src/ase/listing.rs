@@ -2,6 +2,7 @@
 
 use super::layout::{COLOUR, GROUP_START};
 use super::reader::{judge, Accepted, Record, Records};
+use crate::ink;
 use crate::listing::LISTING_LIMIT;
 use crate::model::{self, channel_count};
 use crate::name::{self, UNIT_LEN};
@@ -41,15 +42,15 @@ fn shown(file: &[u8], record: &Record) -> String {
     }
 }
 
-/// The model, each channel's bits and the colour type, as words.
+/// The model, each channel's bits and the ink, as words.
 fn shown_colour(record: &Record) -> String {
-    let (model, colour_type) = (model_word(record.model), type_word(record.colour_type));
+    let (model, ink) = (model_word(record.model), ink_word(record.ink));
     let count = channel_count(record.model).expect("an accepted file's models are known");
     let channels: Vec<String> = record.channels[..count]
         .iter()
         .map(|bits| format!("{bits:08X}"))
         .collect();
-    format!("{model} {} {colour_type}", channels.join(" "))
+    format!("{model} {} {ink}", channels.join(" "))
 }
 
 fn model_word(tag: u32) -> &'static str {
@@ -61,10 +62,10 @@ fn model_word(tag: u32) -> &'static str {
     }
 }
 
-fn type_word(colour_type: u16) -> &'static str {
-    match colour_type {
-        0 => "global",
-        1 => "spot",
+fn ink_word(ink: u32) -> &'static str {
+    match ink {
+        ink::GLOBAL => "global",
+        ink::SPOT => "spot",
         _ => "normal",
     }
 }

@@ -1,10 +1,10 @@
 //! Judging a file and handing out its records, one a block.
 
 use super::layout::{
-    CHANNELS, COLOUR, COUNT_PLACE, ENVELOPE_LEN, GROUP_END, GROUP_START, HEAD_LEN,
-    LAST_COLOUR_TYPE, LENGTH_OFFSET, MAJOR_PLACE, MAJOR_VERSION, MAX_OPEN, MINOR_PLACE,
-    MINOR_VERSION, ROW_LEN, SIGNATURE,
+    CHANNELS, COLOUR, COUNT_PLACE, ENVELOPE_LEN, GROUP_END, GROUP_START, HEAD_LEN, LENGTH_OFFSET,
+    MAJOR_PLACE, MAJOR_VERSION, MAX_OPEN, MINOR_PLACE, MINOR_VERSION, ROW_LEN, SIGNATURE,
 };
+use crate::ink;
 use crate::model::{channel_count, is_in_range};
 use crate::name::{is_closed, UNIT_LEN};
 use crate::refusal::{number, Refusal};
@@ -17,7 +17,8 @@ pub struct Accepted {
     pub colours: usize,
 }
 
-/// A block of an accepted file. The name is where its units lie in the file.
+/// A block of an accepted file. The name is where its units lie in the file. The
+/// ink is what the file has as a colour's type.
 /// What a block does not have is 0.
 #[derive(Clone, Copy, Debug, Default, PartialEq, Eq)]
 pub struct Record {
@@ -26,7 +27,7 @@ pub struct Record {
     pub units: u32,
     pub model: u32,
     pub channels: [u32; CHANNELS],
-    pub colour_type: u16,
+    pub ink: u32,
 }
 
 /// Judges a whole file.
@@ -224,10 +225,16 @@ pub(super) fn judge_colour(mut content: Content) -> Result<(), Refusal> {
         }
     }
     let place = content.place();
-    if u16::from_be_bytes(content.take()?) > LAST_COLOUR_TYPE {
+    if !is_stated(u16::from_be_bytes(content.take()?).into()) {
         return Err(Refusal::at(number::OUT_OF_RANGE, place));
     }
     content.judge_end()
+}
+
+/// Whether a file can state the ink: global, spot or normal.
+#[inline(always)]
+pub(super) fn is_stated(ink: u32) -> bool {
+    matches!(ink, ink::GLOBAL | ink::SPOT | ink::NORMAL)
 }
 
 /// Judges a group's start where so many groups stand open.
@@ -261,7 +268,7 @@ impl Record {
             b,
             c,
             d,
-            u32::from(self.colour_type),
+            self.ink,
         ]
     }
 }
@@ -326,7 +333,7 @@ impl<'a> Records<'a> {
             Some(3) => [take(), take(), take(), 0],
             _ => [take(), take(), take(), take()],
         };
-        record.colour_type = self.take_short();
+        record.ink = self.take_short().into();
     }
 }
 

@@ -1,10 +1,11 @@
 //! Writing records as a file.
 
 use super::layout::{
-    CHANNEL_LEN, COLOUR, COLOUR_TYPE_LEN, ENVELOPE_LEN, GROUP_END, GROUP_START, HEAD_LEN,
-    LAST_COLOUR_TYPE, MAJOR_VERSION, MAX_OPEN, MINOR_VERSION, MODEL_LEN, NAME_COUNT_LEN, ROW_LEN,
-    SIGNATURE,
+    CHANNEL_LEN, COLOUR, ENVELOPE_LEN, GROUP_END, GROUP_START, HEAD_LEN, INK_LEN, MAJOR_VERSION,
+    MAX_OPEN, MINOR_VERSION, MODEL_LEN, NAME_COUNT_LEN, ROW_LEN, SIGNATURE,
 };
+use super::reader::is_stated;
+use crate::ink;
 use crate::model::{channel_count, is_in_range};
 use crate::name::{bytes_of, holds_zero_unit, units_in, UNIT_LEN};
 use crate::output::put;
@@ -18,20 +19,21 @@ const START_ROW: u32 = GROUP_START as u32;
 const END_ROW: u32 = GROUP_END as u32;
 const COLOUR_ROW: u32 = COLOUR as u32;
 
-/// The last ink that a record may state; a file has the first three for its types.
-const LAST_INK: u32 = 4;
-
 /// A name's count has 16 bits, and counts the closing zero.
 const MAX_UNITS: u32 = u16::MAX as u32 - 1;
 
 /// What a colour has besides its name and its channels.
-const BARE_COLOUR_LEN: usize = MODEL_LEN + COLOUR_TYPE_LEN;
+const BARE_COLOUR_LEN: usize = MODEL_LEN + INK_LEN;
 
 /// The exact length of the output, or the refusal `write` would give, room aside.
 pub fn length(records: &[u32], text: &[u8]) -> Result<usize, Refusal> {
     let (rows, _) = records.as_chunks::<ROW_LEN>();
     let need = output_len(rows).ok_or(Refusal::of_call(number::TOO_LONG))?;
     judge_rows(rows, text).map_err(Refusal::of_call)?;
+    let has_counterpart = |row: &Row| row[0] != COLOUR_ROW || is_stated(row[8]);
+    if !rows.iter().all(has_counterpart) {
+        return Err(Refusal::of_call(number::NO_COUNTERPART));
+    }
     Ok(need)
 }
 
@@ -107,18 +109,7 @@ fn judge_rows(rows: &[Row], text: &[u8]) -> Result<(), u32> {
     if open > 0 {
         return Err(number::UNBALANCED);
     }
-    judge_inks(rows)
-}
-
-/// Judged after all else: an ink that no type of a file is.
-fn judge_inks(rows: &[Row]) -> Result<(), u32> {
-    let stated =
-        |&[block, .., ink]: &Row| block != COLOUR_ROW || ink <= u32::from(LAST_COLOUR_TYPE);
-    if rows.iter().all(stated) {
-        Ok(())
-    } else {
-        Err(number::NO_COUNTERPART)
-    }
+    Ok(())
 }
 
 #[inline(always)]
@@ -135,15 +126,15 @@ fn judge_name(row: &Row, text: &[u8]) -> Result<(), u32> {
 }
 
 /// Judges the model and then what its colour has; channels to spare are not
-/// looked at.
+/// looked at. An ink that no file states is none of these faults.
 #[inline(always)]
 fn judge_colour(row: &Row) -> Result<(), u32> {
-    let &[_, _, _, model, ref channels @ .., colour_type] = row;
+    let &[_, _, _, model, ref channels @ .., ink] = row;
     let count = channel_count(model).ok_or(number::UNKNOWN_MODEL)?;
     let in_range = channels[..count]
         .iter()
         .all(|&bits| is_in_range(model, bits));
-    if !in_range || colour_type > LAST_INK {
+    if !in_range || ink > ink::NOT_STATED {
         return Err(number::OUT_OF_RANGE);
     }
     Ok(())
@@ -188,11 +179,11 @@ fn put_name(rest: &mut &mut [u8], row: &Row, text: &[u8]) {
 
 #[inline(always)]
 fn put_colour(rest: &mut &mut [u8], row: &Row) {
-    let &[_, _, _, model, ref channels @ .., colour_type] = row;
+    let &[_, _, _, model, ref channels @ .., ink] = row;
     let count = channel_count(model).expect("a judged model is known");
     put(rest, &model.to_be_bytes());
     for bits in &channels[..count] {
         put(rest, &bits.to_be_bytes());
     }
-    put(rest, &(colour_type as u16).to_be_bytes());
+    put(rest, &(ink as u16).to_be_bytes());
 }
