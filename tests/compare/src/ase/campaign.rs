@@ -7,8 +7,8 @@ use crate::difference::{agree, hex, Checked};
 use generate::ase::{
     damage, fixed_files, Answer, Damage, Lot, LotDamage, Palette, EVERY_MODEL, MODELS, P6, P7,
 };
-use generate::{tags, Random, EACH_CLASS};
-use reference::ase::{ENVELOPE_LEN, HEAD_LEN, MAX_OPEN, ROW_LEN};
+use generate::{tags, Random, EACH_CLASS, ONE};
+use reference::ase::{ENVELOPE_LEN, GROUP_END, GROUP_START, HEAD_LEN, MAX_OPEN, ROW_LEN};
 use reference::{LIMIT, UNIT_LEN};
 
 /// One lot of records for so many files.
@@ -43,6 +43,7 @@ enum Part {
     Fixed,
     Bytes,
     Numbers,
+    Inks,
     Channels,
     Payloads,
     Depths,
@@ -68,6 +69,7 @@ pub fn run(seed: u64, files: u64) -> Checked<Tally> {
     campaign.fixed()?;
     campaign.every_byte()?;
     campaign.every_number()?;
+    campaign.every_ink()?;
     campaign.every_class_of_channel()?;
     campaign.every_payload_length()?;
     campaign.every_depth()?;
@@ -140,10 +142,47 @@ impl Campaign {
 
     /// P6's record with one of its numbers changed.
     fn check_record(&mut self, index: usize, value: u32, random: &mut Random) -> Checked {
-        let mut records = P6_RECORD.to_vec();
-        records[index] = value;
+        let records = with(index, value).to_vec();
         let text = Vec::new();
         check_lot(&Lot { records, text }, random, &mut self.tally)
+    }
+
+    /// Every ink of a colour alone, inside a group and before or behind a fault, that of
+    /// a group that stays open too: 14 comes after all of them.
+    fn every_ink(&mut self) -> Checked {
+        let mut random = self.random(Part::Inks, 0);
+        let start = with(0, GROUP_START.into());
+        let end = with(0, GROUP_END.into());
+        let faults = [
+            with(0, 2),
+            with(2, 1),
+            with(3, 0),
+            with(4, ONE + 1),
+            with(8, 5),
+        ];
+        for ink in (0..40).chain([0xFF03, 0x1_0002, 0x1_0003, 0x1_0004, u32::MAX]) {
+            let colour = with(8, ink);
+            let mut lots = vec![
+                vec![colour],
+                vec![start, colour, end],
+                vec![with(8, 4), colour, P6_RECORD],
+                vec![start, colour],
+                vec![colour, end],
+            ];
+            for fault in faults {
+                lots.extend([vec![colour, fault], vec![fault, colour]]);
+            }
+            // A group's is spare.
+            for mut group in [start, end] {
+                group[8] = ink;
+                lots.extend([vec![group, P6_RECORD, end], vec![start, P6_RECORD, group]]);
+            }
+            for rows in lots {
+                let (records, text) = (rows.concat(), Vec::new());
+                check_lot(&Lot { records, text }, &mut random, &mut self.tally)?;
+            }
+        }
+        Ok(())
     }
 
     /// Each channel of each model with bits of every class.
@@ -340,6 +379,13 @@ fn written_down(answer: Answer) -> proved::ase::Answer {
             ..nothing
         },
     }
+}
+
+/// P6's record with one of its numbers changed.
+fn with(index: usize, value: u32) -> [u32; ROW_LEN] {
+    let mut record = P6_RECORD;
+    record[index] = value;
+    record
 }
 
 /// Mostly one damage; some more of them set faults against each other.
