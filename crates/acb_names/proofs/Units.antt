@@ -257,3 +257,15 @@ module _ (s : List ℕ) (a m b n k : ℕ) (o : Order) where
 pub tie-is : (t : Bool) → t ≡ isLess (tieOf t)
 tie-is true = refl
 tie-is false = refl
+
+-- a test of two numbers is their order where the names are the same
+pub tie-compare : (o : Order) (x y : ℕ) → isLess (orElse o (tieOf (ltb x y))) ≡ isLess (orElse o (compare x y))
+unfolding compare
+tie-compare less x y = refl
+tie-compare same x y = go (ltb x y) (ltb y x)
+  where
+    go : (a b : Bool) → isLess (tieOf a) ≡ isLess (pick a less (pick b greater same))
+    go true b = refl
+    go false true = refl
+    go false false = refl
+tie-compare greater x y = refl

@@ -2,37 +2,21 @@
 use Prim.Native.Nat.{ℕ, _+_, _-_, _/_, _≤_, _<_}
 use mathlib.Core.Path.{_≡_, refl, sym, ap, subst, _∙_}
 use mathlib.Core.List.{List}
-use mathlib.Core.Bool.{Bool, true, false}
-use lib.Dec.{ltb}
-use Rattle.algebra.specs.Reader.{pick}
 use lib.ListN.{length, getD}
 use native.Mathlib.Omega.{arith}
 use Rattle.order.specs.Run.{Rearranged}
 use Rattle.order.specs.scaffold.Heap.{Heap, Tail, swapped}
 use Rattle.order.proofs.Heaps.{tail-swapped, tail-kept, heap-swapped, swap-moves, moved-on, moved-more}
-use Rattle.order.specs.Order.{compare, isLess, less, same, greater, orElse, Order}
+use Rattle.order.specs.Order.{compare}
 use Rattle.order.specs.scaffold.Total.{Total}
 use Rattle.order.proofs.Orders.{both-total, numbers-total}
 use Rattle.acb_order.specs.Names.{compareNames}
 use Rattle.acb_order.specs.Places.{nameAt}
 use Rattle.acb_order.proofs.Names.{names-total}
-use Rattle.acb_names.specs.Answer.{tieOf}
 use Rattle.acb_sort.specs.Keys.{keyOrder}
 
 pub keys-total : (s : List ℕ) → Total (keyOrder s)
 keys-total s = both-total (λ (x : ℕ). nameAt s (x / 256)) (λ (x : ℕ). x) compareNames compare names-total numbers-total (λ a b e f. f)
-
--- a test of keys is their order where the names are the same
-pub tie-compare : (o : Order) (x y : ℕ) → isLess (orElse o (tieOf (ltb x y))) ≡ isLess (orElse o (compare x y))
-unfolding compare
-tie-compare less x y = refl
-tie-compare same x y = go (ltb x y) (ltb y x)
-  where
-    go : (a b : Bool) → isLess (tieOf a) ≡ isLess (pick a less (pick b greater same))
-    go true b = refl
-    go false true = refl
-    go false false = refl
-tie-compare greater x y = refl
 
 -- a heap of `end` numbers, and behind it n - end in their order
 pub record Half (s : List ℕ) (n : ℕ) (xs : List ℕ) (end : ℕ) (ys : List ℕ) : Type 0 where

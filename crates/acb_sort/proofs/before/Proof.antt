@@ -2,7 +2,7 @@ use mathlib.Core.Path.{_≡_, _∙_}
 use Prim.Native.Nat.{_/_}
 use Rattle.acb_order.specs.Names.{compareNames}
 use Rattle.acb_order.specs.Places.{nameAt}
-use Rattle.acb_sort.proofs.Sorting.{tie-compare}
+use Rattle.acb_names.proofs.Units.{tie-compare}
 use native.Mathlib.Omega.{arith}
 use borrow.Author.Needs.{needs}
 use Rattle.acb_sort.proofs.before.Statement.{statement}
