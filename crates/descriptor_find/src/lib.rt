@@ -44,7 +44,7 @@ fn count_keys(keys: &[u8]) -> KeyCount
     let mut at: usize = 0;
     let mut n: usize = 0;
     while at < keys.len() {
-        match descriptor::id_at(keys, at) {
+        match descriptor_fields::id_at(keys, at) {
             FieldEnd::Refused(number, place) => {
                 return KeyCount::Refused(number, place);
             }

@@ -10,7 +10,7 @@ use Rattle.descriptor_find.proofs.count_keys.Statement.{statement}
 use Rattle.descriptor_find.proofs.count_keys.Tie as tie
 use Rattle.descriptor_find.proofs.count_keys.Reads as reads
 use Rattle.descriptor_find.proofs.count_keys.Lts as lts
-use Rattle.descriptor.proofs.id_at.Reads as id-at-reads
+use Rattle.descriptor_fields.proofs.id_at.Reads as id-at-reads
 
 abbrev Inv-loop : tie.InvT-loop
 Inv-loop keys at₀ n₀ at n =
