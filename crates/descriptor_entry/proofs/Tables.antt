@@ -1,9 +1,24 @@
--- The fields of a kind by the number of what is due. Assumes nothing.
+-- An entry's numbers, and the fields of a kind by the number of what is due. Assumes nothing.
 use Prim.Native.Nat.{ℕ, zero, suc, _≤_, _<_}
 use mathlib.Core.Path.{_≡_, refl, ap}
+use mathlib.Core.List.{List, [], _∷_}
+use lib.ListN.{length, getD}
+use borrow.Author.Tests.{eq-eqb, ne-eqb}
 use native.Mathlib.Omega.{arith}
 use Rattle.descriptor_raw.specs.Raw.{dueOf}
-use Rattle.descriptor_entry.specs.Shapes.{itemShape, formShape, columnShape, shapeOf}
+use Rattle.descriptor_entry.specs.Shapes.{idLength, itemShape, formShape, columnShape, shapeOf}
+
+-- past its end a list has 0
+pub none-there : (l : List ℕ) (i : ℕ) → length l ≤ i → getD l i 0 ≡ 0
+none-there [] i h = refl
+none-there (x ∷ l) zero h = absurd (omega arith)
+none-there (x ∷ l) (suc i) h = none-there l i (omega arith)
+
+pub id-none : (n : ℕ) → n ≡ 0 → idLength n ≡ 4
+id-none n e = rw (eq-eqb n 0 e)
+
+pub id-some : (n : ℕ) → (n ≡ 0 → ⊥) → idLength n ≡ n
+id-some n z = rw (ne-eqb n 0 z)
 
 pub small-shape : (what kind : ℕ) → what < 2 → shapeOf (dueOf what 0) kind ≡ itemShape kind
 small-shape zero kind h = refl

@@ -4,8 +4,9 @@
 // A number stands for itself; a length or count at a place of the entry is followed by the place of
 // its bytes in the lent text.
 ghost use mathlib.Core.Path.{_≡_};
+ghost use Prim.Native.Nat.{_+_, _<_};
 ghost use Rattle.descriptor_raw.specs.Raw.{dueOf};
-ghost use Rattle.descriptor_entry.specs.Shapes.{bare, holding, object, noShape, itemShape, formShape, columnShape, shapeOf};
+ghost use Rattle.descriptor_entry.specs.Shapes.{numberIn, idLength, bare, holding, object, noShape, itemShape, formShape, columnShape, shapeOf};
 ghost use Rattle.descriptor_entry.specs.declared.Field.the-variants as fs;
 use descriptor::ALIAS;
 use descriptor::ARRAY;
@@ -55,6 +56,36 @@ pub struct Shape {
     pub d: Field,
     pub holds: bool,
     pub what: u32,
+}
+
+// Number i of an entry; 0 where there is none.
+pub fn number_in(row: &[u32], i: usize) -> u32
+    ensures { λ r. ⌜ r ≡ numberIn (now (row .entry)) i ⌝ }
+{
+    if i < row.len() {
+        return row[i];
+    }
+    0
+}
+
+// The number behind number i of an entry: where the bytes of its length or count lie.
+pub fn place_in(row: &[u32], i: usize) -> usize
+    ensures { λ r. ⌜ (r ≡ numberIn (now (row .entry)) (i + 1)) × (r < 4294967296) ⌝ }
+{
+    if i < row.len() {
+        return fields::wide(number_in(row, i + 1));
+    }
+    0
+}
+
+// How many bytes stand behind an ID's length.
+pub fn id_length(n: u32) -> usize
+    ensures { λ r. ⌜ (r ≡ idLength n) × (r < 4294967296) ⌝ }
+{
+    if n == 0 {
+        return 4;
+    }
+    fields::wide(n)
 }
 
 // The forms of a reference item: `Clss`, `Enmr`, `prop`, `name`, `Idnt`, `indx`, `rele`.
