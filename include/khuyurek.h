@@ -619,6 +619,82 @@ khuyurek_tray khuyurek_to_channels(uint16_t space, const uint16_t *samples, size
 khuyurek_tray khuyurek_to_samples(uint32_t model, const uint32_t *bits, size_t bits_len,
                                   uint16_t *samples, size_t samples_len);
 
+/* ---- kinds of files, for the calls that take any of several */
+
+#define KHUYUREK_ACO 0
+#define KHUYUREK_ASE 1
+#define KHUYUREK_ACB 2
+#define KHUYUREK_DESCRIPTOR 3
+
+/* ---- two palettes compared */
+
+/* Numbers of a row: the position, from 0, and its kind. */
+#define KHUYUREK_COMPARE_WIDTH 2
+
+/* The kinds of a position. */
+#define KHUYUREK_SAME 0u
+#define KHUYUREK_NAME_DIFFERS 1u
+#define KHUYUREK_COLOUR_DIFFERS 2u
+#define KHUYUREK_BOTH_DIFFER 3u
+#define KHUYUREK_ONLY_FIRST 4u
+#define KHUYUREK_ONLY_SECOND 5u
+
+/* number 0: compared, with the positions of the longer palette and how many of them are
+ * not 0. Else the refusal: file is 1 or 2 for that file's own, with its place and, for
+ * 7, record and field; it is 0 for 4 (a kind that is neither ACO nor ASE, before all
+ * else) and for 11, the last. */
+typedef struct {
+    uint32_t number;
+    uint32_t file;
+    size_t place;
+    size_t record;
+    size_t field;
+    size_t positions;
+    size_t differences;
+} khuyurek_compared;
+
+/* Two palettes by position, groups left aside: a row of the table for each position of
+ * the longer. Colours of one format are equal when their numbers are, of two formats
+ * when the ACO colour converts to the very same bits; an absent list 2 has empty names.
+ * The files may be the same bytes. */
+khuyurek_compared khuyurek_compare(uint32_t first_kind, const uint8_t *first, size_t first_len,
+                                   uint32_t second_kind, const uint8_t *second, size_t second_len,
+                                   uint32_t *table, size_t table_len);
+
+/* ---- reports */
+
+/* Totals over files: 0 accepted; 1 to 14 refused by that number; 15 to 19 ACO colours of
+ * space 0, 1, 2, 7, 8; 20 to 23 ASE colours RGB, CMYK, LAB, Gray; 24 to 26 ACB colours of
+ * space 0, 2, 7; 27 named; 28 unnamed; 29 dummies, which count nowhere else; 30 rows of
+ * descriptors. A report begins with zeros. */
+typedef struct {
+    uint32_t totals[31];
+} khuyurek_report;
+
+/* number: the report's own, 0 where the file's report was added, 5 where a total would
+ * pass 4,294,967,295, 4 for an unknown kind. file_number and file_place: the file's, also
+ * with 5; 0 with 4. report: the new totals, or those given where number is not 0. */
+typedef struct {
+    uint32_t number;
+    uint32_t file_number;
+    size_t file_place;
+    khuyurek_report report;
+} khuyurek_reported;
+
+/* Adds a file's report. A refused file is no refusal of the call: it adds one to its own
+ * number, and nothing else. */
+khuyurek_reported khuyurek_report_add(khuyurek_report report, uint32_t kind, const uint8_t *file,
+                                      size_t file_len);
+
+/* number 0 and the sum; or 5 and the first report, where a total would pass the bound. */
+typedef struct {
+    uint32_t number;
+    khuyurek_report report;
+} khuyurek_merged;
+
+/* The sum of two reports, so that files may be reported in parts, side by side. */
+khuyurek_merged khuyurek_report_merge(khuyurek_report first, khuyurek_report second);
+
 #ifdef __cplusplus
 }
 #endif

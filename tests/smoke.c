@@ -358,8 +358,42 @@ static int trays(void) {
     return 0;
 }
 
+static int seasons(void) {
+    static const uint8_t dark[] = {0, 1, 0, 1, 0, 8, 0, 0, 0, 0, 0, 0, 0, 0};
+    static const uint8_t light[] = {0, 1, 0, 1, 0, 8, 0x27, 0x10, 0, 0, 0, 0, 0, 0};
+    static const uint8_t gray[] = {'A', 'S', 'E', 'F', 0, 1, 0, 0, 0, 0, 0, 1, 0, 1, 0, 0, 0, 14,
+                                   0, 1, 0, 0, 'G', 'r', 'a', 'y', 0x3F, 0x80, 0, 0, 0, 2};
+    uint32_t table[3] = {7, 7, 7};
+    khuyurek_compared compared = khuyurek_compare(2, dark, sizeof dark, KHUYUREK_ACO, light, sizeof light, table, 3);
+    CHECK(compared.number == KHUYUREK_UNKNOWN && compared.file == 0);
+    compared = khuyurek_compare(KHUYUREK_ACO, dark, sizeof dark, KHUYUREK_ASE, light, sizeof light, table, 3);
+    CHECK(compared.number == KHUYUREK_WRONG_MARK && compared.file == 2);
+    compared = khuyurek_compare(KHUYUREK_ACO, dark, sizeof dark, KHUYUREK_ACO, light, sizeof light, table, 1);
+    CHECK(compared.number == KHUYUREK_NO_ROOM && compared.file == 0 && table[0] == 7);
+    compared = khuyurek_compare(KHUYUREK_ACO, dark, sizeof dark, KHUYUREK_ACO, light, sizeof light, table, 3);
+    CHECK(compared.number == 0 && compared.positions == 1 && compared.differences == 1);
+    CHECK(table[0] == 0 && table[1] == KHUYUREK_COLOUR_DIFFERS && table[2] == 7);
+    compared = khuyurek_compare(KHUYUREK_ACO, light, sizeof light, KHUYUREK_ASE, gray, sizeof gray, table, 3);
+    CHECK(compared.number == 0 && compared.differences == 0 && table[1] == KHUYUREK_SAME);
+
+    khuyurek_report none = {{0}};
+    khuyurek_reported reported = khuyurek_report_add(none, 4, light, sizeof light);
+    CHECK(reported.number == KHUYUREK_UNKNOWN && reported.report.totals[0] == 0);
+    reported = khuyurek_report_add(none, KHUYUREK_ACO, light, sizeof light);
+    CHECK(reported.number == 0 && reported.file_number == 0);
+    CHECK(reported.report.totals[0] == 1 && reported.report.totals[19] == 1 && reported.report.totals[28] == 1);
+    khuyurek_reported more = khuyurek_report_add(reported.report, KHUYUREK_DESCRIPTOR, light, 0);
+    CHECK(more.number == 0 && more.file_number == KHUYUREK_CUT && more.report.totals[2] == 1);
+    khuyurek_merged merged = khuyurek_report_merge(reported.report, more.report);
+    CHECK(merged.number == 0 && merged.report.totals[0] == 2 && merged.report.totals[2] == 1);
+    merged.report.totals[0] = 4294967295u;
+    more = khuyurek_report_add(merged.report, KHUYUREK_ASE, gray, sizeof gray);
+    CHECK(more.number == KHUYUREK_OUT_OF_RANGE && more.report.totals[23] == 0);
+    return 0;
+}
+
 int main(void) {
-    if (aco() || chunks() || ase() || acb() || descriptor() || resources() || walks() || conversions() || trays()) {
+    if (aco() || chunks() || ase() || acb() || descriptor() || resources() || walks() || conversions() || trays() || seasons()) {
         return 1;
     }
     puts("C agrees");

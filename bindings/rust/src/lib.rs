@@ -45,10 +45,12 @@
 pub mod acb;
 pub mod aco;
 pub mod ase;
+pub mod compare;
 mod convert;
 pub mod descriptor;
 mod ink;
 mod refusal;
+pub mod report;
 pub mod resource;
 mod space;
 pub mod stream;

@@ -8,4 +8,6 @@ pub mod Resource
 pub mod Trays
 pub mod Walk
 pub mod Stream
+pub mod Seasons
+pub mod Reports
 pub mod scaffold

@@ -32,8 +32,8 @@ use Rattle.ase_walk.specs.Walking.{blockFrom, isColour, walk as aseWalk, firstP
 use Rattle.ase_walk.specs.Answer.{callAndPlace as aseCall}
 use Rattle.ase_walk.proofs.Walked.{colours-in-turn as ase-in-turn, given-allowed as ase-given}
 use Rattle.palette.specs.Palette.{Value, samples, channels, PaletteColour, acoColour, acoColours, aseColours, colours}
-use Rattle.palette.specs.Step.{viewOf, five, colourNumbers, acoStep, aseStep, stepOf}
-use Rattle.palette.specs.scaffold.Turn.{listOf, coloursIn, noColourAt, placeOf, valueNumbers, SoundValue, Turn}
+use Rattle.palette.specs.Step.{firstAt, viewOf, five, colourNumbers, acoStep, aseStep, stepOf}
+use Rattle.palette.specs.scaffold.Turn.{listOf, coloursIn, noColourAt, placeOf, kindSeen, valueNumbers, SoundValue, Turn}
 use Rattle.palette.specs.declared.Kind.{Kind}
 use Rattle.palette.specs.declared.Kind.the-variants.{Aco, Ase}
 use Rattle.palette.specs.declared.View.{View}
@@ -240,3 +240,16 @@ few k s bytes = go (colours k s) refl
     go : (m : Res (List PaletteColour)) → colours k s ≡ m → length (listOf m) ≤ limit
     go (ok xs q) e = few-colours k s bytes e
     go (refuse x p r f) e = omega arith
+
+-- ---- where a loop starts
+
+pub seen-kind : (k j : Kind) → kindSeen (viewOf k j) ≡ k
+seen-kind Aco Aco = refl
+seen-kind Aco Ase = refl
+seen-kind Ase Aco = refl
+seen-kind Ase Ase = refl
+
+pub first-place : (k : Kind) (s : List ℕ) → firstAt k s ≡ placeOf k s 0
+unfolding placeOf placeAfter
+first-place Aco s = refl
+first-place Ase s = refl

@@ -9,29 +9,16 @@ use lib.Seq.{sets}
 use native.Mathlib.Omega.{arith}
 use Rattle.algebra.specs.Numbers.{Bytes}
 use Rattle.algebra.specs.Reader.{pick, limit}
-use Rattle.walk.specs.Walk.{placeAfter}
 use Rattle.palette.specs.Palette.{PaletteColour}
 use Rattle.palette.specs.Step.{firstAt, viewOf, stepOf, toldStep}
-use Rattle.palette.specs.scaffold.Turn.{coloursIn, placeOf, Turn}
+use Rattle.palette.specs.scaffold.Turn.{coloursIn, placeOf, kindSeen}
 use Rattle.palette.specs.declared.Kind.{Kind}
-use Rattle.palette.specs.declared.Kind.the-variants.{Aco, Ase}
 use Rattle.palette.specs.declared.View.{View}
 use Rattle.palette.specs.declared.Step.{Step}
-use Rattle.palette.proofs.Turns.{in-turn, few}
+use Rattle.palette.proofs.Turns.{in-turn, few, seen-kind, first-place}
 use Rattle.palette_compare.specs.Compare.{kinds, rows}
-use Rattle.palette_compare.specs.scaffold.Parts.{kindsIn, kindAt, kindSeen, StoredTo, Both}
+use Rattle.palette_compare.specs.scaffold.Parts.{kindsIn, kindAt, StoredTo, Both}
 use Rattle.palette_compare.proofs.Laws.{kind-turn, kinds-at, kinds-below, stored-start, stored-turn}
-
-seen-kind : (k j : Kind) → kindSeen (viewOf k j) ≡ k
-seen-kind Aco Aco = refl
-seen-kind Aco Ase = refl
-seen-kind Ase Aco = refl
-seen-kind Ase Ase = refl
-
-first-place : (k : Kind) (s : List ℕ) → firstAt k s ≡ placeOf k s 0
-unfolding placeOf placeAfter
-first-place Aco s = refl
-first-place Ase s = refl
 
 pub marked-one : (b : Bool) → pick b 0 1 ≤ 1
 marked-one true = omega arith

@@ -57,7 +57,7 @@ value-same v w itself = value-itself v
 value-same v w (first-converts p) = counterpart-same v w p
 value-same v w (second-converts p) = value-turned v w ∙ counterpart-same w v p
 
--- ---- R1: no difference exactly if the palettes are the same
+-- ---- V8: no difference exactly if the palettes are the same
 
 same-kind : (a b : Bool) (n : ℕ) → pick (eqb (kindBy a b) 0) 0 1 + n ≡ 0 → (a ≡ true) × (b ≡ true) × (n ≡ 0)
 same-kind true true n e = (refl, refl, omega arith)
@@ -83,7 +83,7 @@ none-differ-where-same l m none = refl
 none-differ-where-same l m (one {x} {y} {xs} {ys} c n more) =
     ap₂ (λ (k d : ℕ). pick (eqb k 0) 0 1 + d) (no-kind x y c n) (none-differ-where-same xs ys more)
 
--- ---- R2: a palette beside itself
+-- ---- V8: a palette beside itself
 
 palette-itself : (xs : List PaletteColour) → SamePalette xs xs
 palette-itself [] = none
@@ -92,7 +92,7 @@ palette-itself (x ∷ xs) = one itself refl (palette-itself xs)
 pub itself-same : (xs : List PaletteColour) → differences (kinds xs xs) ≡ 0
 itself-same xs = none-differ-where-same xs xs (palette-itself xs)
 
--- ---- R3: two palettes exchanged
+-- ---- V8: two palettes exchanged
 
 kind-exchanged : (a b : Bool) → kindBy a b ≡ exchanged (kindBy a b)
 kind-exchanged true true = refl

@@ -1,6 +1,6 @@
 //! The proved library's calls, through its C interface. Those for ACB, ASE,
-//! descriptors, resources, runs of samples and ACO files in chunks are in
-//! their own modules.
+//! descriptors, resources, runs of samples, ACO files in chunks, two palettes
+//! and reports are in their own modules.
 //!
 //! This crate has the only declarations of the C functions in Rust, and all
 //! `unsafe` code over them. What makes it sound:
@@ -17,7 +17,9 @@
 
 pub mod acb;
 pub mod ase;
+pub mod compare;
 pub mod descriptor;
+pub mod report;
 pub mod resource;
 pub mod stream;
 pub mod tray;

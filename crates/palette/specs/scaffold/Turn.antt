@@ -14,6 +14,7 @@ use Rattle.palette.specs.Step.{five, colourNumbers, stepOf}
 use Rattle.palette.specs.declared.Kind.{Kind}
 use Rattle.palette.specs.declared.Kind.the-variants.{Aco, Ase}
 use Rattle.palette.specs.declared.View.{View}
+use Rattle.palette.specs.declared.View.the-variants.{Samples, Counterparts, Channels as ChannelBits}
 
 -- the colours of an accepted file; none of a refused one
 abbrev pub listOf : {A : Type 0} → Res (List A) → List A
@@ -30,6 +31,12 @@ noColourAt = record { value = channels 0 []; name = [] }
 unfoldable pub placeOf : Kind → List ℕ → ℕ → ℕ
 placeOf Aco s i = placeAfter (walk s) (firstPlace s) i
 placeOf Ase s i = placeAfter (aseWalk s) (aseFirst s) i
+
+-- which kind a view is of
+abbrev pub kindSeen : View → Kind
+kindSeen Samples = Aco
+kindSeen Counterparts = Aco
+kindSeen ChannelBits = Ase
 
 -- a value as the five numbers that a view gives of it
 abbrev pub valueNumbers : View → Value → List ℕ

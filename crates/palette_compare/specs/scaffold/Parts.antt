@@ -7,11 +7,9 @@ use lib.Seq.{sets}
 use Rattle.algebra.specs.Reader.{limit}
 use Rattle.walk.specs.Names.{namePart}
 use Rattle.palette.specs.Step.{viewOf, toldNumbers}
-use Rattle.palette.specs.scaffold.Turn.{coloursIn, placeOf}
+use Rattle.palette.specs.scaffold.Turn.{coloursIn, placeOf, kindSeen}
 use Rattle.palette.specs.declared.Kind.{Kind}
-use Rattle.palette.specs.declared.Kind.the-variants.{Aco, Ase}
 use Rattle.palette.specs.declared.View.{View}
-use Rattle.palette.specs.declared.View.the-variants.{Samples, Counterparts, Channels as ChannelBits}
 use Rattle.palette.specs.declared.Step.{Step}
 use Rattle.palette_compare.specs.Compare.{sameNumbers, kindBy, kinds, differences, rows}
 
@@ -38,12 +36,6 @@ pub record StoredTo (ks before now : List ℕ) (n d : ℕ) : Type 0 where
   pub stored : sets before 0 (rows 0 ks) ≡ sets now (2 * n) (rows n (drop n ks))
   pub counted : differences ks ≡ d + differences (drop n ks)
   pub kept : length now ≡ length before
-
--- which kind a view is of
-abbrev pub kindSeen : View → Kind
-kindSeen Samples = Aco
-kindSeen Counterparts = Aco
-kindSeen ChannelBits = Ase
 
 -- the loop over both palettes, seen by v and w, before position i: p and q are the places of their colours i
 pub record Both (v w : View) (s t : List ℕ) (n : ℕ) (before now : List ℕ) (p q d i : ℕ) : Type 0 where

@@ -1,0 +1,4 @@
+pub mod Laws
+pub mod Counting
+pub mod Files
+pub mod Theorems

@@ -1,0 +1,4 @@
+pub mod Report
+pub mod Answer
+pub mod Promise
+pub mod scaffold
