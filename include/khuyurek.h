@@ -65,7 +65,7 @@ extern "C" {
 #define KHUYUREK_VERSION 2
 
 /* The inks of a record: to which station of the press a colour goes. An ASE file
- * states one of the first three. */
+ * states one of the first three, an ACO file none. */
 #define KHUYUREK_INK_GLOBAL 0
 #define KHUYUREK_INK_SPOT 1
 #define KHUYUREK_INK_NORMAL 2
@@ -83,10 +83,11 @@ typedef struct {
 
 /* The numbers of a record in a table or run: space, four samples, place of the
  * name's first unit in the file or text, number of its units (16 bits each,
- * big-endian, without the closing zero). Samples run from 0 to 65,535, of gray and
- * Lab's lightness from 0 to 10,000; Lab's two chrominances from -12,800 to 12,700, as
- * unsigned 16 bits. */
-#define KHUYUREK_ACO_WIDTH 7
+ * big-endian, without the closing zero), ink (always not stated; a writer refuses any
+ * other by 14, and so a record that was set to zeros, which says global). Samples run
+ * from 0 to 65,535, of gray and Lab's lightness from 0 to 10,000; Lab's two
+ * chrominances from -12,800 to 12,700, as unsigned 16 bits. */
+#define KHUYUREK_ACO_WIDTH 8
 
 /* number 0: accepted, with the number of colours and of lists (2: names).
  * Else the refusal and its place; for 7 also the record and field. */
@@ -110,6 +111,7 @@ typedef struct {
     size_t name;
     uint16_t space;
     uint16_t samples[4];
+    uint32_t ink;
 } khuyurek_aco_record;
 
 /* number 0: given, with the bits of the channel, an IEEE 754 float of 32 bits.
@@ -554,6 +556,7 @@ typedef struct {
     uint32_t units;
     uint16_t space;
     uint16_t samples[4];
+    uint32_t ink;
 } khuyurek_aco_step;
 
 khuyurek_aco_start khuyurek_aco_walk_start(const uint8_t *file, size_t file_len);

@@ -65,7 +65,7 @@ static int aco(void) {
     khuyurek_aco_answer read = khuyurek_aco_read(P3, sizeof P3, table, KHUYUREK_ACO_WIDTH + 1);
     CHECK(read.number == 0 && read.colours == 1 && read.lists == 2);
     CHECK(table[1] == 65535 && table[3] == 32896 && table[5] == 32 && table[6] == 1);
-    CHECK(table[KHUYUREK_ACO_WIDTH] == 99);
+    CHECK(table[7] == KHUYUREK_INK_NOT_STATED && table[KHUYUREK_ACO_WIDTH] == 99);
 
     khuyurek_aco_record record = khuyurek_aco_record_at(P3, sizeof P3, 0);
     CHECK(record.number == 0 && record.space == 0 && record.samples[2] == 32896);
@@ -298,6 +298,7 @@ static int walks(void) {
     khuyurek_aco_step swatch = khuyurek_aco_walk(P3, sizeof P3, aco.at);
     CHECK(swatch.number == 0 && swatch.done == 0 && swatch.next == sizeof P3);
     CHECK(swatch.name == 32 && swatch.units == 1 && swatch.space == 0);
+    CHECK(swatch.ink == KHUYUREK_INK_NOT_STATED);
     CHECK(swatch.samples[0] == 65535 && swatch.samples[2] == 32896 && swatch.samples[3] == 0);
     khuyurek_aco_step end = khuyurek_aco_walk(P3, sizeof P3, swatch.next);
     CHECK(end.number == 0 && end.done == 1 && end.next == sizeof P3 && end.samples[0] == 0);

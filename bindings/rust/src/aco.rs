@@ -1,10 +1,10 @@
 //! ACO swatches.
 
 use crate::text::{exact, length, Text};
-use crate::{raw, Refusal, Space, Units};
+use crate::{raw, Ink, Refusal, Space, Units};
 
 /// How many numbers a record has in a table.
-pub const WIDTH: usize = 7;
+pub const WIDTH: usize = 8;
 
 /// What an accepted file holds.
 #[derive(Clone, Copy, Debug, PartialEq, Eq)]
@@ -24,6 +24,8 @@ pub struct Swatch<'a> {
     pub samples: [u16; 4],
     /// The name, without its closing zero.
     pub name: Units<'a>,
+    /// Its ink, which a file does not state.
+    pub ink: Ink,
 }
 
 /// The records of an accepted file, in a table of the exact length.
@@ -55,6 +57,7 @@ pub fn record_at(file: &[u8], index: usize) -> Result<Swatch<'_>, Refusal> {
         space: Space::known(r.space),
         samples: r.samples,
         name: Units::lying(file, r.name, r.units),
+        ink: Ink::known(r.ink),
     })
 }
 
@@ -111,6 +114,7 @@ impl<'a> Palette<'a> {
             space: Space::known(row[0] as u16),
             samples: [1, 2, 3, 4].map(|i| row[i] as u16),
             name: Units::lying(self.file, row[5] as usize, row[6]),
+            ink: Ink::known(row[7]),
         }
     }
 }
@@ -134,6 +138,7 @@ fn laid_out(swatches: &[Swatch<'_>]) -> (Vec<u32>, Vec<u8>) {
         numbers.push(swatch.space.number().into());
         numbers.extend(swatch.samples.map(u32::from));
         numbers.extend(text.add(swatch.name));
+        numbers.push(swatch.ink.number());
     }
     (numbers, text.0)
 }
@@ -176,6 +181,7 @@ pub fn step_at(file: &[u8], at: usize) -> Result<Option<(Swatch<'_>, usize)>, Re
         space: Space::known(step.space),
         samples: step.samples,
         name: Units::lying(file, step.name, step.units),
+        ink: Ink::known(step.ink),
     };
     Ok(Some((swatch, step.next)))
 }

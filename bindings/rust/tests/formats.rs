@@ -62,6 +62,7 @@ fn aco_is_read() {
     let swatch = palette.get(0).unwrap();
     assert_eq!(swatch.space, Space::Rgb);
     assert_eq!(swatch.samples, [65535, 0, 32896, 0]);
+    assert_eq!(swatch.ink, Ink::NotStated);
     assert_eq!(swatch.name.to_string(), "A");
     assert_eq!(swatch.name.bytes().as_ptr(), P3[32..].as_ptr());
     assert_eq!(palette.get(1), None);
@@ -126,6 +127,7 @@ fn aco_is_written() {
         space: Space::Gray,
         samples: [9, 0, 0, 0],
         name: Units::new(&closed),
+        ink: Ink::NotStated,
     };
     assert_eq!(aco::write(&[swatch]), Err(refusal(8, 0)));
     swatch.samples[1] = 1;

@@ -17,9 +17,9 @@ four (a ∷ b ∷ c ∷ d ∷ x ∷ l) e = absurd (omega arith)
 
 module _ (g : RecordRow) (h : length (g .samples) ≡ 4) where
   pub length-numbers : length (numbers g) ≡ width
-  length-numbers = omega (arith, length-append (g .samples) (g .first ∷ g .units ∷ []))
+  length-numbers = omega (arith, length-append (g .samples) (g .first ∷ g .units ∷ g .ink ∷ []))
 
   pub taken-numbers : taken (numbers g) ≡ g
   taken-numbers =
-      let of : List ℕ → RecordRow = λ vs. record { space = g .space; samples = vs; first = g .first; units = g .units } in
+      let of : List ℕ → RecordRow = λ vs. record { space = g .space; samples = vs; first = g .first; units = g .units; ink = g .ink } in
       ap (λ (vs : List ℕ). taken (numbers (of vs))) (four (g .samples) h) ∙ sym (ap of (four (g .samples) h))

@@ -5,5 +5,5 @@ pub const LIMIT: usize = 16777216;
 // The most colours that a list has.
 pub const MOST: u16 = 4096;
 // The numbers of a record in a table or run: space, four samples, place of the name's first unit,
-// number of its units.
-pub const WIDTH: usize = 7;
+// number of its units, ink.
+pub const WIDTH: usize = 8;

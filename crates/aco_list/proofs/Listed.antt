@@ -23,6 +23,7 @@ use Rattle.walk.proofs.Calls.{step-read}
 use Rattle.walk.proofs.Turns.{given-all, given-start, given-none, given-next, given-over, given-refused}
 use Rattle.aco_walk.specs.Walking.{isPlain, firstPlace, namedEntry, labelled, swatchFrom, walk}
 use Rattle.aco_walk.specs.Answer.{toldNextColour, toldColourStep, callAndPlace}
+use Rattle.colour.specs.declared.ink.Ink.{Ink}
 use Rattle.aco_walk.specs.declared.NextColour.{NextColour}
 use Rattle.aco_walk.specs.declared.NextColour.the-variants as vg
 use Rattle.aco_walk.specs.declared.ColourStep.{ColourStep as Answered}
@@ -40,7 +41,7 @@ accepted-given s {c} e = given-all (walk s) (c .records) (firstPlace s) (colours
 -- ---- what a call answered
 
 abbrev Handed : Type 0
-Handed = Colour × Call (ℕ × ℕ) × ℕ
+Handed = Colour × Call (ℕ × ℕ × ℕ) × ℕ
 
 -- by the variant that the code found
 pub told-is : (r : Answered) (w : Call Entry × ℕ) {g : NextColour} → toldColourStep r ≡ callAndPlace w → r .given ≡ g → callAndPlace w ≡ (r .colour, toldNextColour g, r .next)
@@ -52,15 +53,15 @@ answer-is e = ap (λ (h : Handed). h .1) e
 gives-value : {A : Type 0} {a b : A} → gives a ≡ gives b → a ≡ b
 gives-value e = cc
 
-told-gives : (w : Call Entry × ℕ) {c : Colour} {p u q : ℕ} → callAndPlace w ≡ (c, gives (p, u), q) → (e : Entry) × (w ≡ (gives e, q)) × (c ≡ e .colour) × (p ≡ e .name .first) × (u ≡ length (e .name .units))
-told-gives w {c} {p} {u} {q} h = go (w .0) (w .1) h
+told-gives : (w : Call Entry × ℕ) {c : Colour} {p u k q : ℕ} → callAndPlace w ≡ (c, gives (p, u, k), q) → (e : Entry) × (w ≡ (gives e, q)) × (c ≡ e .colour) × (p ≡ e .name .first) × (u ≡ length (e .name .units))
+told-gives w {c} {p} {u} {k} {q} h = go (w .0) (w .1) h
   where
-    go : (a : Call Entry) (r : ℕ) → callAndPlace (a, r) ≡ (c, gives (p, u), q) → (e : Entry) × (_≡_ {A = Call Entry × ℕ} (a, r) (gives e, q)) × (c ≡ e .colour) × (p ≡ e .name .first) × (u ≡ length (e .name .units))
+    go : (a : Call Entry) (r : ℕ) → callAndPlace (a, r) ≡ (c, gives (p, u, k), q) → (e : Entry) × (_≡_ {A = Call Entry × ℕ} (a, r) (gives e, q)) × (c ≡ e .colour) × (p ≡ e .name .first) × (u ≡ length (e .name .units))
     go (gives e) r x =
         let y = gives-value (answer-is x) in
-        (e, ap (λ (h : Handed). (gives e, h .2)) x, ap (λ (h : Handed). h .0) (sym x), ap (λ (l : ℕ × ℕ). l .0) (sym y), ap (λ (l : ℕ × ℕ). l .1) (sym y))
+        (e, ap (λ (h : Handed). (gives e, h .2)) x, ap (λ (h : Handed). h .0) (sym x), ap (λ (l : ℕ × ℕ × ℕ). l .0) (sym y), ap (λ (l : ℕ × ℕ × ℕ). l .1) (sym y))
     go over r x = let y = answer-is x in let z : _≡_ {A = ℕ} 0 1 = cc in absurd (omega arith)
-    go (refused k n) r x = let y = answer-is x in let z : _≡_ {A = ℕ} 0 1 = cc in absurd (omega arith)
+    go (refused j n) r x = let y = answer-is x in let z : _≡_ {A = ℕ} 0 1 = cc in absurd (omega arith)
 
 told-over : (w : Call Entry × ℕ) {c : Colour} {q : ℕ} → callAndPlace w ≡ (c, over, q) → w .0 ≡ over
 told-over w {c} {q} h = go (w .0) (w .1) h
@@ -130,7 +131,7 @@ module _ (s : List ℕ) (bytes : Bytes s) where
           subst (λ (y : Entry). Spelt (y .name)) (ok-value (t .3)) (subst Spelt (i .1 .is) (read (i .0) (n + 4) (i .1 .some) (omega (arith, i .1 .inside, i .1 .room, i .1 .some))))
 
   -- the line of the record that a call gave
-  pub line-put : (o : Buffer) (i at : ℕ) (r : Answered) {place units : ℕ} {b : List ℕ} {p : Buffer} → toldColourStep r ≡ callAndPlace (walk s at) → r .given ≡ vg.Colour place units → b ≡ namePart s place units → p ≡ putAll o (colourLine i (r .colour) b)
+  pub line-put : (o : Buffer) (i at : ℕ) (r : Answered) {place units : ℕ} {ink : Ink} {b : List ℕ} {p : Buffer} → toldColourStep r ≡ callAndPlace (walk s at) → r .given ≡ vg.Colour place units ink → b ≡ namePart s place units → p ≡ putAll o (colourLine i (r .colour) b)
       → (e : Entry) × (walk s at ≡ (gives e, r .next)) × (p ≡ putAll o (line i e))
   line-put o i at r e f g h =
       let t = told-gives (walk s at) (told-is r (walk s at) e f) in

@@ -76,7 +76,11 @@ fn put_colours(out: &mut [u8], n: usize, file: &[u8], colours: usize) -> usize
             } => {
                 return at;
             }
-            NextColour::Colour { place, units } => {
+            NextColour::Colour {
+                place,
+                units,
+                ink: _,
+            } => {
                 let name = name_part(file, place, units);
                 at = put_colour(out, at, i, step.colour, name);
             }

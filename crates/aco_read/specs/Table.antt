@@ -22,10 +22,10 @@ filled m t = table.filled width row records report m t
 abbrev pub recordAt : ℕ → Res Contents → Verdict RecordRow
 recordAt i m = seen givenOf (table.recordAt records (unnamed zeroColour) i m)
 
--- the same by value: its colour, all zeros on a refusal, and where its name lies
-abbrev pub byValue : Verdict RecordRow → Colour × Verdict (ℕ × ℕ)
-byValue (accepted g) = (record { space = g .space; samples = g .samples }, accepted (g .first, g .units))
-byValue (refused x p r f) = (zeroColour, refused x p r f)
+-- the same by value: its colour, all zeros on a refusal, where its name lies, and its ink, 0 on a refusal
+abbrev pub byValue : Verdict RecordRow → Colour × Verdict (ℕ × ℕ) × ℕ
+byValue (accepted g) = (record { space = g .space; samples = g .samples }, accepted (g .first, g .units), g .ink)
+byValue (refused x p r f) = (zeroColour, refused x p r f, 0)
 
 -- the bytes of a name's units in the file; none on a refusal
 abbrev pub nameBytesIn : List ℕ → Verdict RecordRow → List ℕ

@@ -15,6 +15,7 @@ ghost use Rattle.aco_read.specs.Answer.{toldPlace, toldRecord};
 use aco::WIDTH;
 use aco_judge::Answer;
 use colour::Colour;
+use colour::Ink;
 
 // Where a record's name lies in the file, or the refusal.
 pub enum NamePlace {
@@ -33,10 +34,11 @@ pub enum NamePlace {
     },
 }
 
-// A record: its colour, all zeros on a refusal, and its name.
+// A record: its colour, all zeros on a refusal, its name, and its ink, that of number 0 on a refusal.
 pub struct SwatchRecord {
     pub colour: Colour,
     pub name: NamePlace,
+    pub ink: Ink,
 }
 
 // The colour in the ten bytes from `at`. A part of known length is loaded from without tests.
@@ -57,7 +59,7 @@ fn colour_at(file: &[u8], at: usize) -> Colour
     }
 }
 
-// Stores a record's numbers from `to`. No other function stores one.
+// Stores a record's numbers from `to`; a file does not state an ink. No other function stores one.
 fn put_row(table: &mut [u32], to: usize, colour: Colour, place: u32, units: u32)
     requires { ⌜ to + width ≤ length (now table) ⌝ }
     ensures { λ _. ⌜ now (table .exit) ≡ sets (now (table .entry)) to (numbers (withName colour place units)) ⌝ }
@@ -69,6 +71,7 @@ fn put_row(table: &mut [u32], to: usize, colour: Colour, place: u32, units: u32)
     table[to + 4] = colour.samples[3] as u32;
     table[to + 5] = place;
     table[to + 6] = units;
+    table[to + 7] = Ink::NotStated.number();
 }
 
 // Stores the n records of a file of one list.
@@ -149,13 +152,14 @@ fn entry_place(file: &[u8], n: usize, i: usize) -> usize
 
 // No record: a colour of zeros beside the refusal.
 fn none(name: NamePlace) -> SwatchRecord
-    ensures { λ r. ⌜ toldRecord r ≡ (zeroColour, toldPlace name) ⌝ }
+    ensures { λ r. ⌜ toldRecord r ≡ (zeroColour, toldPlace name, 0) ⌝ }
 {
     let colour = Colour {
         space: 0,
         samples: [0; 4],
     };
-    SwatchRecord { colour, name }
+    let ink = Ink::Global;
+    SwatchRecord { colour, name, ink }
 }
 
 // Record i of an accepted file, which has it.
@@ -164,9 +168,10 @@ fn found(file: &[u8], colours: usize, lists: usize, i: usize) -> SwatchRecord
     ensures { λ r. ⌜ toldRecord r ≡ byValue (recordAt i (aco (now (file .entry)))) ⌝ }
 {
     let colour = colour_at(file, 4 + 10 * i);
+    let ink = Ink::NotStated;
     if lists == 1 {
         let name = NamePlace::At { place: 0, units: 0 };
-        return SwatchRecord { colour, name };
+        return SwatchRecord { colour, name, ink };
     }
     let p = entry_place(file, colours, i);
     let count = fields::u32_or_zero(file, p + 10);
@@ -174,7 +179,7 @@ fn found(file: &[u8], colours: usize, lists: usize, i: usize) -> SwatchRecord
         place: p + 14,
         units: count - 1,
     };
-    SwatchRecord { colour, name }
+    SwatchRecord { colour, name, ink }
 }
 
 // Record i of a file.

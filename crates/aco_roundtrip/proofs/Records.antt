@@ -87,6 +87,7 @@ taken-fits s e l f = record {
   four = f .four;
   each-small = all-map (λ k v. v < 256 ^ 2) (λ k v. v < 65536) (λ k v h. omega arith) 0 (e .colour .samples) (f .each-small);
   counted = f .counted;
+  unstated = refl;
   inside = l .inside;
 }
 

@@ -60,7 +60,7 @@ module _ (s : List ℕ) (at x a b c d : ℕ) (h : at + 10 ≤ length s) (ex : x 
 -- ---- what follows it
 
 module _ (s : List ℕ) (at : ℕ) (c : Colour) where
-  pub labelled-plain : isPlain s ≡ true → (c, w.gives (0, 0), at) ≡ callAndPlace (w.answered (length s) (labelled c s at))
+  pub labelled-plain : isPlain s ≡ true → (c, w.gives (0, 0, 4), at) ≡ callAndPlace (w.answered (length s) (labelled c s at))
   unfolding labelled
   labelled-plain p = sym (ap (λ (b : Bool). callAndPlace (w.answered (length s) (pick b (ok (unnamed c) at) (then (name 4 s at) (λ nm q. ok (namedEntry c nm) q))))) p)
 
@@ -68,13 +68,13 @@ module _ (s : List ℕ) (at : ℕ) (c : Colour) where
   unfolding labelled
   labelled-by p = ap (λ (b : Bool). pick b (ok (unnamed c) at) (then (name 4 s at) (λ nm q. ok (namedEntry c nm) q))) p
 
-  pub labelled-named : isPlain s ≡ false → {f u q : ℕ} → ok (f, u) q ≡ place (name 4 s at) → (c, w.gives (f, u), q) ≡ callAndPlace (w.answered (length s) (labelled c s at))
+  pub labelled-named : isPlain s ≡ false → {f u q : ℕ} → ok (f, u) q ≡ place (name 4 s at) → (c, w.gives (f, u, 4), q) ≡ callAndPlace (w.answered (length s) (labelled c s at))
   labelled-named p {f} {u} {q} e = go (name 4 s at) e ∙ sym (ap (λ (m : Res Entry). callAndPlace (w.answered (length s) m)) (labelled-by p))
     where
-      go : (m : Res Name) → ok (f, u) q ≡ place m → (c, w.gives (f, u), q) ≡ callAndPlace (w.answered (length s) (then m (λ nm q. ok (namedEntry c nm) q)))
+      go : (m : Res Name) → ok (f, u) q ≡ place m → (c, w.gives (f, u, 4), q) ≡ callAndPlace (w.answered (length s) (then m (λ nm q. ok (namedEntry c nm) q)))
       go (ok nm r) z =
           let v : _≡_ {A = ℕ × ℕ} (f, u) (nm .first, length (nm .units)) = ok-value z in
-          ap₂ (λ (g : ℕ × ℕ) (n : ℕ). (c, w.gives g, n)) v (ok-place z)
+          ap₂ (λ (g : ℕ × ℕ) (n : ℕ). (c, w.gives (g .0, g .1, 4), n)) v (ok-place z)
       go (refuse x y r g) z = clash (sym z)
 
   pub labelled-lost : isPlain s ≡ false → {x y : ℕ} → refuse x y 0 0 ≡ place (name 4 s at) → callAndPlace (w.lost (length s)) ≡ callAndPlace (w.answered (length s) (labelled c s at))

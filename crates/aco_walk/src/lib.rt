@@ -10,12 +10,13 @@ ghost use Rattle.aco_walk.specs.Answer.{toldNextColour, toldColourStep, 
 ghost use Rattle.aco_walk.specs.scaffold.Answer.{toldTested, tested};
 use aco_judge::Answer;
 use colour::Colour;
+use colour::Ink;
 use names::NameAt;
 
-// What a call gives: a colour, whose name lies at a place and has a number of units; done; or a
-// refusal.
+// What a call gives: a colour, whose name lies at a place and has a number of units, with its ink;
+// done; or a refusal.
 pub enum NextColour {
-    Colour { place: usize, units: u32 },
+    Colour { place: usize, units: u32, ink: Ink },
     Done,
     Refused { number: u32, place: usize },
 }
@@ -132,7 +133,11 @@ fn labelled_at(file: &[u8], at: usize, colour: Colour) -> ColourStep
     ensures { λ r. ⌜ toldColourStep r ≡ callAndPlace (answered (length (now (file .entry))) (labelled colour (now (file .entry)) at)) ⌝ }
 {
     if is_plain(file) {
-        let given = NextColour::Colour { place: 0, units: 0 };
+        let given = NextColour::Colour {
+            place: 0,
+            units: 0,
+            ink: Ink::NotStated,
+        };
         return ColourStep {
             colour,
             given,
@@ -142,7 +147,11 @@ fn labelled_at(file: &[u8], at: usize, colour: Colour) -> ColourStep
     match names::name32_at(file, at) {
         NameAt::Refused(_, _) => lost(file),
         NameAt::Is(place, units, next) => {
-            let given = NextColour::Colour { place, units };
+            let given = NextColour::Colour {
+                place,
+                units,
+                ink: Ink::NotStated,
+            };
             ColourStep {
                 colour,
                 given,

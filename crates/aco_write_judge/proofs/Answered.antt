@@ -3,7 +3,7 @@
 use Prim.Native.Nat.{ℕ}
 use mathlib.Core.Path.{_≡_, refl}
 use mathlib.Core.List.{List, map, [], _∷_}
-use lib.Dec.{leb}
+use lib.Dec.{leb, eqb}
 use lib.ListN.{length}
 use Rattle.algebra.specs.Reader.{limit}
 use Rattle.algebra.specs.Text.{anyZero}
@@ -17,7 +17,7 @@ use Rattle.aco.specs.Reading.{most}
 use Rattle.aco_write_judge.specs.Refusals.{refusals}
 use Rattle.aco.specs.Faults.{spaceFault, sampleFault, fieldsFault, swatchesFault}
 use Rattle.aco.specs.Row.{RecordRow}
-use Rattle.aco_write_judge.specs.Writing.{swatchIn, size, foundIn, fault, needed, written}
+use Rattle.aco_write_judge.specs.Writing.{swatchIn, size, foundIn, inkFault, fault, needed, written}
 use Rattle.aco_write_judge.specs.scaffold.Parts.{colourFault, nameFault}
 
 colour-numbered : (g : RecordRow) → Fault refusals (colourFault g)
@@ -30,8 +30,10 @@ fault-numbered : (text : List ℕ) (gs : List RecordRow) → Fault refusals (fau
 unfolding fault swatchesFault
 fault-numbered text gs =
     pick-fault (leb (size gs) limit)
+    (first-fault _ _
     (first-fault _ _ (pick-fault (leb (length gs) most) no-fault (among refl))
     (first-fault (faults colourFault gs) _ (faults-fault colourFault colour-numbered gs) (faults-fault (nameFault text) (λ g. first-fault (foundIn text g) _ (body-fault (among refl) 2 (g .units) text (g .first)) (pick-fault (anyZero (swatchIn text g .name)) (among refl) no-fault)) gs)))
+    (faults-fault inkFault (λ g. pick-fault (eqb (g .ink) 4) no-fault (among refl)) gs))
     (among refl)
 
 -- the length that is needed is refused by one of these numbers

@@ -9,15 +9,16 @@ ghost use Rattle.algebra.specs.Faults.{faults};
 ghost use Rattle.algebra.specs.Table.{rowAt, rows, whole};
 ghost use Rattle.aco.specs.Faults.{spaceFault, sampleFault};
 ghost use Rattle.aco.specs.Row.{width, taken};
-ghost use Rattle.aco_write_judge.specs.Writing.{size, needed};
+ghost use Rattle.aco_write_judge.specs.Writing.{size, inkFault, needed};
 ghost use Rattle.aco_write_judge.specs.scaffold.Parts.{toldRecord, colourFault, nameFault};
 ghost use Rattle.algebra.specs.Writing.{bytes, refused};
 ghost use Rattle.fields.specs.Answer.{toldWritten};
 use aco::WIDTH;
+use colour::Ink;
 use fields::FieldEnd;
 use fields::Written;
 
-// A record of a run: its space, its samples, and where its name lies.
+// A record of a run: its space, its samples, where its name lies, and its ink.
 pub struct Record {
     pub space: u32,
     pub a: u32,
@@ -26,6 +27,7 @@ pub struct Record {
     pub d: u32,
     pub first: u32,
     pub units: u32,
+    pub ink: u32,
 }
 
 // Number j of a row, or 0 where it has no such number.
@@ -51,6 +53,7 @@ pub fn record_of(row: &[u32]) -> Record
         d: number_at(row, 4),
         first: number_at(row, 5),
         units: number_at(row, 6),
+        ink: number_at(row, 7),
     }
 }
 
@@ -195,6 +198,32 @@ fn names_fault(run: &[u32], text: &[u8], n: usize) -> u32
     0
 }
 
+// The fault of a record's ink: a file does not state one.
+fn ink_fault(given: Record) -> u32
+    ensures { λ r. ⌜ r ≡ inkFault (toldRecord given) ⌝ }
+{
+    if given.ink == Ink::NotStated.number() {
+        return 0;
+    }
+    14
+}
+
+// The first fault of the n inks.
+fn inks_fault(run: &[u32], n: usize) -> u32
+    requires { ⌜ width * n ≤ length (now run) ⌝ }
+    ensures { λ r. ⌜ r ≡ faults inkFault (rows width taken (now (run .entry)) n 0) ⌝ }
+{
+    let mut i: usize = 0;
+    while i < n {
+        let x = ink_fault(record_at(run, i));
+        if x != 0 {
+            return x;
+        }
+        i += 1;
+    }
+    0
+}
+
 // How many bytes the n records take. It stops at the limit, so that no sum passes 64 bits.
 fn size_of(run: &[u32], n: usize) -> Written
     requires { ⌜ width * n ≤ length (now run) ⌝ }
@@ -231,6 +260,10 @@ pub fn write_length(records: &[u32], text: &[u8]) -> Written
     let y = names_fault(records, text, n);
     if y != 0 {
         return Written::Refused(y);
+    }
+    let z = inks_fault(records, n);
+    if z != 0 {
+        return Written::Refused(z);
     }
     Written::Bytes(size)
 }

@@ -14,9 +14,9 @@ answerOf (refused x p r f) = record { number = x; place = p; rec = r; field = f;
 abbrev pub readOf : Verdict (ℕ × ℕ) × List ℕ → AcoAnswer × List ℕ
 readOf v = (answerOf (v .0), v .1)
 
-abbrev pub placed : Colour → Verdict (ℕ × ℕ) → AcoRecord
-placed c (accepted w) = record { number = 0; units = w .1; place = 0; rec = 0; field = 0; name = w .0; space = c .space; samples = c .samples }
-placed c (refused x p r f) = record { number = x; units = 0; place = p; rec = r; field = f; name = 0; space = c .space; samples = c .samples }
+abbrev pub placed : Colour → ℕ → Verdict (ℕ × ℕ) → AcoRecord
+placed c k (accepted w) = record { number = 0; units = w .1; place = 0; rec = 0; field = 0; name = w .0; space = c .space; samples = c .samples; ink = k }
+placed c k (refused x p r f) = record { number = x; units = 0; place = p; rec = r; field = f; name = 0; space = c .space; samples = c .samples; ink = k }
 
-abbrev pub recordOf : Colour × Verdict (ℕ × ℕ) → AcoRecord
-recordOf w = placed (w .0) (w .1)
+abbrev pub recordOf : Colour × Verdict (ℕ × ℕ) × ℕ → AcoRecord
+recordOf w = placed (w .0) (w .2) (w .1)

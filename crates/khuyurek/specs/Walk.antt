@@ -17,13 +17,13 @@ abbrev pub acoStart : Started → AcoStart
 acoStart (starts q) = record { number = 0; place = 0; rec = 0; field = 0; at = q }
 acoStart (refusal x p r f) = record { number = x; place = p; rec = r; field = f; at = 0 }
 
--- a colour, the place of the next call, and where the colour's name lies
-abbrev pub acoGiven : Colour → ℕ → Call (ℕ × ℕ) → AcoStep
-acoGiven c q (gives l) = record { number = 0; done = 0; next = q; name = l .0; units = l .1; space = c .space; samples = c .samples }
-acoGiven c q over = record { number = 0; done = 1; next = q; name = 0; units = 0; space = c .space; samples = c .samples }
-acoGiven c q (refused x p) = record { number = x; done = 0; next = q; name = 0; units = 0; space = c .space; samples = c .samples }
+-- a colour, the place of the next call, where the colour's name lies, and its ink
+abbrev pub acoGiven : Colour → ℕ → Call (ℕ × ℕ × ℕ) → AcoStep
+acoGiven c q (gives l) = record { number = 0; done = 0; next = q; name = l .0; units = l .1; space = c .space; samples = c .samples; ink = l .2 }
+acoGiven c q over = record { number = 0; done = 1; next = q; name = 0; units = 0; space = c .space; samples = c .samples; ink = 0 }
+acoGiven c q (refused x p) = record { number = x; done = 0; next = q; name = 0; units = 0; space = c .space; samples = c .samples; ink = 0 }
 
-abbrev pub acoStep : Colour × Call (ℕ × ℕ) × ℕ → AcoStep
+abbrev pub acoStep : Colour × Call (ℕ × ℕ × ℕ) × ℕ → AcoStep
 acoStep w = acoGiven (w .0) (w .2) (w .1)
 
 -- ---- ASE

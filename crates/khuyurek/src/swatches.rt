@@ -26,8 +26,8 @@ pub struct AcoAnswer {
     pub lists: usize,
 }
 
-// Number 0 is accepted, with the colour, the place of the name's first unit and its units; else
-// the refusal.
+// Number 0 is accepted, with the colour, the place of the name's first unit, its units and the
+// ink; else the refusal.
 #[repr(C)]
 pub struct AcoRecord {
     pub number: u32,
@@ -38,6 +38,7 @@ pub struct AcoRecord {
     pub name: usize,
     pub space: u16,
     pub samples: [u16; 4],
+    pub ink: u32,
 }
 
 fn exported(a: Answer) -> AcoAnswer
@@ -83,7 +84,7 @@ pub extern "C" fn khuyurek_aco_judge(file: &[u8]) -> AcoAnswer
     exported(aco_judge::judge(file))
 }
 
-// Reads a file into a table, seven numbers a record.
+// Reads a file into a table, eight numbers a record.
 #[no_mangle]
 pub extern "C" fn khuyurek_aco_read(file: &[u8], table: &mut [u32]) -> AcoAnswer
     ensures { λ r. ⌜ (r, now (table .exit)) ≡ readOf (filled (aco (now (file .entry))) (now (table .entry))) ⌝ }
@@ -91,8 +92,8 @@ pub extern "C" fn khuyurek_aco_read(file: &[u8], table: &mut [u32]) -> AcoAnswer
     exported(aco_read::read(file, table))
 }
 
-fn found(colour: Colour, name: usize, units: u32) -> AcoRecord
-    ensures { λ r. ⌜ r ≡ placed colour (accepted (name, units)) ⌝ }
+fn found(colour: Colour, name: usize, units: u32, ink: u32) -> AcoRecord
+    ensures { λ r. ⌜ r ≡ placed colour ink (accepted (name, units)) ⌝ }
 {
     let samples = colour.samples;
     AcoRecord {
@@ -104,11 +105,19 @@ fn found(colour: Colour, name: usize, units: u32) -> AcoRecord
         name,
         space: colour.space,
         samples,
+        ink,
     }
 }
 
-fn missing(colour: Colour, number: u32, place: usize, rec: usize, field: usize) -> AcoRecord
-    ensures { λ r. ⌜ r ≡ placed colour (refused number place rec field) ⌝ }
+fn missing(
+    colour: Colour,
+    number: u32,
+    place: usize,
+    rec: usize,
+    field: usize,
+    ink: u32,
+) -> AcoRecord
+    ensures { λ r. ⌜ r ≡ placed colour ink (refused number place rec field) ⌝ }
 {
     let samples = colour.samples;
     AcoRecord {
@@ -120,6 +129,7 @@ fn missing(colour: Colour, number: u32, place: usize, rec: usize, field: usize) 
         name: 0,
         space: colour.space,
         samples,
+        ink,
     }
 }
 
@@ -131,14 +141,16 @@ pub extern "C" fn khuyurek_aco_record_at(file: &[u8], i: usize) -> AcoRecord
     let swatch = aco_read::record_at(file, i);
     let colour = swatch.colour;
     let name = swatch.name;
+    let stated = swatch.ink;
+    let ink = stated.number();
     match name {
-        NamePlace::At { place, units } => found(colour, place, units),
-        NamePlace::Refused { number, place } => missing(colour, number, place, 0, 0),
+        NamePlace::At { place, units } => found(colour, place, units, ink),
+        NamePlace::Refused { number, place } => missing(colour, number, place, 0, 0, ink),
         NamePlace::Differ {
             place,
             record,
             field,
-        } => missing(colour, 7, place, record, field),
+        } => missing(colour, 7, place, record, field, ink),
     }
 }
 

@@ -29,7 +29,7 @@ pub struct AcoStart {
     pub at: usize,
 }
 
-// Number 0 is given, with the colour and where its name lies, or done with 1 there; else the
+// Number 0 is given, with the colour, where its name lies and its ink, or done with 1 there; else the
 // refusal, whose place is 0. `next` is the place of the next call.
 #[repr(C)]
 pub struct AcoStep {
@@ -40,6 +40,7 @@ pub struct AcoStep {
     pub units: u32,
     pub space: u16,
     pub samples: [u16; 4],
+    pub ink: u32,
 }
 
 // Number 0 is accepted, with the place where the walk starts; else the refusal.
@@ -112,7 +113,7 @@ fn aco_given(colour: Colour, given: aco_walk::NextColour, next: usize) -> AcoSte
     let space = colour.space;
     let samples = colour.samples;
     match given {
-        aco_walk::NextColour::Colour { place, units } => AcoStep {
+        aco_walk::NextColour::Colour { place, units, ink } => AcoStep {
             number: 0,
             done: 0,
             next,
@@ -120,6 +121,7 @@ fn aco_given(colour: Colour, given: aco_walk::NextColour, next: usize) -> AcoSte
             units,
             space,
             samples,
+            ink: ink.number(),
         },
         aco_walk::NextColour::Done => AcoStep {
             number: 0,
@@ -129,6 +131,7 @@ fn aco_given(colour: Colour, given: aco_walk::NextColour, next: usize) -> AcoSte
             units: 0,
             space,
             samples,
+            ink: 0,
         },
         aco_walk::NextColour::Refused { number, place: _ } => AcoStep {
             number,
@@ -138,6 +141,7 @@ fn aco_given(colour: Colour, given: aco_walk::NextColour, next: usize) -> AcoSte
             units: 0,
             space,
             samples,
+            ink: 0,
         },
     }
 }

@@ -67,7 +67,7 @@ aco-spelt s at {e} {q} w = let t = then-inv (colour s at) _ (step-read swatchFro
     go c n false x = let t = then-inv (name 4 s n) _ x in subst (λ (y : Entry). Spelt s (y .name)) (ok-value (t .3)) (name-spelt 4 s n (t .2))
 
 module _ (s : List ℕ) (bytes : Bytes s) where
-  aco-turn : (v : View) (p : ℕ) → ((h : Colour × Call (ℕ × ℕ) × ℕ) → callAndPlace (walk s p) ≡ h → stepOf v s p ≡ acoStep v h) → {e : Entry} {q : ℕ} → walk s p ≡ (gives e, q) → Turn Aco v s p (acoColour e) q
+  aco-turn : (v : View) (p : ℕ) → ((h : Colour × Call (ℕ × ℕ × ℕ) × ℕ) → callAndPlace (walk s p) ≡ h → stepOf v s p ≡ acoStep v h) → {e : Entry} {q : ℕ} → walk s p ≡ (gives e, q) → Turn Aco v s p (acoColour e) q
   unfolding nums
   aco-turn v p by {e} {q} w =
       let g = given-allowed s p w in
@@ -84,7 +84,7 @@ module _ (s : List ℕ) (bytes : Bytes s) where
         inside = g .2;
       }
 
-  aco-turns : (v : View) → ((p : ℕ) (h : Colour × Call (ℕ × ℕ) × ℕ) → callAndPlace (walk s p) ≡ h → stepOf v s p ≡ acoStep v h) → {c : Contents} {q : ℕ} → aco s ≡ ok c q → (i : ℕ) → i < length (acoColours c) → Turn Aco v s (placeOf Aco s i) (getD (acoColours c) i noColourAt) (placeOf Aco s (i + 1))
+  aco-turns : (v : View) → ((p : ℕ) (h : Colour × Call (ℕ × ℕ × ℕ) × ℕ) → callAndPlace (walk s p) ≡ h → stepOf v s p ≡ acoStep v h) → {c : Contents} {q : ℕ} → aco s ≡ ok c q → (i : ℕ) → i < length (acoColours c) → Turn Aco v s (placeOf Aco s i) (getD (acoColours c) i noColourAt) (placeOf Aco s (i + 1))
   unfolding placeOf
   aco-turns v by {c} e i l =
       let d : Entry = unnamed zeroColour in

@@ -62,12 +62,12 @@ abbrev pub noColour : ℕ → List ℕ × ℕ × ℕ × ℕ
 noColour q = (noNumbers, 0, 0, q)
 
 -- by what the walk over ACO hands out: a colour by value, its name by place and units, and the next place
-abbrev pub acoGiven : View → Colour → Call (ℕ × ℕ) → ℕ → List ℕ × ℕ × ℕ × ℕ
+abbrev pub acoGiven : View → Colour → Call (ℕ × ℕ × ℕ) → ℕ → List ℕ × ℕ × ℕ × ℕ
 acoGiven v c (gives l) q = (colourNumbers v c, l .0, l .1, q)
 acoGiven v c over q = noColour q
 acoGiven v c (refused x p) q = noColour q
 
-abbrev pub acoStep : View → Colour × Call (ℕ × ℕ) × ℕ → List ℕ × ℕ × ℕ × ℕ
+abbrev pub acoStep : View → Colour × Call (ℕ × ℕ × ℕ) × ℕ → List ℕ × ℕ × ℕ × ℕ
 acoStep v h = acoGiven v (h .0) (h .1) (h .2)
 
 -- by what the walk over ASE hands out, and the next place

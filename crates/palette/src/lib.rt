@@ -211,7 +211,11 @@ fn aco_step(view: View, file: &[u8], at: usize) -> Step
     let next = step.next;
     let given = step.given;
     match given {
-        aco_walk::NextColour::Colour { place, units } => {
+        aco_walk::NextColour::Colour {
+            place,
+            units,
+            ink: _,
+        } => {
             let numbers = numbers_of(view, step.colour);
             Step {
                 numbers,

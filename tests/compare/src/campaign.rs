@@ -5,7 +5,7 @@ use crate::reading::check_file;
 use crate::tally::Tally;
 use crate::writing::check_lot;
 use generate::{damage, fixed_files, Answer, Damage, Lot, LotDamage, Palette, Random, P3, P4};
-use reference::{COLOUR_LEN, HEAD_LEN, LIMIT, MAX_COLOURS, NAME_COUNT_LEN, ROW_LEN, UNIT_LEN};
+use reference::{COLOUR_LEN, HEAD_LEN, LIMIT, MAX_COLOURS, NAME_COUNT_LEN, NOT_STATED, UNIT_LEN};
 
 /// One lot of records for so many files.
 const FILES_A_LOT: u64 = 2;
@@ -197,7 +197,7 @@ impl Campaign {
             RECORDS_WITHIN_LIMIT + 1,
         ] {
             let lot = Lot {
-                records: vec![0; count * ROW_LEN],
+                records: [0, 0, 0, 0, 0, 0, 0, NOT_STATED].repeat(count),
                 text: Vec::new(),
             };
             check_lot(&lot, &mut random, &mut self.tally)?;

@@ -37,6 +37,7 @@ pub fn record(result: Result<Swatch, Refusal>) -> Record {
             samples,
             name,
             units,
+            ink: reference::NOT_STATED,
             ..Record::default()
         },
         Err(Refusal {

@@ -115,6 +115,11 @@ fn check_read_back(records: &[u32], text: &[u8], out: &[u8]) -> Checked {
             name(given, text),
             name(got, out),
         )?;
+        agree(
+            || format!("ink {index} read back"),
+            &given[ROW_LEN - 1],
+            &got[ROW_LEN - 1],
+        )?;
     }
     Ok(())
 }

@@ -6,7 +6,7 @@ use crate::colour::{
 };
 use crate::name::{bytes_of, is_closed, UNIT_LEN};
 use crate::refusal::{number, Refusal};
-use crate::{LIMIT, ROW_LEN};
+use crate::{LIMIT, NOT_STATED, ROW_LEN};
 
 /// The field number that stands for the count where the lists' counts differ.
 pub(crate) const COUNT_FIELD: usize = 5;
@@ -209,6 +209,7 @@ impl Swatch {
             d,
             self.name as u32,
             self.units,
+            NOT_STATED,
         ]
     }
 }

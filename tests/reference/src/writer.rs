@@ -7,7 +7,7 @@ use crate::colour::{
 use crate::name::{bytes_of, holds_zero_unit, units_in, UNIT_LEN};
 use crate::output::put;
 use crate::refusal::{number, Refusal};
-use crate::{LIMIT, ROW_LEN};
+use crate::{LIMIT, NOT_STATED, ROW_LEN};
 
 /// What a record adds to the output besides its name's units: its colour in
 /// both lists, the name's count and the closing zero.
@@ -27,6 +27,9 @@ pub fn length(records: &[u32], text: &[u8]) -> Result<usize, Refusal> {
     }
     for row in rows {
         judge_name(row, text).map_err(Refusal::of_call)?;
+    }
+    if rows.iter().any(|row| row[7] != NOT_STATED) {
+        return Err(Refusal::of_call(number::NO_COUNTERPART));
     }
     Ok(need)
 }
@@ -61,7 +64,7 @@ fn output_len(rows: &[Row]) -> Option<usize> {
 
 /// Judges the space and then each sample, in turn.
 fn judge_colour(row: &Row) -> Result<(), u32> {
-    let [space, samples @ .., _, _] = row;
+    let [space, samples @ .., _, _, _] = row;
     let space = u16::try_from(*space).map_err(|_| number::UNKNOWN_SPACE)?;
     if !is_known(space) {
         return Err(number::UNKNOWN_SPACE);

@@ -4,7 +4,7 @@ use generate::{damage, fixed_files, Answer, Damage, Palette, Random, P2, P3, P3_
 use reference::{judge, list, read, record, Accepted, Refusal, Swatch, LIMIT, LISTING_LIMIT};
 
 const CANARY: u32 = 0xC0FF_EE11;
-const ROW_LEN: usize = 7;
+const ROW_LEN: usize = 8;
 
 fn refused(number: u32, place: usize) -> Refusal {
     Refusal {
@@ -200,7 +200,7 @@ fn rows_are_filled_and_the_rest_is_kept() {
             lists: 2
         })
     );
-    assert_eq!(table[..ROW_LEN], [0, 65535, 0, 32896, 0, 32, 1]);
+    assert_eq!(table[..ROW_LEN], [0, 65535, 0, 32896, 0, 32, 1, 4]);
     assert_eq!(table[ROW_LEN..], [CANARY; 3]);
 }
 
@@ -277,6 +277,7 @@ fn rows_are_the_palette_the_file_was_laid_out_from() {
             let colour = palette.colours[index];
             assert_eq!(row[0], u32::from(colour.space));
             assert_eq!(row[1..5], colour.samples.map(u32::from));
+            assert_eq!(row[7], 4);
             let name: Vec<u16> = file[row[5] as usize..][..2 * row[6] as usize]
                 .chunks(2)
                 .map(|unit| u16::from_be_bytes([unit[0], unit[1]]))

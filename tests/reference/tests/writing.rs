@@ -4,8 +4,8 @@ use generate::{Lot, LotDamage, Random, P3};
 use reference::{judge, length, read, write, Accepted, Refusal, LIMIT};
 
 const CANARY: u8 = 0xA5;
-const ROW_LEN: usize = 7;
-const P3_RECORD: [u32; ROW_LEN] = [0, 65535, 0, 32896, 0, 0, 1];
+const ROW_LEN: usize = 8;
+const P3_RECORD: [u32; ROW_LEN] = [0, 65535, 0, 32896, 0, 0, 1, 4];
 const P3_TEXT: [u8; 2] = [0x00, 0x41];
 
 fn refused(number: u32) -> Refusal {
@@ -45,7 +45,7 @@ fn no_records_make_two_empty_lists() {
 #[test]
 fn a_missing_name_is_written_as_an_empty_one() {
     let mut out = [CANARY; 34];
-    let record = [0, 65535, 0, 32896, 0, u32::MAX, 0];
+    let record = [0, 65535, 0, 32896, 0, u32::MAX, 0, 4];
     assert_eq!(write(&record, &[], &mut out), Ok(34));
     assert_eq!(out[..28], P3[..28]);
     assert_eq!(out[28..], [0, 0, 0, 1, 0, 0]);
@@ -110,8 +110,17 @@ fn the_whole_length_is_judged_first() {
 }
 
 #[test]
+fn a_stated_ink_is_refused_last() {
+    for ink in [0, 1, 2, 3, 5, u32::MAX] {
+        assert_eq!(changed(&[(7, ink)]), Err(refused(14)));
+        assert_eq!(changed(&[(7, ink), (0, 3)]), Err(refused(4)));
+        assert_eq!(changed(&[(7, ink), (6, 2)]), Err(refused(2)));
+    }
+}
+
+#[test]
 fn a_list_holds_4096_colours() {
-    let records = |count| [0; ROW_LEN].repeat(count);
+    let records = |count| [0, 0, 0, 0, 0, 0, 0, 4].repeat(count);
     assert_eq!(length(&records(4096), &[]), Ok(8 + 26 * 4096));
     assert_eq!(length(&records(4097), &[]), Err(refused(5)));
     // The last count whose output is within the limit, and the next.
@@ -137,6 +146,7 @@ fn what_is_written_reads_back() {
         read(&out, &mut table).unwrap();
         for (given, got) in lot.records.chunks(ROW_LEN).zip(table.chunks(ROW_LEN)) {
             assert_eq!(given[..5], got[..5]);
+            assert_eq!(given[7], got[7]);
             let name = |bytes: &[u8], row: &[u32]| {
                 bytes[row[5] as usize..][..2 * row[6] as usize].to_vec()
             };

@@ -51,6 +51,7 @@ pub struct Record {
     pub name: usize,
     pub space: u16,
     pub samples: [u16; 4],
+    pub ink: u32,
 }
 
 /// What a writer answers; `length` is 0 on a refusal.
@@ -85,6 +86,7 @@ pub struct Step {
     pub units: u32,
     pub space: u16,
     pub samples: [u16; 4],
+    pub ink: u32,
 }
 
 /// What converting a sample answers: the channel's bits, 0 on a refusal.

@@ -35,7 +35,7 @@ returns c =
     let st = co .before .before in
     let s = st .args .file .now in
     let i = st .args .i in
-    ap (λ (b : Colour). (b, accepted (0, 0))) (co .colour-at .ensures) ∙ found-is s _ _ (st .pre .0) i (st .pre .1) _ (plain-is s _ _ (st .pre .0) (c .if1 .taken) i (st .pre .1))
+    ap (λ (b : Colour). (b, accepted (0, 0), 4)) (co .colour-at .ensures) ∙ found-is s _ _ (st .pre .0) i (st .pre .1) _ (plain-is s _ _ (st .pre .0) (c .if1 .taken) i (st .pre .1))
 
 entry-place-requires : tie.Need-entry-place-requires
 entry-place-requires c κs =
@@ -53,17 +53,17 @@ add-u32-or-zero c =
 u32-or-zero-requires : tie.Need-u32-or-zero-requires
 u32-or-zero-requires c κs = search needs
 
-add-t11 : tie.Need-add-t11
-add-t11 c = omega (arith, loaded c)
+add-t12 : tie.Need-add-t12
+add-t12 c = omega (arith, loaded c)
 
-sub-t13 : tie.Need-sub-t13
-sub-t13 c = omega (arith, loaded c)
+sub-t14 : tie.Need-sub-t14
+sub-t14 c = omega (arith, loaded c)
 
 returns-2 : tie.Need-returns-2
 returns-2 c =
     let co = c .before .before .before in
     let st = co .before .before in
-    ap (λ (b : Colour). (b, accepted (c .before .entry-place .result + 14, c .u32-or-zero .result - 1))) (co .colour-at .ensures)
+    ap (λ (b : Colour). (b, accepted (c .before .entry-place .result + 14, c .u32-or-zero .result - 1), 4)) (co .colour-at .ensures)
     ∙ found-is (st .args .file .now) _ _ (st .pre .0) (st .args .i) (st .pre .1) _ (loaded c .is)
 
 pub found-spec : {M : Type 1} → statement M
@@ -77,6 +77,6 @@ found-spec =
     entry-place-requires
     add-u32-or-zero
     u32-or-zero-requires
-    add-t11
-    sub-t13
+    add-t12
+    sub-t14
     returns-2)

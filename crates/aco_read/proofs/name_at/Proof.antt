@@ -27,7 +27,7 @@ add-end : tie.Need-add-end
 add-end c =
     let r = c .before .before .before in
     let a = r .before .before .args in
-    let e = sym (ap (λ (w : Colour × Verdict (ℕ × ℕ)). w .1) (r .record-at .ensures)) ∙ ap toldPlace (c .before .found .given .1) in
+    let e = sym (ap (λ (w : Colour × Verdict (ℕ × ℕ) × ℕ). w .1) (r .record-at .ensures)) ∙ ap toldPlace (c .before .found .given .1) in
     let h = name-in (a .file .now) (a .i) _ _ e in omega arith
 
 sub-result : tie.Need-sub-result
@@ -40,7 +40,7 @@ part-result-end : tie.Need-part-result-end
 part-result-end c =
     let r = c .before .before .before in
     let a = r .before .before .args in
-    let e = sym (ap (λ (w : Colour × Verdict (ℕ × ℕ)). w .1) (r .record-at .ensures)) ∙ ap toldPlace (c .before .found .given .1) in
+    let e = sym (ap (λ (w : Colour × Verdict (ℕ × ℕ) × ℕ). w .1) (r .record-at .ensures)) ∙ ap toldPlace (c .before .found .given .1) in
     let h = name-in (a .file .now) (a .i) _ _ e in
     omega arith
 
@@ -60,21 +60,21 @@ returns : tie.Need-returns
 returns c =
     let r = c .before .before .before .before in
     let a = r .before .before .args in
-    let e = sym (ap (λ (w : Colour × Verdict (ℕ × ℕ)). w .1) (r .record-at .ensures)) ∙ ap toldPlace (c .before .before .found .given .1) in
+    let e = sym (ap (λ (w : Colour × Verdict (ℕ × ℕ) × ℕ). w .1) (r .record-at .ensures)) ∙ ap toldPlace (c .before .before .found .given .1) in
     name-part (a .file .now) (recordAt (a .i) (aco (a .file .now))) _ _ e
 
 returns-2 : tie.Need-returns-2
 returns-2 c =
     let r = c .before .before .before in
     let a = r .before .before .args in
-    let e = sym (ap (λ (w : Colour × Verdict (ℕ × ℕ)). w .1) (r .record-at .ensures)) ∙ ap toldPlace (c .before .enum-told .given .1) in
+    let e = sym (ap (λ (w : Colour × Verdict (ℕ × ℕ) × ℕ). w .1) (r .record-at .ensures)) ∙ ap toldPlace (c .before .enum-told .given .1) in
     name-none (a .file .now) (recordAt (a .i) (aco (a .file .now))) e
 
 returns-3 : tie.Need-returns-3
 returns-3 c =
     let r = c .before .before .before in
     let a = r .before .before .args in
-    let e = sym (ap (λ (w : Colour × Verdict (ℕ × ℕ)). w .1) (r .record-at .ensures)) ∙ ap toldPlace (c .before .enum-told2 .given .1) in
+    let e = sym (ap (λ (w : Colour × Verdict (ℕ × ℕ) × ℕ). w .1) (r .record-at .ensures)) ∙ ap toldPlace (c .before .enum-told2 .given .1) in
     name-none (a .file .now) (recordAt (a .i) (aco (a .file .now))) e
 
 pub name-at-spec : {M : Type 1} → statement M

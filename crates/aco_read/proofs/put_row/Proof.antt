@@ -98,17 +98,29 @@ mul-table-7 c = search needs
 slice-write-table-7 : tie.Need-slice-write-table-7
 slice-write-table-7 c = simp length-set (omega arith)
 
+add-table-7 : tie.Need-add-table-7
+add-table-7 c = search needs
+
+mul-table-8 : tie.Need-mul-table-8
+mul-table-8 c = search needs
+
+number-requires : tie.Need-number-requires
+number-requires c κs = search needs
+
+slice-write-table-8 : tie.Need-slice-write-table-8
+slice-write-table-8 c = simp length-set (omega arith)
+
 same-length : tie.Need-same-length
 same-length c = simp length-set
 
 returns : tie.Need-returns
 returns c =
-    let s = c .before .before .before .before in
+    let s = c .before .before .before .before .before .before in
     let a = s .args in
     let vs = a .t3 .samples in
-    (simp unary-clauses)
-    ∙ ap (λ (l : List ℕ). sets (a .table .now) (a .to) (numbers (record { space = a .t3 .space; samples = l; first = a .place; units = a .units })))
-    (sym (four vs (length-unmapped ℕ vs 4 (s .good .1 .1 .0 .1 .1 .1 .0 .1 .0 .1))))
+    rw (c .number .ensures) ((simp unary-clauses)
+    ∙ ap (λ (l : List ℕ). sets (a .table .now) (a .to) (numbers (record { space = a .t3 .space; samples = l; first = a .place; units = a .units; ink = 4 })))
+    (sym (four vs (length-unmapped ℕ vs 4 (s .good .1 .1 .0 .1 .1 .1 .0 .1 .0 .1)))))
 
 pub put-row-spec : {M : Type 1} → statement M
 put-row-spec =
@@ -143,5 +155,9 @@ put-row-spec =
     add-table-6
     mul-table-7
     slice-write-table-7
+    number-requires
+    add-table-7
+    mul-table-8
+    slice-write-table-8
     same-length
     returns)

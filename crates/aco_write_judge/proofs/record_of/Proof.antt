@@ -23,8 +23,11 @@ number-at-requires-6 c κs = search needs
 number-at-requires-7 : tie.Need-number-at-requires-7
 number-at-requires-7 c κs = search needs
 
+number-at-requires-8 : tie.Need-number-at-requires-8
+number-at-requires-8 c κs = search needs
+
 returns : tie.Need-returns
-returns c = rw (c .before .before .before .before .before .before .number-at .ensures, c .before .before .before .before .before .number-at2 .ensures, c .before .before .before .before .number-at3 .ensures, c .before .before .before .number-at4 .ensures, c .before .before .number-at5 .ensures, c .before .number-at6 .ensures, c .number-at7 .ensures)
+returns c = let b = c .before in rw (b .before .before .before .before .before .before .number-at .ensures, b .before .before .before .before .before .number-at2 .ensures, b .before .before .before .before .number-at3 .ensures, b .before .before .before .number-at4 .ensures, b .before .before .number-at5 .ensures, b .before .number-at6 .ensures, b .number-at7 .ensures, c .number-at8 .ensures)
 
 pub record-of-spec : {M : Type 1} → statement M
 record-of-spec =
@@ -37,4 +40,5 @@ record-of-spec =
     number-at-requires-5
     number-at-requires-6
     number-at-requires-7
+    number-at-requires-8
     returns)

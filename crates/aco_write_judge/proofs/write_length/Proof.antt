@@ -8,7 +8,7 @@ use Rattle.aco.specs.Row.{width, taken}
 use Rattle.aco_write_judge.specs.Writing.{sizes}
 use Rattle.aco_write_judge.proofs.Judging.{givenAt}
 use Rattle.fields.specs.Answer.{toldWritten}
-use Rattle.aco_write_judge.proofs.Outcomes.{too-long, too-many, bad-colour, bad-name, all-fine}
+use Rattle.aco_write_judge.proofs.Outcomes.{too-long, too-many, bad-colour, bad-name, bad-ink, all-fine}
 use Rattle.algebra.proofs.Writing.{size-is, size-passes}
 use borrow.Author.Needs.{needs}
 use Rattle.aco_write_judge.proofs.write_length.Statement.{statement}
@@ -67,14 +67,28 @@ returns-4 c =
     let s = size-is (8 + sizes gs) _ (sym (ap toldWritten (c .before .before .before .before .before .before .size .given .1)) ∙ c .before .before .before .before .before .before .before .before .size-of .ensures) in
     bad-name (a .text .now) gs (s .0) (omega (arith, len, c .before .before .before .before .if1 .left)) _ (c .before .before .before .colours-fault .ensures) (c .before .before .if2 .left) _ (c .before .names-fault .ensures) (c .if3 .taken)
 
+inks-fault-requires : tie.Need-inks-fault-requires
+inks-fault-requires c κs = search needs
+
 returns-5 : tie.Need-returns-5
 returns-5 c =
-    let a = c .before .before .before .before .before .before .before .before .before .before .before .args in
+    let b = c .before .before in
+    let a = b .before .before .before .before .before .before .before .before .before .before .before .args in
     let n = length (a .records .now) / width in
     let gs = rows width taken (a .records .now) n 0 in
     let len = length-counted (givenAt (a .records .now)) n 0 in
-    let s = size-is (8 + sizes gs) _ (sym (ap toldWritten (c .before .before .before .before .before .before .size .given .1)) ∙ c .before .before .before .before .before .before .before .before .size-of .ensures) in
-    all-fine (a .text .now) gs (s .0) (omega (arith, len, c .before .before .before .before .if1 .left)) _ (c .before .before .before .colours-fault .ensures) (c .before .before .if2 .left) _ _ (c .before .names-fault .ensures) (c .if3 .left) (s .1)
+    let s = size-is (8 + sizes gs) _ (sym (ap toldWritten (b .before .before .before .before .before .before .size .given .1)) ∙ b .before .before .before .before .before .before .before .before .size-of .ensures) in
+    bad-ink (a .text .now) gs (s .0) (omega (arith, len, b .before .before .before .before .if1 .left)) _ (b .before .before .before .colours-fault .ensures) (b .before .before .if2 .left) _ (b .before .names-fault .ensures) (b .if3 .left) _ (c .before .inks-fault .ensures) (c .if4 .taken)
+
+returns-6 : tie.Need-returns-6
+returns-6 c =
+    let b = c .before .before in
+    let a = b .before .before .before .before .before .before .before .before .before .before .before .args in
+    let n = length (a .records .now) / width in
+    let gs = rows width taken (a .records .now) n 0 in
+    let len = length-counted (givenAt (a .records .now)) n 0 in
+    let s = size-is (8 + sizes gs) _ (sym (ap toldWritten (b .before .before .before .before .before .before .size .given .1)) ∙ b .before .before .before .before .before .before .before .before .size-of .ensures) in
+    all-fine (a .text .now) gs (s .0) (omega (arith, len, b .before .before .before .before .if1 .left)) _ (b .before .before .before .colours-fault .ensures) (b .before .before .if2 .left) _ (b .before .names-fault .ensures) (b .if3 .left) _ (c .before .inks-fault .ensures) _ (c .if4 .left) (s .1)
 
 pub write-length-spec : {M : Type 1} → statement M
 write-length-spec =
@@ -90,4 +104,6 @@ write-length-spec =
     returns-3
     names-fault-requires
     returns-4
-    returns-5)
+    inks-fault-requires
+    returns-5
+    returns-6)

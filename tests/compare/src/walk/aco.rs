@@ -93,6 +93,7 @@ impl Steps for Colours {
                 samples,
                 name,
                 units,
+                ink: reference::NOT_STATED,
                 ..nothing
             },
             Ok(None) => Step { done: 1, ..nothing },
@@ -119,6 +120,6 @@ impl Steps for Colours {
     fn row(step: &Step) -> Vec<u32> {
         let [a, b, c, d] = step.samples.map(u32::from);
         let space = u32::from(step.space);
-        vec![space, a, b, c, d, step.name as u32, step.units]
+        vec![space, a, b, c, d, step.name as u32, step.units, step.ink]
     }
 }

@@ -1,5 +1,7 @@
-use mathlib.Core.Path.{sym, ap}
+use Prim.Native.Nat.{ℕ}
+use mathlib.Core.Path.{sym, ap, _∙_}
 use Rattle.khuyurek.specs.Walk.{acoGiven}
+use Rattle.walk.specs.Walk.{gives}
 use Rattle.aco_walk.specs.Answer.{toldNextColour}
 use borrow.Author.Needs.{needs}
 use Rattle.khuyurek.proofs.walks.aco_given.Statement.{statement}
@@ -14,10 +16,15 @@ enum-told c = search needs
 enum-known-given-2 : tie.Need-enum-known-given-2
 enum-known-given-2 c = search needs
 
+number-requires : tie.Need-number-requires
+number-requires c κs = search needs
+
 returns : tie.Need-returns
 returns c =
-    let st = c .before .before .before .before in
-    sym (ap (λ (v : _). acoGiven (st .args .colour) (st .args .next) (toldNextColour v)) (c .before .given .given .1))
+    let st = c .before .before .before .before .before in
+    let g = c .before .before .given in
+    ap (λ (k : ℕ). acoGiven (st .args .colour) (st .args .next) (gives (g .given .0 .0, g .given .0 .1 .0, k))) (c .number .ensures)
+    ∙ sym (ap (λ (v : _). acoGiven (st .args .colour) (st .args .next) (toldNextColour v)) (g .given .1))
 
 returns-2 : tie.Need-returns-2
 returns-2 c =
@@ -30,4 +37,4 @@ returns-3 c =
     sym (ap (λ (v : _). acoGiven (st .args .colour) (st .args .next) (toldNextColour v)) (c .before .given2 .given .1))
 
 pub aco-given-spec : {M : Type 1} → statement M
-aco-given-spec = tie.close (tie.spec enum-known-given enum-told enum-known-given-2 returns returns-2 returns-3)
+aco-given-spec = tie.close (tie.spec enum-known-given number-requires enum-told enum-known-given-2 returns returns-2 returns-3)
