@@ -10,9 +10,11 @@ mod descriptor;
 mod plain;
 mod report;
 mod resource;
+mod season;
 mod size;
 mod stack;
 mod timing;
+mod totals;
 mod tray;
 
 use report::Report;
@@ -34,6 +36,8 @@ enum Part {
     Acb,
     Descriptors,
     Resources,
+    Seasons,
+    Reports,
     Conversions,
 }
 
@@ -46,6 +50,8 @@ fn main() -> ExitCode {
         Some("acb") => (Some(Part::Acb), &args[1..]),
         Some("descriptor") => (Some(Part::Descriptors), &args[1..]),
         Some("resource") => (Some(Part::Resources), &args[1..]),
+        Some("season") => (Some(Part::Seasons), &args[1..]),
+        Some("report") => (Some(Part::Reports), &args[1..]),
         Some("stack-of") => return stack::try_one(&args[1..]),
         Some("convert") => (Some(Part::Conversions), &args[1..]),
         _ => (None, &args[..]),
@@ -54,7 +60,9 @@ fn main() -> ExitCode {
         None => DEFAULT_ROUNDS,
         Some(Ok(rounds)) if rounds > 0 => rounds,
         Some(_) => {
-            eprintln!("usage: bench [aco|chunks|ase|acb|descriptor|resource|convert] [ROUNDS]");
+            eprintln!(
+                "usage: bench [aco|chunks|ase|acb|descriptor|resource|season|report|convert] [ROUNDS]"
+            );
             return ExitCode::FAILURE;
         }
     };
@@ -83,6 +91,12 @@ fn main() -> ExitCode {
     }
     if wanted(Part::Resources) {
         resource::compare(&mut report, rounds);
+    }
+    if wanted(Part::Seasons) {
+        season::compare(&mut report, rounds);
+    }
+    if wanted(Part::Reports) {
+        totals::compare(&mut report, rounds);
     }
     if wanted(Part::Conversions) {
         conversion::compare(&mut report, rounds);

@@ -13,7 +13,9 @@ mod listing;
 mod program;
 mod reading;
 mod real;
+mod reports;
 mod resource;
+mod seasons;
 mod tally;
 mod trays;
 mod walk;
@@ -31,6 +33,8 @@ const USAGE: &str = "usage: compare [SEED [FILES]]
        compare acb [SEED [FILES]]
        compare descriptor [SEED [FILES]]
        compare resource [SEED [SECTIONS]]
+       compare seasons [SEED [FILES]]
+       compare reports [SEED [FILES]]
        compare convert [SEED [PATTERNS]]
        compare list [PROGRAM [FILES [SEED]]]
        compare list-ase [PROGRAM [FILES [SEED]]]
@@ -70,6 +74,18 @@ fn main() -> ExitCode {
             rest,
             resource::campaign::run,
             resource::Tally::all_reached,
+        ),
+        Some("seasons") => compare_library(
+            "seasons",
+            rest,
+            seasons::campaign::run,
+            seasons::Tally::all_reached,
+        ),
+        Some("reports") => compare_library(
+            "reports",
+            rest,
+            reports::campaign::run,
+            reports::Tally::all_reached,
         ),
         Some("convert") => compare_conversions(rest),
         Some("list") => compare_listings(rest, "aco_list", listing::run),

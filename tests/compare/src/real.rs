@@ -2,8 +2,10 @@
 
 use crate::difference::{Checked, Difference};
 use crate::program::check_listings;
-use crate::{acb, ase, descriptor, reading, resource, tally};
+use crate::{acb, ase, descriptor, reading, reports, resource, seasons, tally};
 use generate::Random;
+use reference::report::TOTALS;
+use reference::season;
 use std::fmt::{self, Display, Formatter};
 use std::fs;
 use std::io;
@@ -62,6 +64,9 @@ const KINDS: [Kind; 6] = [
     },
 ];
 
+/// The endings of files that a caller says the kind of, each at its number.
+const ENDINGS: [&str; 4] = ["aco", "ase", "acb", "desc"];
+
 /// How many files of each kind were compared, and how many of them list as
 /// refused.
 pub struct Compared {
@@ -94,6 +99,17 @@ pub fn run(folder: &Path, programs: &Path, seed: u64) -> Result<Compared, String
 
 fn check(kind: &Kind, file: &[u8], programs: &Path, seed: u64) -> Result<(), Difference> {
     (kind.check)(file, &mut Random::new(seed))?;
+    // A palette is compared with itself.
+    if let Some(said) = ENDINGS[..2].iter().position(|said| *said == kind.ending) {
+        let kind = said as u32;
+        let palette = season::Palette { kind, file };
+        let tally = &mut seasons::Tally::default();
+        seasons::check_pair([palette; 2], &mut Random::new(seed), tally)?;
+    }
+    if let Some(said) = ENDINGS.iter().position(|said| *said == kind.ending) {
+        let tally = &mut reports::Tally::default();
+        reports::check_add([0; TOTALS], said as u32, file, tally)?;
+    }
     let program = programs.join(kind.program);
     check_listings(&program, &[file.to_vec()], kind.list).map(|_| ())
 }
