@@ -374,6 +374,36 @@ khuyurek_acb_page khuyurek_acb_page_in(const uint32_t *table, size_t table_len, 
                                        uint16_t page_size, uint16_t page_offset,
                                        size_t page);
 
+/* An index of a book holds a number for each record that is no dummy: the record's.
+ * They are in the order of the records' names, unit by unit as numbers, a shorter name
+ * before a longer one that begins with it, and equal names by record number. */
+#define KHUYUREK_ACB_INDEX_WIDTH 1
+
+/* number 0: built, and shown is how many entries there are. Else the refusal. */
+typedef struct {
+    uint32_t number;
+    size_t place;
+    size_t shown;
+} khuyurek_acb_indexed;
+
+/* number 0: found, and record is the record's number. Else the refusal. */
+typedef struct {
+    uint32_t number;
+    size_t place;
+    size_t record;
+} khuyurek_acb_found;
+
+/* The index of a book, in a run that needs one place for each shown record: 11 where it
+ * is shorter. Past them it keeps its contents. */
+khuyurek_acb_indexed khuyurek_acb_index(const uint8_t *file, size_t file_len,
+                                        uint32_t *index, size_t index_len);
+
+/* The lowest shown record of a name, without prefix and suffix: 12 where none has it. The
+ * index is first compared with the file: 5 at 0 unless it begins with the file's. */
+khuyurek_acb_found khuyurek_acb_find(const uint8_t *file, size_t file_len,
+                                     const uint32_t *index, size_t index_len,
+                                     const uint16_t *name, size_t name_len);
+
 /* The exact length that writing needs: 3 for a tag above 2, after the faults of all records;
  * in the length that 1 is judged on it counts eight bytes. A remainder of fewer than
  * KHUYUREK_ACB_WIDTH numbers is left alone. */

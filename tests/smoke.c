@@ -189,6 +189,18 @@ static int acb(void) {
     khuyurek_acb_page page = khuyurek_acb_page_at(BOOK, sizeof BOOK, 0);
     CHECK(page.number == 0 && page.record == 0);
     CHECK(khuyurek_acb_page_at(BOOK, sizeof BOOK, 1).number == KHUYUREK_NO_RECORD);
+    uint32_t index[KHUYUREK_ACB_INDEX_WIDTH + 1] = {8, 9};
+    const uint16_t wanted[2] = {0x6E, 0};
+    CHECK(khuyurek_acb_index(BOOK, sizeof BOOK, index, 0).number == KHUYUREK_NO_ROOM);
+    khuyurek_acb_indexed indexed = khuyurek_acb_index(BOOK, sizeof BOOK, index, 2);
+    CHECK(indexed.number == 0 && indexed.place == 0 && indexed.shown == 1);
+    CHECK(index[0] == 0 && index[1] == 9);
+    khuyurek_acb_found found = khuyurek_acb_find(BOOK, sizeof BOOK, index, 2, wanted, 1);
+    CHECK(found.number == 0 && found.place == 0 && found.record == 0);
+    CHECK(khuyurek_acb_find(BOOK, sizeof BOOK, index, 1, wanted, 2).number == KHUYUREK_NO_RECORD);
+    CHECK(khuyurek_acb_find(BOOK, sizeof BOOK, index, 1, wanted, 0).number == KHUYUREK_NO_RECORD);
+    found = khuyurek_acb_find(BOOK, sizeof BOOK, index + 1, 1, wanted, 1);
+    CHECK(found.number == KHUYUREK_OUT_OF_RANGE && found.place == 0 && found.record == 0);
     CHECK(khuyurek_acb_shown_component(read.header.space, 1, 0x7B) == -5);
     page = khuyurek_acb_page_in(table, KHUYUREK_ACB_WIDTH, read.count, read.header.page_size,
                                 read.header.page_offset, 0);

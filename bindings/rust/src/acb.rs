@@ -133,6 +133,27 @@ pub fn page_at(file: &[u8], page: usize) -> Result<usize, Refusal> {
     Ok(page.record)
 }
 
+/// The index of a book by the names of its records: the numbers of those that
+/// are no dummies, unit by unit as numbers, a shorter name before a longer one
+/// that begins with it, and equal names by number.
+pub fn index(file: &[u8]) -> Result<Vec<u32>, Refusal> {
+    let (count, _) = judge(file)?;
+    let mut index = vec![0; count];
+    let built = raw::index(file, &mut index);
+    Refusal::unless(built.number, built.place)?;
+    index.truncate(built.shown);
+    Ok(index)
+}
+
+/// The lowest record of a name, without prefix and suffix, that is no dummy: 12
+/// where none has it. The whole file is judged first, and the index compared
+/// with it: 5 unless it begins with the file's.
+pub fn find(file: &[u8], index: &[u32], name: &[u16]) -> Result<usize, Refusal> {
+    let found = raw::find(file, index, name);
+    Refusal::unless(found.number, found.place)?;
+    Ok(found.record)
+}
+
 /// The part of a header's string that is shown: what stands after the first `=`
 /// where it begins with `$$$/` and holds one, else all of it.
 pub fn shown_text(string: Units<'_>) -> Units<'_> {

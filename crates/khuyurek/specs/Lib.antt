@@ -6,6 +6,7 @@ pub mod Acb
 pub mod Descriptor
 pub mod Resource
 pub mod Trays
+pub mod Names
 pub mod Walk
 pub mod Stream
 pub mod Seasons

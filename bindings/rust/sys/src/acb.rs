@@ -77,6 +77,24 @@ pub struct Page {
     pub place: usize,
 }
 
+/// What building an index answers: how many entries there are.
+#[repr(C)]
+#[derive(Clone, Copy, Debug, Default, PartialEq, Eq)]
+pub struct Indexed {
+    pub number: u32,
+    pub place: usize,
+    pub shown: usize,
+}
+
+/// The record that has a name.
+#[repr(C)]
+#[derive(Clone, Copy, Debug, Default, PartialEq, Eq)]
+pub struct Found {
+    pub number: u32,
+    pub place: usize,
+    pub record: usize,
+}
+
 extern "C" {
     fn khuyurek_acb_judge(file: *const u8, file_len: usize) -> Answer;
     fn khuyurek_acb_read(
@@ -106,6 +124,20 @@ extern "C" {
         page_offset: u16,
         page: usize,
     ) -> Page;
+    fn khuyurek_acb_index(
+        file: *const u8,
+        file_len: usize,
+        index: *mut u32,
+        index_len: usize,
+    ) -> Indexed;
+    fn khuyurek_acb_find(
+        file: *const u8,
+        file_len: usize,
+        index: *const u32,
+        index_len: usize,
+        name: *const u16,
+        name_len: usize,
+    ) -> Found;
     fn khuyurek_acb_length(
         header: Header,
         records: *const u32,
@@ -192,6 +224,25 @@ pub fn page_in(table: &[u32], count: usize, page_size: u16, page_offset: u16, pa
             page_size,
             page_offset,
             page,
+        )
+    }
+}
+
+pub fn index(file: &[u8], index: &mut [u32]) -> Indexed {
+    // SAFETY: see above; the index is borrowed for writing.
+    unsafe { khuyurek_acb_index(file.as_ptr(), file.len(), index.as_mut_ptr(), index.len()) }
+}
+
+pub fn find(file: &[u8], index: &[u32], name: &[u16]) -> Found {
+    // SAFETY: see above.
+    unsafe {
+        khuyurek_acb_find(
+            file.as_ptr(),
+            file.len(),
+            index.as_ptr(),
+            index.len(),
+            name.as_ptr(),
+            name.len(),
         )
     }
 }
