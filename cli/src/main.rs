@@ -1,5 +1,5 @@
-//! The program behind `khuyurek check`: what the proved library says of colour files,
-//! for people. docs/LISTINGS.md describes the output.
+//! The program behind `khuyurek check`, `compare` and `report`: what the proved library
+//! says of colour files, for people. docs/LISTINGS.md describes the output.
 //!
 //! All judgement is the library's. A subcommand is a module with its usage and a
 //! function `run`; what they share is in `arguments`, `files`, `refusals`,
@@ -9,10 +9,13 @@
 
 mod arguments;
 mod check;
+mod compare;
 mod files;
 mod refusals;
+mod report;
 mod status;
 mod text;
+mod totals;
 
 use arguments::Misuse;
 use status::Status;
@@ -48,11 +51,23 @@ impl From<io::Error> for Stopped {
     }
 }
 
-const SUBCOMMANDS: [Subcommand; 1] = [Subcommand {
-    name: "check",
-    usage: check::USAGE,
-    run: check::run,
-}];
+const SUBCOMMANDS: [Subcommand; 3] = [
+    Subcommand {
+        name: "check",
+        usage: check::USAGE,
+        run: check::run,
+    },
+    Subcommand {
+        name: "compare",
+        usage: compare::USAGE,
+        run: compare::run,
+    },
+    Subcommand {
+        name: "report",
+        usage: report::USAGE,
+        run: report::run,
+    },
+];
 
 fn main() -> ExitCode {
     let words: Vec<OsString> = std::env::args_os().skip(1).collect();

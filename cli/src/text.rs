@@ -1,7 +1,20 @@
 //! Names as text.
 
+use khuyurek::Units;
 use std::ffi::OsStr;
 use std::fmt::Write;
+
+/// A name in quotes: its units as text. What would break the line, steer a terminal or
+/// be mistaken for something else is escaped: `\"`, `\\`, and by its number in hex, as
+/// `\u{A}`, each control or invisible character and each surrogate without its other half.
+pub fn quoted(name: Units<'_>) -> String {
+    quote(char::decode_utf16(name.iter()).map(|c| c.map_err(|e| e.unpaired_surrogate())))
+}
+
+/// The same of a text.
+fn quoted_text(text: &str) -> String {
+    quote(text.chars().map(Ok))
+}
 
 /// A file's name, in quotes where it is empty or would break the line or steer a
 /// terminal.
@@ -14,16 +27,14 @@ pub fn shown_name(name: &OsStr) -> String {
     }
 }
 
-/// What would break the line, steer a terminal or be mistaken for something else is
-/// escaped: `\"`, `\\`, and by its number in hex, as `\u{A}`, each control or invisible
-/// character.
-fn quoted_text(text: &str) -> String {
+fn quote(chars: impl Iterator<Item = Result<char, u16>>) -> String {
     let mut quoted = String::from("\"");
-    for c in text.chars() {
+    for c in chars {
         match c {
-            '"' | '\\' => quoted.extend(['\\', c]),
-            c if is_unseen(c) => escape(&mut quoted, c.into()),
-            c => quoted.push(c),
+            Ok(c @ ('"' | '\\')) => quoted.extend(['\\', c]),
+            Ok(c) if is_unseen(c) => escape(&mut quoted, c.into()),
+            Ok(c) => quoted.push(c),
+            Err(surrogate) => escape(&mut quoted, surrogate.into()),
         }
     }
     quoted.push('"');

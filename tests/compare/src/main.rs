@@ -10,6 +10,7 @@ mod difference;
 mod expected;
 mod lent;
 mod listing;
+mod people;
 mod program;
 mod reading;
 mod real;
@@ -41,11 +42,17 @@ const USAGE: &str = "usage: compare [SEED [FILES]]
        compare list-acb [PROGRAM [FILES [SEED]]]
        compare list-descriptor [PROGRAM [FILES [SEED]]]
        compare list-resource [PROGRAM [FILES [SEED]]]
+       compare people [PROGRAM [CALLS [SEED]]]
        compare real FOLDER [PROGRAMS [SEED]]";
 const DEFAULT_SEED: u64 = 20_240_229;
 const DEFAULT_FILES: u64 = 300_000;
 const DEFAULT_PATTERNS: u64 = 60_000_000;
 const DEFAULT_LISTED: u64 = 300;
+const DEFAULT_CALLS: u64 = 300;
+const PEOPLE: &str = concat!(
+    env!("CARGO_MANIFEST_DIR"),
+    "/../../target/cargo/release/khuyurek-cli"
+);
 const PROGRAMS: &str = concat!(env!("CARGO_MANIFEST_DIR"), "/../../target/bin");
 
 fn main() -> ExitCode {
@@ -95,6 +102,7 @@ fn main() -> ExitCode {
             compare_listings(rest, "descriptor_list", descriptor::listing::run)
         }
         Some("list-resource") => compare_listings(rest, "resource_list", resource::listing::run),
+        Some("people") => compare_people(rest),
         Some("real") => compare_real(rest),
         _ => compare_library("ACO", &args, campaign::run, tally::Tally::all_reached),
     };
@@ -159,6 +167,16 @@ fn compare_listings(
     println!("seed {seed}");
     let listed = run(&program, seed, files).map_err(|difference| with_seed(seed, difference))?;
     Ok(format!("the listing program agrees: {listed} inputs"))
+}
+
+fn compare_people(args: &[String]) -> Result<String, String> {
+    let program = args.first().map_or(PEOPLE, String::as_str);
+    let calls = number(args, 1, DEFAULT_CALLS)?;
+    let seed = number(args, 2, DEFAULT_SEED)?;
+    println!("seed {seed}");
+    let called = people::run(Path::new(program), seed, calls)
+        .map_err(|difference| with_seed(seed, difference))?;
+    Ok(format!("the program for people agrees: {called} calls"))
 }
 
 fn number(args: &[String], index: usize, default: u64) -> Result<u64, String> {
