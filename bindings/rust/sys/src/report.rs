@@ -27,12 +27,8 @@ pub struct Merged {
 }
 
 extern "C" {
-    fn khuyurek_report_add(
-        report: Report,
-        kind: u32,
-        file: *const u8,
-        file_len: usize,
-    ) -> Reported;
+    fn khuyurek_report_add(report: Report, kind: u32, file: *const u8, file_len: usize)
+        -> Reported;
     fn khuyurek_report_merge(first: Report, second: Report) -> Merged;
 }
 
