@@ -7,6 +7,7 @@ mod ase;
 mod chunks;
 mod conversion;
 mod descriptor;
+mod names;
 mod plain;
 mod report;
 mod resource;
@@ -34,6 +35,7 @@ enum Part {
     Chunks,
     Ase,
     Acb,
+    Names,
     Descriptors,
     Resources,
     Seasons,
@@ -48,6 +50,7 @@ fn main() -> ExitCode {
         Some("chunks") => (Some(Part::Chunks), &args[1..]),
         Some("ase") => (Some(Part::Ase), &args[1..]),
         Some("acb") => (Some(Part::Acb), &args[1..]),
+        Some("names") => (Some(Part::Names), &args[1..]),
         Some("descriptor") => (Some(Part::Descriptors), &args[1..]),
         Some("resource") => (Some(Part::Resources), &args[1..]),
         Some("season") => (Some(Part::Seasons), &args[1..]),
@@ -61,7 +64,7 @@ fn main() -> ExitCode {
         Some(Ok(rounds)) if rounds > 0 => rounds,
         Some(_) => {
             eprintln!(
-                "usage: bench [aco|chunks|ase|acb|descriptor|resource|season|report|convert] [ROUNDS]"
+                "usage: bench [aco|chunks|ase|acb|names|descriptor|resource|season|report|convert] [ROUNDS]"
             );
             return ExitCode::FAILURE;
         }
@@ -81,6 +84,9 @@ fn main() -> ExitCode {
     }
     if wanted(Part::Acb) {
         acb::compare(&mut report, rounds);
+    }
+    if wanted(Part::Names) {
+        names::compare(rounds);
     }
     if wanted(Part::Descriptors) {
         descriptor::compare(&mut report, rounds);
