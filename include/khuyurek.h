@@ -542,6 +542,37 @@ typedef struct {
 khuyurek_parents khuyurek_descriptor_parents(const uint32_t *depth, size_t depth_len,
                                              uint32_t *parents, size_t parents_len);
 
+/* number 0: accepted, with the number of keys that were answered. Else the refusal; in_keys is 1
+ * where its place is one of the keys. */
+typedef struct {
+    uint32_t number;
+    uint32_t in_keys;
+    size_t place;
+    size_t keys;
+} khuyurek_found;
+
+/* Which row has each of some keys, IDs one after another, as a pair of the root: the first, or
+ * the number of rows where none has it. Keys match by the same length field and the same bytes.
+ * Refused are, in this order: the file by its own; a table that does not begin with its rows by
+ * 5; a key that is cut by 2, in the keys; too few answers by 11. Past the keys answers keep their
+ * contents. */
+khuyurek_found khuyurek_descriptor_find(
+    const uint8_t *file, size_t file_len, const uint32_t *first, size_t first_len,
+    const uint32_t *length, size_t length_len, const uint32_t *next, size_t next_len,
+    const uint32_t *depth, size_t depth_len, const uint32_t *kind, size_t kind_len,
+    const uint8_t *keys, size_t keys_len, uint32_t *answers, size_t answers_len);
+
+/* Writes the file with the value of one row replaced; all other bytes are the same. value_kind is
+ * `bool`, `long`, `comp`, `doub` or `UntF` as four characters in one number, bits the value, unit
+ * that of a `UntF`. Refused are, in this order and all at place 0: the file by its own; a table
+ * that does not begin with its rows by 5; no such row by 12; a row of another kind by 14; the value
+ * as the reader would by 4 or 5; too little room by 11. */
+khuyurek_length khuyurek_descriptor_replace(
+    const uint8_t *file, size_t file_len, const uint32_t *first, size_t first_len,
+    const uint32_t *length, size_t length_len, const uint32_t *next, size_t next_len,
+    const uint32_t *depth, size_t depth_len, const uint32_t *kind, size_t kind_len,
+    size_t row, uint32_t value_kind, uint32_t unit, uint64_t bits, uint8_t *out, size_t out_len);
+
 /* Judges the whole file, then 12 where it has no such row. */
 khuyurek_descriptor_value khuyurek_descriptor_value_at(const uint8_t *file,
                                                        size_t file_len, size_t row);

@@ -264,6 +264,43 @@ static int descriptor(void) {
     CHECK(parents[4] == 99);
     CHECK(khuyurek_descriptor_parents(depth, 4, parents, 3).number == KHUYUREK_NO_ROOM);
 
+    /* The key of the list, one of length 0 with the same byte, and one that is cut. */
+    static const uint8_t keys[] = {0, 0, 0, 1, 0x61, 0, 0, 0, 0, 0x61, 0, 0, 0};
+    uint32_t answers[3] = {[2] = 99};
+    khuyurek_found found = khuyurek_descriptor_find(P12, sizeof P12, first, 5, length, 5, next, 5,
+                                                    depth, 5, kind, 5, keys, 13, answers, 3);
+    CHECK(found.number == 0 && found.in_keys == 0 && found.place == 0 && found.keys == 2);
+    CHECK(answers[0] == 1 && answers[1] == 4 && answers[2] == 99);
+    found = khuyurek_descriptor_find(P12, sizeof P12, first, 5, length, 5, next, 5, depth, 5, kind,
+                                     5, keys, 12, answers, 3);
+    CHECK(found.number == KHUYUREK_CUT && found.in_keys == 1 && found.place == 9);
+    found = khuyurek_descriptor_find(P12, sizeof P12, first, 5, length, 5, next, 5, depth, 5, kind,
+                                     3, keys, 13, answers, 3);
+    CHECK(found.number == 5 && found.in_keys == 0 && found.place == 0 && found.keys == 0);
+    CHECK(khuyurek_descriptor_find(P12, sizeof P12, first, 5, length, 5, next, 5, depth, 5, kind, 5,
+                                   keys, 13, answers, 1)
+              .number
+          == KHUYUREK_NO_ROOM);
+
+    uint8_t turned[sizeof P12 + 1] = {[sizeof P12] = 99};
+    khuyurek_length wrote = khuyurek_descriptor_replace(P12, sizeof P12, first, 5, length, 5, next, 5,
+                                                        depth, 5, kind, 5, 3, BOOL_KIND, 0, 0, turned,
+                                                        sizeof turned);
+    CHECK(wrote.number == 0 && wrote.length == sizeof P12);
+    CHECK(memcmp(turned, P12, 39) == 0 && turned[39] == 0 && turned[sizeof P12] == 99);
+    CHECK(khuyurek_descriptor_replace(P12, sizeof P12, first, 5, length, 5, next, 5, depth, 5, kind,
+                                      5, 3, BOOL_KIND, 0, 2, turned, sizeof turned)
+              .number
+          == 5);
+    CHECK(khuyurek_descriptor_replace(P12, sizeof P12, first, 5, length, 5, next, 5, depth, 5, kind,
+                                      5, 1, BOOL_KIND, 0, 1, turned, sizeof turned)
+              .number
+          == KHUYUREK_NO_COUNTERPART);
+    CHECK(khuyurek_descriptor_replace(P12, sizeof P12, first, 5, length, 5, next, 5, depth, 5, kind,
+                                      5, 4, BOOL_KIND, 0, 1, turned, sizeof turned)
+              .number
+          == KHUYUREK_NO_RECORD);
+
     khuyurek_descriptor_value value = khuyurek_descriptor_value_at(P12, sizeof P12, 1);
     CHECK(value.number == 0 && value.first == 26 && value.length == 14);
     khuyurek_descriptor_typed typed = khuyurek_descriptor_typed_at(P12, sizeof P12, 3);

@@ -163,9 +163,60 @@ impl<'a> Rows<'a> {
     pub fn columns(&self) -> &Columns {
         &self.columns
     }
+
+    /// Which row has each of some keys, IDs one after another, as a pair of the root:
+    /// the first, if any. A key that is cut is refused, with its place in `keys`.
+    pub fn find(&self, keys: &[u8]) -> Result<Vec<Option<usize>>, Refusal> {
+        // A key takes five bytes at least.
+        let mut answers = vec![0; keys.len() / 5];
+        let found = raw::find(self.file, self.columns.read(), keys, &mut answers);
+        Refusal::unless(found.number, found.place)?;
+        answers.truncate(found.keys);
+        let row = |row: u32| row as usize;
+        Ok(answers
+            .into_iter()
+            .map(|answer| (row(answer) < self.len()).then_some(row(answer)))
+            .collect())
+    }
+
+    /// The file with the value of a row replaced by one of the same kind.
+    pub fn replace(&self, row: usize, value: Value) -> Result<Vec<u8>, Refusal> {
+        let mut out = vec![0; self.file.len()];
+        let written = raw::replace(self.file, self.columns.read(), row, given(value), &mut out);
+        Refusal::unless(written.number, 0)?;
+        Ok(out)
+    }
+}
+
+fn given(value: Value) -> raw::Replacement {
+    let of = |kind: &[u8; 4], unit: u32, bits: u64| raw::Replacement {
+        kind: u32::from_be_bytes(*kind),
+        unit,
+        bits,
+    };
+    match value {
+        Value::Bool(flag) => of(b"bool", 0, flag.into()),
+        Value::Long(number) => of(b"long", 0, (number as u32).into()),
+        Value::Comp(number) => of(b"comp", 0, number as u64),
+        Value::Double(number) => of(b"doub", 0, number.to_bits()),
+        Value::UnitDouble(unit, number) => {
+            of(b"UntF", u32::from_be_bytes(unit.0), number.to_bits())
+        }
+        Value::Other => of(&[0; 4], 0, 0),
+    }
 }
 
 impl Columns {
+    fn read(&self) -> raw::Table<'_> {
+        raw::Table {
+            first: &self.first,
+            length: &self.length,
+            next: &self.next,
+            depth: &self.depth,
+            kind: &self.kind,
+        }
+    }
+
     fn lent(&mut self) -> raw::Columns<'_> {
         raw::Columns {
             first: &mut self.first,

@@ -4,6 +4,8 @@ pub mod Ase
 pub mod Convert
 pub mod Acb
 pub mod Descriptor
+pub mod Keys
+pub mod Replaced
 pub mod Resource
 pub mod Trays
 pub mod Names

@@ -1,5 +1,7 @@
 //! The library's calls for descriptors.
 
+use crate::Written;
+
 /// What judging or reading a file answers. `number` 0 is accepted, and then
 /// `place` is 0; on a refusal `rows` is.
 #[repr(C)]
@@ -40,6 +42,36 @@ pub struct Parents {
     pub rows: usize,
 }
 
+/// What is answered where keys are looked up: how many were answered. On a refusal
+/// `in_keys` is 1 where its place is one of the keys.
+#[repr(C)]
+#[derive(Clone, Copy, Debug, Default, PartialEq, Eq)]
+pub struct Found {
+    pub number: u32,
+    pub in_keys: u32,
+    pub place: usize,
+    pub keys: usize,
+}
+
+/// Five runs that are only read.
+#[derive(Clone, Copy, Debug)]
+pub struct Table<'a> {
+    pub first: &'a [u32],
+    pub length: &'a [u32],
+    pub next: &'a [u32],
+    pub depth: &'a [u32],
+    pub kind: &'a [u32],
+}
+
+/// A value in place of a row's: its kind by its four characters, the unit of a unit
+/// double, and the value's bits.
+#[derive(Clone, Copy, Debug)]
+pub struct Replacement {
+    pub kind: u32,
+    pub unit: u32,
+    pub bits: u64,
+}
+
 /// Five lent runs, one for each column: first byte, length, next sibling, depth,
 /// kind.
 pub struct Columns<'a> {
@@ -78,6 +110,44 @@ extern "C" {
         parents: *mut u32,
         parents_len: usize,
     ) -> Parents;
+    fn khuyurek_descriptor_find(
+        file: *const u8,
+        file_len: usize,
+        first: *const u32,
+        first_len: usize,
+        length: *const u32,
+        length_len: usize,
+        next: *const u32,
+        next_len: usize,
+        depth: *const u32,
+        depth_len: usize,
+        kind: *const u32,
+        kind_len: usize,
+        keys: *const u8,
+        keys_len: usize,
+        answers: *mut u32,
+        answers_len: usize,
+    ) -> Found;
+    fn khuyurek_descriptor_replace(
+        file: *const u8,
+        file_len: usize,
+        first: *const u32,
+        first_len: usize,
+        length: *const u32,
+        length_len: usize,
+        next: *const u32,
+        next_len: usize,
+        depth: *const u32,
+        depth_len: usize,
+        kind: *const u32,
+        kind_len: usize,
+        row: usize,
+        value_kind: u32,
+        unit: u32,
+        bits: u64,
+        out: *mut u8,
+        out_len: usize,
+    ) -> Written;
     fn khuyurek_descriptor_value_at(file: *const u8, file_len: usize, row: usize) -> Value;
     fn khuyurek_descriptor_typed_at(file: *const u8, file_len: usize, row: usize) -> Typed;
 }
@@ -125,6 +195,62 @@ pub fn parents(depth: &[u32], parents: &mut [u32]) -> Parents {
             depth.len(),
             parents.as_mut_ptr(),
             parents.len(),
+        )
+    }
+}
+
+pub fn find(file: &[u8], table: Table<'_>, keys: &[u8], answers: &mut [u32]) -> Found {
+    // SAFETY: see above; the answers are borrowed for writing.
+    unsafe {
+        khuyurek_descriptor_find(
+            file.as_ptr(),
+            file.len(),
+            table.first.as_ptr(),
+            table.first.len(),
+            table.length.as_ptr(),
+            table.length.len(),
+            table.next.as_ptr(),
+            table.next.len(),
+            table.depth.as_ptr(),
+            table.depth.len(),
+            table.kind.as_ptr(),
+            table.kind.len(),
+            keys.as_ptr(),
+            keys.len(),
+            answers.as_mut_ptr(),
+            answers.len(),
+        )
+    }
+}
+
+pub fn replace(
+    file: &[u8],
+    table: Table<'_>,
+    row: usize,
+    value: Replacement,
+    out: &mut [u8],
+) -> Written {
+    // SAFETY: see above; the buffer is borrowed for writing.
+    unsafe {
+        khuyurek_descriptor_replace(
+            file.as_ptr(),
+            file.len(),
+            table.first.as_ptr(),
+            table.first.len(),
+            table.length.as_ptr(),
+            table.length.len(),
+            table.next.as_ptr(),
+            table.next.len(),
+            table.depth.as_ptr(),
+            table.depth.len(),
+            table.kind.as_ptr(),
+            table.kind.len(),
+            row,
+            value.kind,
+            value.unit,
+            value.bits,
+            out.as_mut_ptr(),
+            out.len(),
         )
     }
 }
