@@ -7,6 +7,7 @@ mod ase;
 mod chunks;
 mod conversion;
 mod descriptor;
+mod index;
 mod names;
 mod plain;
 mod report;
@@ -40,6 +41,7 @@ enum Part {
     Resources,
     Seasons,
     Reports,
+    Indexes,
     Conversions,
 }
 
@@ -55,6 +57,7 @@ fn main() -> ExitCode {
         Some("resource") => (Some(Part::Resources), &args[1..]),
         Some("season") => (Some(Part::Seasons), &args[1..]),
         Some("report") => (Some(Part::Reports), &args[1..]),
+        Some("index") => (Some(Part::Indexes), &args[1..]),
         Some("stack-of") => return stack::try_one(&args[1..]),
         Some("convert") => (Some(Part::Conversions), &args[1..]),
         _ => (None, &args[..]),
@@ -64,7 +67,7 @@ fn main() -> ExitCode {
         Some(Ok(rounds)) if rounds > 0 => rounds,
         Some(_) => {
             eprintln!(
-                "usage: bench [aco|chunks|ase|acb|names|descriptor|resource|season|report|convert] [ROUNDS]"
+                "usage: bench [aco|chunks|ase|acb|names|descriptor|resource|season|report|index|convert] [ROUNDS]"
             );
             return ExitCode::FAILURE;
         }
@@ -103,6 +106,9 @@ fn main() -> ExitCode {
     }
     if wanted(Part::Reports) {
         totals::compare(&mut report, rounds);
+    }
+    if wanted(Part::Indexes) {
+        index::compare(rounds);
     }
     if wanted(Part::Conversions) {
         conversion::compare(&mut report, rounds);

@@ -8,6 +8,7 @@ mod converting;
 mod descriptor;
 mod difference;
 mod expected;
+mod index;
 mod lent;
 mod listing;
 mod people;
@@ -36,6 +37,7 @@ const USAGE: &str = "usage: compare [SEED [FILES]]
        compare resource [SEED [SECTIONS]]
        compare seasons [SEED [FILES]]
        compare reports [SEED [FILES]]
+       compare index [SEED [FILES]]
        compare convert [SEED [PATTERNS]]
        compare list [PROGRAM [FILES [SEED]]]
        compare list-ase [PROGRAM [FILES [SEED]]]
@@ -93,6 +95,12 @@ fn main() -> ExitCode {
             rest,
             reports::campaign::run,
             reports::Tally::all_reached,
+        ),
+        Some("index") => compare_library(
+            "name indexes",
+            rest,
+            index::campaign::run,
+            index::Tally::all_reached,
         ),
         Some("convert") => compare_conversions(rest),
         Some("list") => compare_listings(rest, "aco_list", listing::run),
