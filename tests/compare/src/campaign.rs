@@ -5,13 +5,15 @@ use crate::reading::check_file;
 use crate::tally::Tally;
 use crate::writing::check_lot;
 use generate::{damage, fixed_files, Answer, Damage, Lot, LotDamage, Palette, Random, P3, P4};
-use reference::{COLOUR_LEN, HEAD_LEN, LIMIT, MAX_COLOURS, NAME_COUNT_LEN, NOT_STATED, UNIT_LEN};
+use reference::{ink, COLOUR_LEN, HEAD_LEN, LIMIT, MAX_COLOURS, NAME_COUNT_LEN, ROW_LEN, UNIT_LEN};
 
 /// One lot of records for so many files.
 const FILES_A_LOT: u64 = 2;
 /// One damaged file in so many is gone through at each of its lengths.
 const FILES_A_PREFIX_RUN: u64 = 200;
 const SMALL_FILES: u64 = 60;
+/// A record without a name, whose ink is not stated.
+const BLACK: [u32; ROW_LEN] = [0, 0, 0, 0, 0, 0, 0, ink::NOT_STATED];
 /// The most records whose output, without names, is within the limit.
 const RECORDS_WITHIN_LIMIT: usize = (LIMIT - 2 * HEAD_LEN) / UNNAMED_LEN;
 const UNNAMED_LEN: usize = 2 * COLOUR_LEN + NAME_COUNT_LEN + UNIT_LEN;
@@ -23,6 +25,7 @@ enum Part {
     Bytes,
     Prefixes,
     Differences,
+    Inks,
     Damaged,
     Lots,
     LongFiles,
@@ -45,6 +48,7 @@ pub fn run(seed: u64, files: u64) -> Checked<Tally> {
     campaign.every_byte()?;
     campaign.every_prefix()?;
     campaign.every_difference()?;
+    campaign.every_ink()?;
     campaign.damaged_files(files)?;
     campaign.lots(files / FILES_A_LOT)?;
     campaign.long_files()?;
@@ -118,6 +122,24 @@ impl Campaign {
                 file[place] ^= mask;
                 check_file(&file, &mut random, &mut self.tally)?;
                 file[place] ^= mask;
+            }
+        }
+        Ok(())
+    }
+
+    /// Every ink of the first and of the last record, alone and with a fault of the
+    /// other one's colour or name.
+    fn every_ink(&mut self) -> Checked {
+        let mut random = self.random(Part::Inks, 0);
+        for ink in (0..300).chain([0xFFFF, 0x1_0004, 0xFFFF_0004, u32::MAX]) {
+            for (record, other) in [(0, 1), (1, 0)] {
+                for (number, value) in [(0, 0), (0, 3), (4, 1), (6, 1)] {
+                    let mut records = BLACK.repeat(2);
+                    records[record * ROW_LEN + ROW_LEN - 1] = ink;
+                    records[other * ROW_LEN + number] = value;
+                    let text = Vec::new();
+                    check_lot(&Lot { records, text }, &mut random, &mut self.tally)?;
+                }
             }
         }
         Ok(())
@@ -197,7 +219,7 @@ impl Campaign {
             RECORDS_WITHIN_LIMIT + 1,
         ] {
             let lot = Lot {
-                records: [0, 0, 0, 0, 0, 0, 0, NOT_STATED].repeat(count),
+                records: BLACK.repeat(count),
                 text: Vec::new(),
             };
             check_lot(&lot, &mut random, &mut self.tally)?;

@@ -32,12 +32,13 @@ pub fn record(result: Result<Swatch, Refusal>) -> Record {
             samples,
             name,
             units,
+            ink,
         }) => Record {
             space,
             samples,
             name,
             units,
-            ink: reference::NOT_STATED,
+            ink,
             ..Record::default()
         },
         Err(Refusal {

@@ -18,13 +18,14 @@ const READING: [u32; 10] = [
     number::NO_ROOM,
     number::NO_RECORD,
 ];
-const WRITING: [u32; 6] = [
+const WRITING: [u32; 7] = [
     number::TOO_LONG,
     number::CUT,
     number::UNKNOWN_SPACE,
     number::OUT_OF_RANGE,
     number::BADLY_CLOSED,
     number::NO_ROOM,
+    number::NO_COUNTERPART,
 ];
 
 /// A sample is never out of range, so that the way there has no 5.

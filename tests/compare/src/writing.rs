@@ -12,6 +12,7 @@ use reference::{ROW_LEN, SAMPLES, UNIT_LEN};
 /// Room lent to a writer that refuses whatever the room.
 const SPARE_ROOM: usize = 80;
 const COLOUR_FIELDS: usize = 1 + SAMPLES;
+const INK: usize = 7;
 
 pub fn check_lot(lot: &Lot, random: &mut Random, tally: &mut Tally) -> Checked {
     check_records(&lot.records, &lot.text, random, tally).map(|_| ())
@@ -115,11 +116,7 @@ fn check_read_back(records: &[u32], text: &[u8], out: &[u8]) -> Checked {
             name(given, text),
             name(got, out),
         )?;
-        agree(
-            || format!("ink {index} read back"),
-            &given[ROW_LEN - 1],
-            &got[ROW_LEN - 1],
-        )?;
+        agree(|| format!("ink {index} read back"), &given[INK], &got[INK])?;
     }
     Ok(())
 }

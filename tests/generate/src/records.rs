@@ -3,12 +3,12 @@
 use crate::names::{any_name, any_text, empty_anywhere, far_past, just_past, zero_unit};
 use crate::palette::{Colour, OUTSIDE, SPACES};
 use crate::random::Random;
+use std::ops::RangeInclusive;
 
 const ROW_LEN: usize = 8;
-const NAME: usize = 5;
+const NAME: RangeInclusive<usize> = 5..=6;
 const UNITS: usize = 6;
 const INK: usize = 7;
-const NOT_STATED: u32 = 4;
 const MAX_RECORDS: usize = 4096;
 
 /// Spaces that are not known; some of them are once cut to 16 bits.
@@ -18,8 +18,10 @@ const LARGE_SAMPLES: [u32; 4] = [0x1_0000, 0x1_0001, 0x8000_0000, u32::MAX];
 /// Units that make the output too long, or would if no sum of lengths wrapped.
 const MANY_UNITS: [u32; 5] = [8_388_608, 0x7FFF_FFF3, 0x7FFF_FFFF, 0x8000_0000, u32::MAX];
 
-/// What a record may give for its ink besides not stated: inks, and numbers of none.
-const OTHER_INKS: [u32; 7] = [0, 1, 2, 3, 5, 0x1_0004, u32::MAX];
+/// The one ink that a record may say: not stated.
+const NOT_STATED: u32 = 4;
+/// Inks that are stated, and numbers that are none; some are 4 once cut to 16 bits.
+const WRONG_INKS: [u32; 8] = [0, 1, 2, 3, 5, 0x0104, 0x1_0004, u32::MAX];
 
 /// What a writer is handed.
 #[derive(Clone, Debug, PartialEq, Eq)]
@@ -35,13 +37,13 @@ pub enum LotDamage {
     SampleLarge,
     UnusedSampleSet,
     SampleOutside,
+    InkStated,
     NamePastText,
     NameFarPastText,
     TextShort,
     ZeroUnit,
     ManyUnits,
     ManyRecords,
-    InkStated,
     /// Not a fault: a name of no units may give any place.
     EmptyNameAnywhere,
     /// Not a fault: numbers that make no whole record are left alone.
@@ -55,13 +57,13 @@ impl LotDamage {
         LotDamage::SampleLarge,
         LotDamage::UnusedSampleSet,
         LotDamage::SampleOutside,
+        LotDamage::InkStated,
         LotDamage::NamePastText,
         LotDamage::NameFarPastText,
         LotDamage::TextShort,
         LotDamage::ZeroUnit,
         LotDamage::ManyUnits,
         LotDamage::ManyRecords,
-        LotDamage::InkStated,
         LotDamage::EmptyNameAnywhere,
         LotDamage::Remainder,
         LotDamage::Noise,
@@ -128,8 +130,7 @@ impl Lot {
     fn push(&mut self, colour: Colour, name: usize, units: usize) {
         self.records.push(u32::from(colour.space));
         self.records.extend(colour.samples.map(u32::from));
-        self.records
-            .extend([name as u32, units as u32, NOT_STATED]);
+        self.records.extend([name as u32, units as u32, NOT_STATED]);
     }
 
     /// Does one damage to the lot; damage that it gives no hold for changes nothing.
@@ -153,12 +154,12 @@ impl Lot {
             LotDamage::SampleOutside => {
                 row[1 + random.below(3)] = u32::from(random.pick(&OUTSIDE));
             }
-            LotDamage::NamePastText => just_past(&mut row[NAME..INK], self.text.len(), random),
-            LotDamage::NameFarPastText => far_past(&mut row[NAME..INK], random),
-            LotDamage::ZeroUnit => zero_unit(&mut row[NAME..INK], &mut self.text, random),
+            LotDamage::InkStated => row[INK] = random.pick(&WRONG_INKS),
+            LotDamage::NamePastText => just_past(&mut row[NAME], self.text.len(), random),
+            LotDamage::NameFarPastText => far_past(&mut row[NAME], random),
+            LotDamage::ZeroUnit => zero_unit(&mut row[NAME], &mut self.text, random),
             LotDamage::ManyUnits => row[UNITS] = random.pick(&MANY_UNITS),
-            LotDamage::EmptyNameAnywhere => empty_anywhere(&mut row[NAME..INK], random),
-            LotDamage::InkStated => row[INK] = random.pick(&OTHER_INKS),
+            LotDamage::EmptyNameAnywhere => empty_anywhere(&mut row[NAME], random),
             LotDamage::Noise => row[random.below(ROW_LEN)] = random.u32(),
             LotDamage::ManyRecords | LotDamage::Remainder | LotDamage::TextShort => {}
         }

@@ -47,7 +47,5 @@ pub use writer::{length, write};
 pub const LIMIT: usize = 16_777_216;
 
 /// The numbers that stand for a colour in a table or in records to be written:
-/// the space, four samples, the name's place and its units.
+/// the space, four samples, the name's place and its units, and the ink.
 pub const ROW_LEN: usize = 8;
-/// The ink that no file of this format states.
-pub const NOT_STATED: u32 = 4;

@@ -4,9 +4,10 @@ use crate::colour::{
     field_at, is_sound, judge_colour, COLOUR_LEN, FIELDS, FIELD_LEN, HEAD_LEN, MAX_COLOURS,
     NAME_COUNT_LEN, SAMPLES, VERSION_ONE, VERSION_TWO,
 };
+use crate::ink;
 use crate::name::{bytes_of, is_closed, UNIT_LEN};
 use crate::refusal::{number, Refusal};
-use crate::{LIMIT, NOT_STATED, ROW_LEN};
+use crate::{LIMIT, ROW_LEN};
 
 /// The field number that stands for the count where the lists' counts differ.
 pub(crate) const COUNT_FIELD: usize = 5;
@@ -19,13 +20,14 @@ pub struct Accepted {
 }
 
 /// A record of an accepted file. The name is where its units lie in the file;
-/// in a file of one list it is at 0 and has no units.
+/// in a file of one list it is at 0 and has no units. No file states an ink.
 #[derive(Clone, Copy, Debug, PartialEq, Eq)]
 pub struct Swatch {
     pub space: u16,
     pub samples: [u16; SAMPLES],
     pub name: usize,
     pub units: u32,
+    pub ink: u32,
 }
 
 /// Judges a whole file.
@@ -194,6 +196,7 @@ impl Swatch {
             samples: [field(1), field(2), field(3), field(4)],
             name,
             units,
+            ink: ink::NOT_STATED,
         }
     }
 
@@ -209,7 +212,7 @@ impl Swatch {
             d,
             self.name as u32,
             self.units,
-            NOT_STATED,
+            self.ink,
         ]
     }
 }

@@ -202,6 +202,7 @@ impl<'a> Colours<'a> {
                     samples,
                     name,
                     units,
+                    ..
                 } = swatches.next()?;
                 Some(Named {
                     colour: Colour::Aco { space, samples },

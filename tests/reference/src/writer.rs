@@ -4,10 +4,11 @@ use crate::colour::{
     is_in_range, is_known, COLOUR_LEN, FIELD_LEN, HEAD_LEN, MAX_COLOURS, NAME_COUNT_LEN, SAMPLES,
     VERSION_ONE, VERSION_TWO,
 };
+use crate::ink;
 use crate::name::{bytes_of, holds_zero_unit, units_in, UNIT_LEN};
 use crate::output::put;
 use crate::refusal::{number, Refusal};
-use crate::{LIMIT, NOT_STATED, ROW_LEN};
+use crate::{LIMIT, ROW_LEN};
 
 /// What a record adds to the output besides its name's units: its colour in
 /// both lists, the name's count and the closing zero.
@@ -28,7 +29,8 @@ pub fn length(records: &[u32], text: &[u8]) -> Result<usize, Refusal> {
     for row in rows {
         judge_name(row, text).map_err(Refusal::of_call)?;
     }
-    if rows.iter().any(|row| row[7] != NOT_STATED) {
+    // A file has no field for the ink.
+    if rows.iter().any(|row| row[7] != ink::NOT_STATED) {
         return Err(Refusal::of_call(number::NO_COUNTERPART));
     }
     Ok(need)

@@ -214,7 +214,7 @@ fn a_file_of_one_list_has_no_names() {
             lists: 1
         })
     );
-    assert_eq!(table, [0, 65535, 0, 32896, 0, 0, 0]);
+    assert_eq!(table, [0, 65535, 0, 32896, 0, 0, 0, 4]);
 }
 
 #[test]
@@ -225,6 +225,7 @@ fn an_empty_name_of_list_2_has_its_place() {
         samples: [65535, 0, 32896, 0],
         name: 32,
         units: 0,
+        ink: 4,
     };
     assert_eq!(record(&file, 0), Ok(expected));
 }
@@ -254,6 +255,7 @@ fn a_record_is_asked_for_by_number() {
         samples: [65535, 0, 32896, 0],
         name: 32,
         units: 1,
+        ink: 4,
     };
     assert_eq!(record(P3, 0), Ok(expected));
     assert_eq!(record(P3, 1), Err(refused(12, 0)));

@@ -21,6 +21,7 @@ fn swatch(name: usize, units: u32) -> Swatch {
         samples: [0xFFFF, 0, 0x8080, 0],
         name,
         units,
+        ink: 4,
     }
 }
 

@@ -88,14 +88,31 @@ fn names_lie_in_the_text() {
 
 #[test]
 fn every_colour_is_judged_before_any_name() {
-    let past_text = [0, 1, 2, 3, 0, 9, 1];
-    let wrong_space = [3, 1, 2, 3, 0, 0, 1];
+    let past_text = [0, 1, 2, 3, 0, 9, 1, 4];
+    let wrong_space = [3, 1, 2, 3, 0, 0, 1, 4];
     let both = [past_text, wrong_space].concat();
     assert_eq!(length(&both, &P3_TEXT), Err(refused(4)));
-    let unused_then_space = [[0, 1, 2, 3, 4, 0, 0], wrong_space].concat();
+    let unused_then_space = [[0, 1, 2, 3, 4, 0, 0, 4], wrong_space].concat();
     assert_eq!(length(&unused_then_space, &P3_TEXT), Err(refused(5)));
-    let cut_then_zero = [past_text, [0, 1, 2, 3, 0, 0, 1]].concat();
+    let cut_then_zero = [past_text, [0, 1, 2, 3, 0, 0, 1, 4]].concat();
     assert_eq!(length(&cut_then_zero, &[0, 0]), Err(refused(2)));
+}
+
+#[test]
+fn a_stated_ink_is_refused_after_every_fault() {
+    for ink in [0, 1, 2, 3, 5, 260, 0x1_0004, u32::MAX] {
+        assert_eq!(changed(&[(7, ink)]), Err(refused(14)), "ink {ink}");
+        assert_eq!(changed(&[(7, ink), (5, 1)]), Err(refused(2)));
+        assert_eq!(changed(&[(7, ink), (0, 3)]), Err(refused(4)));
+        let stated = [&P3_RECORD[..7], &[ink]].concat();
+        let mut out = [CANARY; 36];
+        assert_eq!(write(&stated, &P3_TEXT, &mut out), Err(refused(14)));
+        assert_eq!(write(&stated, &P3_TEXT, &mut []), Err(refused(14)));
+        assert_eq!(out, [CANARY; 36]);
+        assert_eq!(length(&stated, &[0, 0]), Err(refused(8)));
+        let then_cut = [&stated[..], &[0, 1, 2, 3, 0, 9, 1, 4]].concat();
+        assert_eq!(length(&then_cut, &P3_TEXT), Err(refused(2)));
+    }
 }
 
 #[test]
@@ -106,15 +123,6 @@ fn the_whole_length_is_judged_first() {
     assert_eq!(changed(&[(6, most_units)]), Err(refused(2)));
     for units in [0x7FFF_FFF3, 0x8000_0000, u32::MAX] {
         assert_eq!(changed(&[(6, units)]), Err(refused(1)));
-    }
-}
-
-#[test]
-fn a_stated_ink_is_refused_last() {
-    for ink in [0, 1, 2, 3, 5, u32::MAX] {
-        assert_eq!(changed(&[(7, ink)]), Err(refused(14)));
-        assert_eq!(changed(&[(7, ink), (0, 3)]), Err(refused(4)));
-        assert_eq!(changed(&[(7, ink), (6, 2)]), Err(refused(2)));
     }
 }
 
@@ -198,13 +206,12 @@ fn the_writer_judges_as_the_reader_judges_the_bytes() {
             continue;
         };
         made += 1;
-        let numbers = (
-            length(&lot.records, &lot.text)
-                .err()
-                .map(|refusal| refusal.number),
-            judge(&file).err().map(|refusal| refusal.number),
-        );
-        assert_eq!(numbers.0, numbers.1, "{lot:?}");
+        let judged = judge(&file).err().map(|refusal| refusal.number);
+        // The bytes do not state the ink.
+        let stated = lot.records.chunks_exact(ROW_LEN).any(|row| row[7] != 4);
+        let wanted = judged.or(stated.then_some(14));
+        let found = length(&lot.records, &lot.text);
+        assert_eq!(wanted, found.err().map(|refusal| refusal.number), "{lot:?}");
     }
     assert!(made > 10_000);
 }
@@ -218,7 +225,7 @@ fn damaged_lots_never_panic() {
             lot.damage(LotDamage::any(&mut random), &mut random);
         }
         if let Err(refusal) = length(&lot.records, &lot.text) {
-            assert!([1, 2, 4, 5, 8].contains(&refusal.number));
+            assert!([1, 2, 4, 5, 8, 14].contains(&refusal.number));
             assert_eq!(refusal, refused(refusal.number));
         }
     }

@@ -88,12 +88,13 @@ impl Steps for Colours {
                 samples,
                 name,
                 units,
+                ink,
             })) => Step {
                 space,
                 samples,
                 name,
                 units,
-                ink: reference::NOT_STATED,
+                ink,
                 ..nothing
             },
             Ok(None) => Step { done: 1, ..nothing },
@@ -120,6 +121,7 @@ impl Steps for Colours {
     fn row(step: &Step) -> Vec<u32> {
         let [a, b, c, d] = step.samples.map(u32::from);
         let space = u32::from(step.space);
-        vec![space, a, b, c, d, step.name as u32, step.units, step.ink]
+        let name = step.name as u32;
+        vec![space, a, b, c, d, name, step.units, step.ink]
     }
 }
