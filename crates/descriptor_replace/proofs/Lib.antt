@@ -2,3 +2,4 @@ pub mod Accepted
 pub mod Values
 pub mod Rows
 pub mod Calls
+pub mod Replaced
