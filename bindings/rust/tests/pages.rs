@@ -22,6 +22,23 @@ fn signatures_of_the_page_stand_in_the_source() {
             "docs/INTERFACE.md: {signature}"
         );
     }
+    let methods: Vec<&str> = page
+        .lines()
+        .filter_map(|line| line.strip_prefix("    "))
+        .filter(|line| line.starts_with(char::is_uppercase) && line.contains("::"))
+        .collect();
+    for method in &methods {
+        let (_, signature) = method.split_once("::").unwrap();
+        assert!(
+            source.contains(&format!("\n    pub fn {signature} {{\n")),
+            "docs/INTERFACE.md: {method}"
+        );
+    }
+    let all = source
+        .lines()
+        .filter(|line| line.starts_with("    pub fn "))
+        .count();
+    assert_eq!(methods.len() + INSIDE_METHODS, all);
     // And the page has every call that is not a method.
     let calls = source
         .lines()
@@ -32,3 +49,6 @@ fn signatures_of_the_page_stand_in_the_source() {
 
 /// `held`, `length` and `exact` of the module `text`, which is private.
 const INSIDE: usize = 3;
+
+/// `add` of its `Text`.
+const INSIDE_METHODS: usize = 1;
