@@ -1,5 +1,5 @@
-//! The program behind `khuyurek check`, `compare` and `report`: what the proved library
-//! says of colour files, for people. docs/LISTINGS.md describes the output.
+//! The program behind `khuyurek check`, `compare`, `report` and `find`: what the proved
+//! library says of colour files, for people. docs/LISTINGS.md describes the output.
 //!
 //! All judgement is the library's. A subcommand is a module with its usage and a
 //! function `run`; what they share is in `arguments`, `files`, `refusals`,
@@ -11,6 +11,7 @@ mod arguments;
 mod check;
 mod compare;
 mod files;
+mod find;
 mod refusals;
 mod report;
 mod status;
@@ -51,7 +52,7 @@ impl From<io::Error> for Stopped {
     }
 }
 
-const SUBCOMMANDS: [Subcommand; 3] = [
+const SUBCOMMANDS: [Subcommand; 4] = [
     Subcommand {
         name: "check",
         usage: check::USAGE,
@@ -66,6 +67,11 @@ const SUBCOMMANDS: [Subcommand; 3] = [
         name: "report",
         usage: report::USAGE,
         run: report::run,
+    },
+    Subcommand {
+        name: "find",
+        usage: find::USAGE,
+        run: find::run,
     },
 ];
 

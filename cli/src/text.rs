@@ -12,7 +12,7 @@ pub fn quoted(name: Units<'_>) -> String {
 }
 
 /// The same of a text.
-fn quoted_text(text: &str) -> String {
+pub fn quoted_text(text: &str) -> String {
     quote(text.chars().map(Ok))
 }
 

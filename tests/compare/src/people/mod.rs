@@ -2,6 +2,7 @@
 
 mod palettes;
 mod reports;
+mod searches;
 mod words;
 
 use crate::difference::{agree, Checked};
@@ -14,7 +15,8 @@ pub fn run(program: &Path, seed: u64, calls: u64) -> Checked<usize> {
     let folder = Folder::new();
     let compared = palettes::run(program, &folder, seed, calls)?;
     let reported = reports::run(program, &folder, seed, calls / REPORTS)?;
-    Ok(compared + reported)
+    let found = searches::run(program, &folder, seed, calls)?;
+    Ok(compared + reported + found)
 }
 
 /// One report, of many files, to so many calls of the others.
