@@ -8,9 +8,9 @@ use generate::Random;
 use reference::descriptor;
 use std::hint::black_box;
 
-type Shape = fn(usize) -> Long;
+pub type Shape = fn(usize) -> Long;
 
-const SHAPES: [(&str, Shape); 4] = [
+pub const SHAPES: [(&str, Shape); 4] = [
     ("flat", flat),
     ("wide", |len| wide(&mut Random::new(SEED), len)),
     ("lists", lists),

@@ -8,6 +8,7 @@ mod chunks;
 mod conversion;
 mod descriptor;
 mod index;
+mod keys;
 mod names;
 mod plain;
 mod report;
@@ -38,6 +39,7 @@ enum Part {
     Acb,
     Names,
     Descriptors,
+    Keys,
     Resources,
     Seasons,
     Reports,
@@ -54,6 +56,7 @@ fn main() -> ExitCode {
         Some("acb") => (Some(Part::Acb), &args[1..]),
         Some("names") => (Some(Part::Names), &args[1..]),
         Some("descriptor") => (Some(Part::Descriptors), &args[1..]),
+        Some("keys") => (Some(Part::Keys), &args[1..]),
         Some("resource") => (Some(Part::Resources), &args[1..]),
         Some("season") => (Some(Part::Seasons), &args[1..]),
         Some("report") => (Some(Part::Reports), &args[1..]),
@@ -67,7 +70,7 @@ fn main() -> ExitCode {
         Some(Ok(rounds)) if rounds > 0 => rounds,
         Some(_) => {
             eprintln!(
-                "usage: bench [aco|chunks|ase|acb|names|descriptor|resource|season|report|index|convert] [ROUNDS]"
+                "usage: bench [aco|chunks|ase|acb|names|descriptor|keys|resource|season|report|index|convert] [ROUNDS]"
             );
             return ExitCode::FAILURE;
         }
@@ -97,6 +100,9 @@ fn main() -> ExitCode {
             eprintln!("the stack was not measured: {error}");
             return ExitCode::FAILURE;
         }
+    }
+    if wanted(Part::Keys) {
+        keys::compare(&mut report, rounds);
     }
     if wanted(Part::Resources) {
         resource::compare(&mut report, rounds);

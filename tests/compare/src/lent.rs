@@ -2,6 +2,7 @@
 
 use crate::difference::{agree_runs, Checked};
 use std::fmt::Debug;
+use std::hint::black_box;
 use std::ops::Range;
 
 /// Canaries on each side; odd, so that the lent slice is aligned to no more
@@ -82,5 +83,38 @@ impl<T: Canary> Lent<T> {
             &self.before[end..],
             &self.found[end..],
         )
+    }
+}
+
+/// A slice that is lent to be looked at, between canaries, with a copy of all.
+pub struct Shown<T> {
+    before: Vec<T>,
+    held: Vec<T>,
+    inside: Range<usize>,
+}
+
+impl<T: Canary> Shown<T> {
+    pub fn of(items: &[T]) -> Self {
+        let canary = |from: usize| (from..from + MARGIN).map(T::at);
+        let held: Vec<T> = canary(0)
+            .chain(items.iter().copied())
+            .chain(canary(items.len()))
+            .collect();
+        Shown {
+            before: held.clone(),
+            held,
+            inside: MARGIN..MARGIN + items.len(),
+        }
+    }
+
+    pub fn lent(&self) -> &[T] {
+        &self.held[self.inside.clone()]
+    }
+
+    /// Nothing may have changed, nor any canary.
+    pub fn agree(&self, call: &str) -> Checked {
+        // What is only lent is taken to stay as it was, unless it is hidden.
+        let held = black_box(&self.held);
+        agree_runs(|| format!("what {call} was shown"), &self.before, held)
     }
 }

@@ -8,6 +8,7 @@ mod converting;
 mod descriptor;
 mod difference;
 mod expected;
+mod find;
 mod index;
 mod lent;
 mod listing;
@@ -15,9 +16,11 @@ mod people;
 mod program;
 mod reading;
 mod real;
+mod replace;
 mod reports;
 mod resource;
 mod seasons;
+mod tables;
 mod tally;
 mod trays;
 mod walk;
@@ -34,6 +37,8 @@ const USAGE: &str = "usage: compare [SEED [FILES]]
        compare walk [SEED [FILES]]
        compare acb [SEED [FILES]]
        compare descriptor [SEED [FILES]]
+       compare find [SEED [FILES]]
+       compare replace [SEED [FILES]]
        compare resource [SEED [SECTIONS]]
        compare seasons [SEED [FILES]]
        compare reports [SEED [FILES]]
@@ -48,6 +53,8 @@ const USAGE: &str = "usage: compare [SEED [FILES]]
        compare real FOLDER [PROGRAMS [SEED]]";
 const DEFAULT_SEED: u64 = 20_240_229;
 const DEFAULT_FILES: u64 = 300_000;
+/// Every one has several tables, keys, replacements or entries.
+const DEFAULT_ASKED: u64 = 20_000;
 const DEFAULT_PATTERNS: u64 = 60_000_000;
 const DEFAULT_LISTED: u64 = 300;
 const DEFAULT_CALLS: u64 = 300;
@@ -77,6 +84,13 @@ fn main() -> ExitCode {
             rest,
             descriptor::campaign::run,
             descriptor::Tally::all_reached,
+        ),
+        Some("find") => compare_asked("keys", rest, find::campaign::run, find::Tally::all_reached),
+        Some("replace") => compare_asked(
+            "replacements",
+            rest,
+            replace::campaign::run,
+            replace::Tally::all_reached,
         ),
         Some("resource") => compare_library(
             "resources",
@@ -132,8 +146,27 @@ fn compare_library<T: Display>(
     run: impl Fn(u64, u64) -> Checked<T>,
     all_reached: impl Fn(&T) -> Result<(), String>,
 ) -> Result<String, String> {
+    compare_files(kind, args, DEFAULT_FILES, run, all_reached)
+}
+
+fn compare_asked<T: Display>(
+    kind: &str,
+    args: &[String],
+    run: impl Fn(u64, u64) -> Checked<T>,
+    all_reached: impl Fn(&T) -> Result<(), String>,
+) -> Result<String, String> {
+    compare_files(kind, args, DEFAULT_ASKED, run, all_reached)
+}
+
+fn compare_files<T: Display>(
+    kind: &str,
+    args: &[String],
+    files: u64,
+    run: impl Fn(u64, u64) -> Checked<T>,
+    all_reached: impl Fn(&T) -> Result<(), String>,
+) -> Result<String, String> {
     let seed = number(args, 0, DEFAULT_SEED)?;
-    let files = number(args, 1, DEFAULT_FILES)?;
+    let files = number(args, 1, files)?;
     println!("seed {seed}");
     let tally = run(seed, files).map_err(|difference| with_seed(seed, difference))?;
     all_reached(&tally).map_err(|missing| with_seed(seed, missing))?;

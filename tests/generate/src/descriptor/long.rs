@@ -55,6 +55,22 @@ pub fn lists(len: usize) -> Long {
     filled(pairs, pair.repeat(pairs), pairs * 5, len)
 }
 
+/// Pairs directly below the root, each with a key of its own, eight bytes, and a
+/// list of twenty booleans.
+pub fn keyed(len: usize) -> Long {
+    const ITEMS: usize = 20;
+    let list = [&b"VlLs\0\0\0\x14"[..], &BOOL.repeat(ITEMS)].concat();
+    let pair_len = 4 + 8 + list.len();
+    let pairs = (len - ROOT_LEN - RAW_PAIR_LEN) / pair_len;
+    let mut bytes = Vec::with_capacity(len);
+    for pair in 0..pairs {
+        bytes.extend(8u32.to_be_bytes());
+        bytes.extend((pair as u64).to_be_bytes());
+        bytes.extend(&list);
+    }
+    filled(pairs, bytes, pairs * (1 + ITEMS), len)
+}
+
 /// Lists in lists down to the greatest depth, many times over.
 pub fn deep(len: usize) -> Long {
     let lists = MAX_DEPTH - 1;

@@ -16,7 +16,7 @@ pub use fixed::{
 };
 pub use keys::{any_keys, root_keys};
 pub use laid::{Field, Laid};
-pub use long::{deep, flat, lists, wide, Long};
+pub use long::{deep, flat, keyed, lists, wide, Long};
 pub use lot::{any_number, Lot, LotDamage};
 pub use tags::{ARRAY_UNITS, FORMS, TYPES, UNITS};
 pub use tree::{Array, Class, Form, Id, Object, Rest, Value};

@@ -1,0 +1,7 @@
+//! Comparing the search for keys in descriptors.
+
+mod asking;
+pub mod campaign;
+mod tally;
+
+pub use tally::Tally;
