@@ -65,7 +65,8 @@ extern "C" {
 #define KHUYUREK_VERSION 2
 
 /* The inks of a record: to which station of the press a colour goes. An ASE file
- * states one of the first three, an ACO file none. */
+ * states one of the first three, an ACO file none, a colour book what its closing tag
+ * says. */
 #define KHUYUREK_INK_GLOBAL 0
 #define KHUYUREK_INK_SPOT 1
 #define KHUYUREK_INK_NORMAL 2
@@ -269,8 +270,10 @@ khuyurek_length khuyurek_ase_write(const uint32_t *records, size_t records_len,
 /* The numbers of a record in a table or run: place of the name's first unit in the
  * file or text, number of its units (16 bits each, big-endian, no closing zero), six
  * code bytes, four components (a number each; the fourth is spare save in CMYK: a
- * reader fills it with 0, a writer ignores it). */
-#define KHUYUREK_ACB_WIDTH 12
+ * reader fills it with 0, a writer ignores it), ink (the one that the book's closing
+ * tag states: spot, process, or not stated without one; a writer refuses any other by
+ * 14, and so records that were set to zeros, which say global). */
+#define KHUYUREK_ACB_WIDTH 13
 
 /* Where a string lies in the file or text: the place of its first unit, and its units. */
 typedef struct {
@@ -307,6 +310,7 @@ typedef struct {
     size_t name;
     uint8_t code[6];
     uint8_t components[4];
+    uint32_t ink;
 } khuyurek_acb_record;
 
 /* number 0: accepted, with what the components show (count 3 or 4; the rest 0). Else the

@@ -2,10 +2,10 @@
 
 use crate::raw::acb as raw;
 use crate::text::{exact, length, Text};
-use crate::{Refusal, Space, Units};
+use crate::{Ink, Refusal, Space, Units};
 
 /// How many numbers a record has in a table.
-pub const WIDTH: usize = 12;
+pub const WIDTH: usize = 13;
 
 /// What stands before the records, and the closing tag.
 #[derive(Clone, Copy, Debug, PartialEq, Eq)]
@@ -49,6 +49,8 @@ pub struct Swatch<'a> {
     pub code: [u8; 6],
     /// The components as stored; the fourth is 0 save in CMYK.
     pub components: [u8; 4],
+    /// The ink that the book's closing tag states.
+    pub ink: Ink,
 }
 
 /// What the components of a record show.
@@ -97,6 +99,7 @@ pub fn record_at(file: &[u8], index: usize) -> Result<Swatch<'_>, Refusal> {
         name: Units::lying(file, r.name, r.units),
         code: r.code,
         components: r.components,
+        ink: Ink::known(r.ink),
     })
 }
 
@@ -285,6 +288,7 @@ impl<'a> Book<'a> {
             name: Units::lying(self.file, row[0] as usize, row[1]),
             code: [2, 3, 4, 5, 6, 7].map(|i| row[i] as u8),
             components: [8, 9, 10, 11].map(|i| row[i] as u8),
+            ink: Ink::known(row[12]),
         }
     }
 }
@@ -330,6 +334,7 @@ fn laid_out(header: &Header<'_>, swatches: &[Swatch<'_>]) -> (raw::Header, Vec<u
         numbers.extend(text.add(swatch.name));
         numbers.extend(swatch.code.map(u32::from));
         numbers.extend(swatch.components.map(u32::from));
+        numbers.push(swatch.ink.number());
     }
     (header, numbers, text.0)
 }

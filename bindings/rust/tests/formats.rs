@@ -283,6 +283,7 @@ fn book(space: Space, components: [u8; 4], names: [&str; 7]) -> Result<Vec<u8>, 
             name: Units::new(name),
             code: *b"abcdef",
             components,
+            ink: Ink::Spot,
         })
         .collect();
     let prefix = Units::encode("$$$/key=p ");

@@ -4,12 +4,15 @@ use mathlib.Core.Path.{_≡_, refl, sym, ap, _∙_}
 use mathlib.Core.List.{List, [], _∷_, map}
 use lib.ListN.{length, take}
 use native.Mathlib.Omega.{arith}
-use Rattle.algebra.specs.Numbers.{joined}
 use Rattle.algebra.specs.Table.{rowAt, whole}
+use Rattle.algebra.proofs.Places.{joined-map}
 use Rattle.algebra.proofs.Rows.{all-fit}
 use Rattle.algebra.proofs.Table.{whole-back}
-use Rattle.acb.specs.Reading.{Entry}
-use Rattle.acb.specs.Row.{RecordRow, six, four, width, numbers, taken, givenOf, row}
+use Rattle.algebra.specs.Numbers.{joined, All}
+use Rattle.colour.specs.Inks.{inkNumber}
+use Rattle.acb.specs.Grammar.{Tag, none, spot, process, States, no-ink, spot-ink, process-ink}
+use Rattle.acb.specs.Reading.{Entry, Contents}
+use Rattle.acb.specs.Row.{RecordRow, six, four, width, numbers, taken, givenOf, tagInk, stated, recordsOf}
 
 -- six numbers are six
 pub six-back : (cs : List ℕ) → length cs ≡ 6 → six cs 0 ≡ cs
@@ -42,8 +45,25 @@ pub taken-numbers : (g : RecordRow) → length (g .code) ≡ 6 → length (g .co
 taken-numbers g h k =
     let a = six-back (g .code) h in
     let b = four-back 4 (g .components) (omega arith) k in
-    λ i. record { name = g .name; code = a i; components = b i }
+    λ i. record { name = g .name; code = a i; components = b i; ink = g .ink }
 
 -- and so do the rows of a table
-pub rows-given : (es : List Entry) → whole width taken (joined row es) ≡ map givenOf es
-rows-given es = whole-back width row taken givenOf (λ e. Unit {0}) (omega arith) (λ e u. refl) (λ e u. refl) es (all-fit 0 es)
+pub rows-given : (c : Contents) → whole width taken (joined numbers (recordsOf c)) ≡ recordsOf c
+rows-given c =
+    let f : Entry → RecordRow = λ e. stated (inkNumber (tagInk (c .tag))) (givenOf e) in
+    ap (whole width taken) (joined-map numbers f (c .entries)) ∙ whole-back width (λ e. numbers (f e)) taken f (λ e. Unit {0}) (omega arith) (λ e u. refl) (λ e u. refl) (c .entries) (all-fit 0 (c .entries))
+
+-- ---- inks
+
+tag-states : (t : Tag) → States t (inkNumber (tagInk t))
+tag-states none = no-ink
+tag-states spot = spot-ink
+tag-states process = process-ink
+
+-- the ink of every record of a book, dummies too, is the one that its closing tag states
+pub book-ink : (c : Contents) → All (λ k g. States (c .tag) (g .ink)) 0 (recordsOf c)
+book-ink c = go 0 (c .entries)
+  where
+    go : (i : ℕ) (es : List Entry) → All (λ k g. States (c .tag) (g .ink)) i (map (λ e. stated (inkNumber (tagInk (c .tag))) (givenOf e)) es)
+    go i [] = tt
+    go i (e ∷ es) = (tag-states (c .tag), go (i + 1) es)

@@ -19,6 +19,12 @@ pub data Tag : Type 0 where
   spot : Tag
   process : Tag
 
+-- the ink of every record of a book that ends so, by its number: 4 not stated, 1 spot, 3 process
+pub data States : Tag → ℕ → Type 0 where
+  no-ink : States none 4
+  spot-ink : States spot 1
+  process-ink : States process 3
+
 -- how a book ends that is given to a writer: as a file may end, or with eight bytes that are no tag
 pub data Ending : Type 0 where
   tagged : Tag → Ending

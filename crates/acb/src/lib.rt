@@ -3,7 +3,7 @@
 // The longest file that is read, and the longest output that is written.
 pub const LIMIT: usize = 16777216;
 // How many numbers a record has in a table or run.
-pub const WIDTH: usize = 12;
+pub const WIDTH: usize = 13;
 // `8BCB`.
 pub const SIGNATURE: u32 = 0x3842_4342;
 // `spflspot` and `spflproc`.

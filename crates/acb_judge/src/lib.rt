@@ -9,13 +9,15 @@ ghost use Rattle.algebra.specs.Text.{place};
 ghost use Rattle.fields.specs.Answer.{toldFieldEnd};
 ghost use Rattle.names.specs.Answer.{toldName};
 ghost use Rattle.acb.specs.Reading.{string, colour, isSpace, componentsOf, pageSize, space, opening, strings, numbers, header, closing, acb};
+ghost use Rattle.acb.specs.Row.{tagInk};
 ghost use Rattle.acb_judge.specs.scaffold.Parts.{two, offsets, headerFrom, rest, knownTag};
-ghost use Rattle.acb_judge.specs.Answer.{textPlace, report, reported, told, toldHeader};
+ghost use Rattle.acb_judge.specs.Answer.{textPlace, report, reported, told, toldHeader, toldTag};
 ghost use Rattle.acb_judge.specs.scaffold.Answer.{toldIdentifier, toldTwo, toldStrings, toldCounts, toldHead, headed, toldKnown, toldClosing};
 use acb::LIMIT;
 use acb::PROCESS;
 use acb::SIGNATURE;
 use acb::SPOT;
+use colour::Ink;
 use fields::FieldEnd;
 use fields::Number16;
 use fields::Number32;
@@ -33,6 +35,17 @@ pub enum Tag {
     None,
     Spot,
     Process,
+}
+
+// The ink that a closing tag states for all records of its book.
+pub fn ink_of(tag: Tag) -> Ink
+    ensures { λ r. ⌜ r ≡ tagInk (toldTag tag) ⌝ }
+{
+    match tag {
+        Tag::None => Ink::NotStated,
+        Tag::Spot => Ink::Spot,
+        Tag::Process => Ink::Process,
+    }
 }
 
 // What stands before the records, apart from their number.

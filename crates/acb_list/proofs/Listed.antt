@@ -14,12 +14,12 @@ use Rattle.algebra.proofs.Exact.{length-map}
 use Rattle.algebra.proofs.Firsts.{all-source}
 use Rattle.acb.specs.Grammar.{Tag, Book, AllowedRecord, Allowed, File, file}
 use Rattle.acb.specs.Reading.{Entry, Contents, componentsOf, acb, colourOf, bookOf}
-use Rattle.acb.specs.Row.{RecordRow, width, givenOf, row}
+use Rattle.colour.specs.Inks.{inkNumber}
+use Rattle.acb.specs.Row.{RecordRow, width, numbers, givenOf, tagInk, stated, recordsOf}
 use Rattle.acb.proofs.Row.{six-back, four-back}
 use Rattle.acb.proofs.Laws.{components-some, space-components}
 use Rattle.acb.proofs.RoundTrip.{accepted-allowed, thirteen-each}
 use Rattle.acb_judge.specs.Answer.{HeaderPlaces, Report, reported, report}
-use Rattle.acb_read.specs.Table.{entriesOf}
 use Rattle.acb_read.specs.Walked.{walked}
 use Rattle.acb_read.proofs.Walking.{walked-all}
 use Rattle.acb_shown_file.specs.View.{dummy, dummiesIn}
@@ -90,14 +90,16 @@ module _ (f : ℕ → List ℕ) (size : ℕ) (all o : Buffer) where
 
 module _ (s t u : List ℕ) (room : width * 5041 ≤ length t) (bytes : Bytes s) (short : length s ≤ 65536) where
   abbrev read : Res Contents → Verdict Report × List ℕ
-  read m = filled width row entriesOf report m t
+  read m = filled width numbers recordsOf report m t
 
-  fits : (c : Contents) (q : ℕ) → acb s ≡ ok c q → leb (width * length (c .entries)) (length t) ≡ true
-  fits c q e = le-leb (width * length (c .entries)) (length t) (omega (arith, length-map colourOf (c .entries), thirteen-each (accepted-allowed bytes e .0)))
+  fits : (c : Contents) (q : ℕ) → acb s ≡ ok c q → leb (width * length (recordsOf c)) (length t) ≡ true
+  fits c q e =
+      let n : length (recordsOf c) ≡ length (c .entries) = length-map (λ e. stated (inkNumber (tagInk (c .tag))) (givenOf e)) (c .entries) in
+      le-leb (width * length (recordsOf c)) (length t) (omega (arith, n, length-map colourOf (c .entries), thirteen-each (accepted-allowed bytes e .0)))
 
   -- what reading into the table says of a book that was read
-  filled-all : (v : Verdict Report) (c : Contents) (q : ℕ) → acb s ≡ ok c q → (v, u) ≡ read (ok c q) → _≡_ {A = Verdict Report × List ℕ} (v, u) (accepted (report c), joined row (c .entries) ++ drop (width * length (c .entries)) t)
-  filled-all v c q e h = h ∙ ap (λ (b : Bool). pick b (accepted (report c), joined row (c .entries) ++ drop (width * length (c .entries)) t) (refusedFile 11 0 0 0, t)) (fits c q e)
+  filled-all : (v : Verdict Report) (c : Contents) (q : ℕ) → acb s ≡ ok c q → (v, u) ≡ read (ok c q) → _≡_ {A = Verdict Report × List ℕ} (v, u) (accepted (report c), joined numbers (recordsOf c) ++ drop (width * length (recordsOf c)) t)
+  filled-all v c q e h = h ∙ ap (λ (b : Bool). pick b (accepted (report c), joined numbers (recordsOf c) ++ drop (width * length (recordsOf c)) t) (refusedFile 11 0 0 0, t)) (fits c q e)
 
   pub listed-refused : {x p r f : ℕ} → (refusedFile x p r f, u) ≡ read (acb s) → refusal x p ≡ listing s (acb s)
   listed-refused {x} {p} {r} {f} e = go (acb s) refl e
@@ -128,8 +130,8 @@ module _ (s t u : List ℕ) (room : width * 5041 ≤ length t) (bytes : Bytes s)
           let w = filled-all (accepted b) c q k f in
           let y : accepted b ≡ accepted (report c) = ap (λ (w : Verdict Report × List ℕ). w .0) w in
           let a : b ≡ report c = cc in
-          let table : u ≡ joined row (c .entries) ++ drop (width * length (c .entries)) t = ap (λ (w : Verdict Report × List ℕ). w .1) w in
-          let ds : dummiesIn u (length (c .entries)) ≡ map dummy (c .entries) = ap (λ (v : List ℕ). dummiesIn v (length (c .entries))) table ∙ table-dummies (c .entries) (drop (width * length (c .entries)) t) in
+          let table : u ≡ joined numbers (recordsOf c) ++ drop (width * length (recordsOf c)) t = ap (λ (w : Verdict Report × List ℕ). w .1) w in
+          let ds : dummiesIn u (length (c .entries)) ≡ map dummy (c .entries) = ap (λ (v : List ℕ). dummiesIn v (length (c .entries))) table ∙ table-dummies c (drop (width * length (recordsOf c)) t) in
           ap (λ (r : Report). told-book r (told-lines r)) a ∙ ap (told-book (report c)) (read-lines s bytes k)
           ∙ ap (λ (l : List Bool). heading (report c .header) (c .tag) (length (c .entries)) ++ texts s (report c .header .texts) ++ lines (line s) 0 (c .entries) ++ pages (length (c .entries)) (c .header .numbers .size) (c .header .numbers .offset) l ++ ascii "end\n") ds
       go (refuse x y r z) k f = let w = ap (λ (w : Verdict Report × List ℕ). w .0) f in let v : _≡_ {A = ℕ} 0 1 = cc in absurd (omega arith)

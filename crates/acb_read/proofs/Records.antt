@@ -106,7 +106,7 @@ recorded s n at {e} {q} few h =
           start = start;
           next = next;
           inside = inside;
-          is = λ i. (record { name = accepted (f i, l i); code = c0 i ∷ c1 i ∷ c2 i ∷ c3 i ∷ c4 i ∷ c5 i ∷ []; components = k0 i ∷ k1 i ∷ k2 i ∷ k3 i ∷ [] }, sym next i);
+          is = λ i. (record { name = accepted (f i, l i); code = c0 i ∷ c1 i ∷ c2 i ∷ c3 i ∷ c4 i ∷ c5 i ∷ []; components = k0 i ∷ k1 i ∷ k2 i ∷ k3 i ∷ []; ink = 4 }, sym next i);
         })
 
 -- ---- a step

@@ -27,7 +27,7 @@ namePlaceOf (refused x p r f) = (0, 0)
 
 -- a record that was told, as it is given
 abbrev pub givenIn : RecordPlaces → RecordRow
-givenIn w = record { name = namePlaceOf (w .name); code = w .code; components = w .components }
+givenIn w = record { name = namePlaceOf (w .name); code = w .code; components = w .components; ink = w .ink }
 
 -- n records from a place
 unfoldable pub walked : ℕ → List ℕ → ℕ → ℕ → List RecordRow

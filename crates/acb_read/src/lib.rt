@@ -1,6 +1,6 @@
 // ACB colour books: a file's records one after the other, into a lent table, and by their numbers.
 ghost use mathlib.Core.Path.{_≡_};
-ghost use mathlib.Core.List.{_∷_, []};
+ghost use mathlib.Core.List.{_∷_, [], map};
 ghost use Prim.Native.Nat.{_+_, _*_, _^_, _≤_, _<_};
 ghost use lib.ListN.{length};
 ghost use lib.Seq.{sets};
@@ -8,15 +8,17 @@ ghost use Rattle.algebra.specs.Numbers.{joined};
 ghost use Rattle.algebra.specs.Reader.{limit};
 ghost use Rattle.algebra.specs.Table.{refused, filled, recordAt};
 ghost use Rattle.acb.specs.Reading.{acb};
-ghost use Rattle.acb.specs.Row.{width, numbers, row};
+ghost use Rattle.colour.specs.Inks.{inkNumber};
+ghost use Rattle.acb.specs.Row.{width, numbers, taken, stated, recordsOf};
 ghost use Rattle.acb_judge.specs.Answer.{toldText, report, told};
 ghost use Rattle.acb_read.specs.Table.{entriesOf, blank, nameBytesIn};
-ghost use Rattle.acb_read.specs.Answer.{toldPlace, recordPlaces, toldRecord, toldRecordStep};
+ghost use Rattle.acb_read.specs.Answer.{toldPlace, recordPlaces, toldRecord, toldRecordStep, places, withInk};
 ghost use Rattle.acb_read.specs.Walked.{step, passed, namePlaceOf, givenIn, walked};
 ghost use Rattle.acb_read.specs.scaffold.Parts.{fourthAt, wholeAt};
 use acb::WIDTH;
 use acb_judge::Answer;
 use acb_judge::Text;
+use colour::Ink;
 use fields::Number32;
 
 // Where a record's name lies, or a refusal.
@@ -25,12 +27,14 @@ pub enum NamePlace {
     Refused { number: u32, place: usize },
 }
 
-// A record: its code, its components, 0 in the place that its space does not use, and where its
-// name lies. On a refusal code and components are zeros.
+// A record: its code, its components, 0 in the place that its space does not use, where its name
+// lies, and its ink, not stated where the closing tag is not known. On a refusal code and components
+// are zeros, and the ink is that of number 0.
 pub struct BookRecord {
     pub code: [u8; 6],
     pub components: [u8; 4],
     pub name: NamePlace,
+    pub ink: Ink,
 }
 
 // A record, and the place behind it.
@@ -49,6 +53,7 @@ fn none(number: u32, place: usize) -> BookRecord
         code: [0; 6],
         components: [0; 4],
         name: NamePlace::Refused { number, place },
+        ink: Ink::Global,
     }
 }
 
@@ -95,6 +100,7 @@ fn whole_at(file: &[u8], first: usize, units: u32, n: usize) -> RecordStep
                 place: first,
                 units,
             },
+            ink: Ink::NotStated,
         },
         next: code + 6 + n,
     }
@@ -156,7 +162,7 @@ fn wide(x: u8) -> u32
 
 // Stores the numbers of a row; no other function stores one. The loop stands by itself, so that its
 // proof knows of nothing else.
-fn put_numbers(table: &mut [u32], to: usize, row: [u32; 12])
+fn put_numbers(table: &mut [u32], to: usize, row: [u32; 13])
     requires { ⌜ to + width ≤ length (now table) ⌝ }
     ensures { λ _. ⌜ now (table .exit) ≡ sets (now (table .entry)) to row ⌝ }
 {
@@ -175,6 +181,7 @@ fn put_row(table: &mut [u32], to: usize, swatch: BookRecord)
     let name = swatch.name;
     let code = swatch.code;
     let ks = swatch.components;
+    let ink = swatch.ink;
     let string = text_place(name);
     put_numbers(
         table,
@@ -192,20 +199,36 @@ fn put_row(table: &mut [u32], to: usize, swatch: BookRecord)
             wide(ks[1]),
             wide(ks[2]),
             wide(ks[3]),
+            ink.number(),
         ],
     );
 }
 
-// Stores the `count` records from `first` on.
-fn fill(file: &[u8], count: usize, first: usize, space: u16, table: &mut [u32])
+// A record with the ink that its book states.
+fn inked(swatch: BookRecord, ink: Ink) -> BookRecord
+    ensures { λ r. ⌜ toldRecord r ≡ withInk (inkNumber ink) (toldRecord swatch) ⌝ }
+{
+    let code = swatch.code;
+    let components = swatch.components;
+    let name = swatch.name;
+    BookRecord {
+        code,
+        components,
+        name,
+        ink,
+    }
+}
+
+// Stores the `count` records from `first` on, which have an ink.
+fn fill(file: &[u8], count: usize, first: usize, space: u16, ink: Ink, table: &mut [u32])
     requires { ⌜ (length (now file) ≤ limit) × (width * count ≤ length (now table)) ⌝ }
-    ensures { λ _. ⌜ now (table .exit) ≡ sets (now (table .entry)) 0 (joined numbers (walked space (now (file .entry)) first count)) ⌝ }
+    ensures { λ _. ⌜ now (table .exit) ≡ sets (now (table .entry)) 0 (joined numbers (map (stated (inkNumber ink)) (walked space (now (file .entry)) first count))) ⌝ }
 {
     let mut i: usize = 0;
     let mut at = first;
     while i < count {
         let step = step_at(file, at, space);
-        put_row(table, WIDTH * i, step.swatch);
+        put_row(table, WIDTH * i, inked(step.swatch, ink));
         at = step.next;
         i += 1;
     }
@@ -213,7 +236,7 @@ fn fill(file: &[u8], count: usize, first: usize, space: u16, table: &mut [u32])
 
 // Reads a file into a table, which a refusal leaves as it was. `count` in `Answer` counts the rows.
 pub fn read(file: &[u8], table: &mut [u32]) -> Answer
-    ensures { λ r. ⌜ (told r, now (table .exit)) ≡ filled width row entriesOf report (acb (now (file .entry))) (now (table .entry)) ⌝ }
+    ensures { λ r. ⌜ (told r, now (table .exit)) ≡ filled width numbers recordsOf report (acb (now (file .entry))) (now (table .entry)) ⌝ }
 {
     match acb_judge::judge(file) {
         Answer::Refused { number, place } => Answer::Refused { number, place },
@@ -229,7 +252,8 @@ pub fn read(file: &[u8], table: &mut [u32]) -> Answer
                     place: 0,
                 };
             }
-            fill(file, count, first, header.space, table);
+            let ink = acb_judge::ink_of(tag);
+            fill(file, count, first, header.space, ink, table);
             Answer::Accepted {
                 header,
                 tag,
@@ -244,13 +268,13 @@ pub fn read(file: &[u8], table: &mut [u32]) -> Answer
 
 // Record i of a file.
 pub fn record_at(file: &[u8], i: usize) -> BookRecord
-    ensures { λ r. ⌜ toldRecord r ≡ recordPlaces (recordAt entriesOf blank i (acb (now (file .entry)))) ⌝ }
+    ensures { λ r. ⌜ toldRecord r ≡ places (recordAt recordsOf (taken []) i (acb (now (file .entry)))) ⌝ }
 {
     match acb_judge::judge(file) {
         Answer::Refused { number, place } => none(number, place),
         Answer::Accepted {
             header,
-            tag: _,
+            tag,
             count,
             first,
         } => {
@@ -259,7 +283,7 @@ pub fn record_at(file: &[u8], i: usize) -> BookRecord
             }
             let at = place_at(file, first, header.space, i);
             let step = step_at(file, at, header.space);
-            step.swatch
+            inked(step.swatch, acb_judge::ink_of(tag))
         }
     }
 }

@@ -37,7 +37,7 @@ module _ (s : List ℕ) (b : Bytes s) {c : Contents} {q : ℕ} (e : acb s ≡ ok
   h = headerPlaces (c .header)
 
   abbrev gs : List RecordRow
-  gs = tabled (c .entries)
+  gs = tabled c
 
   -- what is made of the book of an accepted file is the file
   made-is : made s h (tagged (c .tag)) gs ≡ s
@@ -52,10 +52,10 @@ module _ (s : List ℕ) (b : Bytes s) {c : Contents} {q : ℕ} (e : acb s ≡ ok
       fault-same s h (tagged (c .tag)) gs (given-fit s b e) ∙ ap₂ (λ (m : List ℕ) (x : Book). pick (leb (length m) limit) (bookFault x) 1) made-is (given-book s b e)
       ∙ ap (λ (t : Bool). pick t (bookFault (bookOf c)) 1) (le-leb (length s) limit (short-file f)) ∙ allowed-written f .0
 
-  pub needs-all : needed s (headerPlaces (c .header)) (tagged (c .tag)) (tabled (c .entries)) ≡ bytes (length s)
+  pub needs-all : needed s (headerPlaces (c .header)) (tagged (c .tag)) (tabled c) ≡ bytes (length s)
   needs-all = ap₂ (λ (x n : ℕ). needs x n) faultless size-same
 
-  pub writes-all : (out : List ℕ) → length s ≤ length out → written s (headerPlaces (c .header)) (tagged (c .tag)) (tabled (c .entries)) out ≡ (bytes (length s), s ++ drop (length s) out)
+  pub writes-all : (out : List ℕ) → length s ≤ length out → written s (headerPlaces (c .header)) (tagged (c .tag)) (tabled c) out ≡ (bytes (length s), s ++ drop (length s) out)
   writes-all out k =
       ap₂ (λ (x n : ℕ). writes x n (made s h (tagged (c .tag)) gs) out) faultless size-same ∙ ap (λ (f : List ℕ). writes 0 (length s) f out) made-is
       ∙ ap (λ (t : Bool). pick t (bytes (length s), s ++ drop (length s) out) (refused 11 0, out)) (le-leb (length s) (length out) k)

@@ -1,6 +1,6 @@
 -- A given book that fits: its length and its first fault are those of the book that is written. Assumes nothing.
 use Prim.Native.Nat.{ℕ, _+_, _*_, _-_, _^_, _≤_, _<_}
-use mathlib.Core.Path.{_≡_, sym, ap₂, _∙_, subst}
+use mathlib.Core.Path.{_≡_, sym, ap, ap₂, _∙_, subst}
 use mathlib.Core.List.{List, [], _∷_}
 use lib.Dec.{leb}
 use lib.ListN.{length}
@@ -14,14 +14,14 @@ use Rattle.algebra.specs.Reader.{pick, limit}
 use Rattle.algebra.specs.Faults.{firstOf, faults}
 use Rattle.algebra.proofs.Places.{length-nums, nums-lt}
 use Rattle.algebra.proofs.Exact.{all-map, all-both, length-map}
-use Rattle.algebra.proofs.Tells.{first-none, first-inv, pick-none, faults-inv, faults-none, faults-from}
+use Rattle.algebra.proofs.Tells.{first-zero, first-none, first-inv, pick-none, faults-inv, faults-none, faults-from}
 use Rattle.algebra.proofs.Firsts.{test-holds, all-image}
 use Rattle.acb.specs.Grammar.{Ending, tagged, other, String, AllowedRecord}
 use Rattle.acb.specs.Reading.{componentsOf}
 use Rattle.acb_judge.specs.Answer.{HeaderPlaces}
 use Rattle.acb.specs.Faults as a
 use Rattle.acb.specs.Faults.{endingFault, EndingFits, bookFault, BookFits}
-use Rattle.acb_write_judge.specs.Writing.{unitsIn, componentsIn, colourIn, bookIn, sizes, stringSize, sizeIn, size, textFault, byteFault, headFault, colourFault, fault}
+use Rattle.acb_write_judge.specs.Writing.{unitsIn, componentsIn, colourIn, bookIn, sizes, stringSize, sizeIn, size, textFault, byteFault, headFault, colourFault, otherFault, inkFault, fault}
 use Rattle.acb.specs.Row.{RecordRow}
 use Rattle.acb_write_judge.proofs.Judging.{text-in, text-cut, head-fine}
 use Rattle.acb.proofs.Laws.{components-some}
@@ -134,21 +134,26 @@ module _ (text : List ℕ) (h : HeaderPlaces) (t : Ending) (gs : List RecordRow)
         }
 
     -- the writer's first fault is that of the book
-    pub fault-same : fault text h t gs ≡ pick (leb (length (made text h t gs)) limit) (bookFault (bookIn text h t gs)) 1
-    unfolding fault bookFault
-    fault-same =
+    other-same : otherFault text h t gs ≡ pick (leb (length (made text h t gs)) limit) (bookFault (bookIn text h t gs)) 1
+    unfolding otherFault bookFault
+    other-same =
         let m : ℕ = componentsOf (h .space) in
         let ts : faults (textFault text) (h .texts) ≡ 0 = all-none (textFault text) (h .texts) (all-map (λ k l. TextFitting text l) (λ k l. textFault text l ≡ 0) (λ k l r. text-sound text l r) 0 (h .texts) (f .strings)) in
         let rs : faults (colourFault text m) gs ≡ 0 = all-none (colourFault text m) gs (all-map (λ k g. Fitting text m g) (λ k g. colourFault text m g ≡ 0) (λ k g r. record-sound text m g r) 0 gs (f .records)) in
         ap₂ (λ (k x : ℕ). pick (leb k limit) x 1) (sym length-made)
         (ap₂ (λ (x y : ℕ). firstOf x y) (ap₂ (λ (x n : ℕ). a.headFault x n (h .size) (h .space)) ts (sym (length-map (colourIn text m) gs))) (first-none (faults (colourFault text m) gs) (endingFault t) rs))
 
+    pub fault-same : fault text h t gs ≡ pick (leb (length (made text h t gs)) limit) (bookFault (bookIn text h t gs)) 1
+    unfolding fault
+    fault-same = ap (firstOf (otherFault text h t gs)) (all-none (inkFault t) gs (f .inked)) ∙ first-zero (otherFault text h t gs) ∙ other-same
+
   -- a book without a fault fits
   pub faultless-fit : Headed h → All (λ k g. Shaped g) 0 gs → fault text h t gs ≡ 0 → BookFitting text h t gs
-  unfolding fault
+  unfolding fault otherFault
   faultless-fit hd s e =
       let m : ℕ = componentsOf (h .space) in
-      let x = test-holds (leb (size h t gs) limit) _ 1 (omega arith) e in
+      let w = first-inv (otherFault text h t gs) (faults (inkFault t) gs) e in
+      let x = test-holds (leb (size h t gs) limit) _ 1 (omega arith) (w .0) in
       let short : size h t gs ≤ limit = leb-true (size h t gs) limit (x .0) in
       let a = first-inv _ (firstOf (faults (colourFault text m) gs) (endingFault t)) (x .1) in
       let y = first-inv (faults (colourFault text m) gs) (endingFault t) (a .1) in
@@ -164,4 +169,5 @@ module _ (text : List ℕ) (h : HeaderPlaces) (t : Ending) (gs : List RecordRow)
             (all-both (λ k g. Shaped g) (λ k g. (colourFault text m g ≡ 0) × (sizeIn m g ≤ limit)) 0 gs s
             (all-both (λ k g. colourFault text m g ≡ 0) (λ k g. sizeIn m g ≤ limit) 0 gs (none-all (colourFault text m) gs (y .0)) (sizes-each (sizeIn m) limit 0 gs (omega arith))));
         tag = ending-fits t (y .1);
+        inked = none-all (inkFault t) gs (w .1);
       }

@@ -5,6 +5,7 @@ use mathlib.Core.List.{List, [], _∷_, _++_, map}
 use lib.Dec.{leb}
 use lib.ListN.{length, getD, take}
 use native.Mathlib.Omega.{arith}
+use borrow.Author.Tests.{eq-eqb}
 use Rattle.algebra.specs.Numbers.{counted, nums, joined, Bytes, All}
 use Rattle.algebra.specs.Reader.{Reader, ok, field, body, each, limit}
 use Rattle.algebra.specs.Text.{Name}
@@ -18,8 +19,9 @@ use Rattle.acb_judge.specs.Answer.{textPlace, headerPlaces}
 use Rattle.acb.proofs.Row.{six-back, four-back}
 use Rattle.acb.proofs.Laws.{components-some, space-components, space-small}
 use Rattle.acb.proofs.RoundTrip.{accepted-allowed}
-use Rattle.acb_write_judge.specs.Writing.{unitsIn, colourIn, bookIn}
-use Rattle.acb.specs.Row.{givenOf}
+use Rattle.acb_write_judge.specs.Writing.{unitsIn, colourIn, bookIn, inkFault}
+use Rattle.colour.specs.Inks.{inkNumber}
+use Rattle.acb.specs.Row.{givenOf, tagInk, stated}
 use Rattle.acb_roundtrip.specs.Tie.{tabled, TextFitting, Fitting, BookFitting}
 
 -- ---- the strings and names of an accepted file lie in it
@@ -79,23 +81,28 @@ module _ (s : List ℕ) where
 
 -- ---- the book of an accepted file, as it is given
 
+-- what holds of every value holds of all
+all-fit-by : {A : Type 0} (P : A → Type 0) → ((a : A) → P a) → (i : ℕ) (l : List A) → All (λ k a. P a) i l
+all-fit-by P h i [] = tt
+all-fit-by P h i (a ∷ l) = (h a, all-fit-by P h (i + 1) l)
+
 module _ (s : List ℕ) (n : ℕ) (few : n ≤ 4) where
   abbrev Sound : Entry → Type 0
   Sound e = NameIn s (e .name) × AllowedRecord n (colourOf e)
 
-  colour-back : (e : Entry) → Sound e → colourIn s n (givenOf e) ≡ colourOf e
-  colour-back e h =
+  colour-back : (k : ℕ) (e : Entry) → Sound e → colourIn s n (stated k (givenOf e)) ≡ colourOf e
+  colour-back k e h =
       let a = h .0 .are in
       let b = six-back (e .code) (h .1 .code .count) in
       let c = four-back n (e .components) few (h .1 .components .count) in
       λ i. record { name = a i; code = b i; components = c i }
 
-  colours-back : (i : ℕ) (es : List Entry) → All (λ k e. Sound e) i es → map (colourIn s n) (map givenOf es) ≡ map colourOf es
-  colours-back i [] h = refl
-  colours-back i (e ∷ es) h = ap₂ (λ (x : Colour) (xs : List Colour). x ∷ xs) (colour-back e (h .0)) (colours-back (i + 1) es (h .1))
+  colours-back : (k i : ℕ) (es : List Entry) → All (λ k e. Sound e) i es → map (colourIn s n) (map (λ e. stated k (givenOf e)) es) ≡ map colourOf es
+  colours-back k i [] h = refl
+  colours-back k i (e ∷ es) h = ap₂ (λ (x : Colour) (xs : List Colour). x ∷ xs) (colour-back k e (h .0)) (colours-back k (i + 1) es (h .1))
 
-  taken-fits : (e : Entry) → Sound e → Fitting s n (givenOf e)
-  taken-fits e h = record {
+  taken-fits : (k : ℕ) (e : Entry) → Sound e → Fitting s n (stated k (givenOf e))
+  taken-fits k e h = record {
     named = record { counted = h .1 .name .counted; inside = h .0 .inside };
     six = refl;
     code-small = subst (λ (l : List ℕ). All (λ i b. b < 256) 0 l) (sym (six-back (e .code) (h .1 .code .count))) (h .1 .code .each);
@@ -120,6 +127,9 @@ module _ (s : List ℕ) (bytes : Bytes s) {c : Contents} {q : ℕ} (e : acb s �
   abbrev n : ℕ
   n = componentsOf (c .header .numbers .space)
 
+  abbrev tagged-ink : ℕ
+  tagged-ink = inkNumber (tagInk (c .tag))
+
   swatches : All (λ k x. AllowedRecord n x) 0 (map colourOf (c .entries))
   swatches = subst (λ (m : ℕ). All (λ k x. AllowedRecord m x) 0 (map colourOf (c .entries))) (sym (space-components (allowed .space))) (allowed .colours)
 
@@ -127,10 +137,10 @@ module _ (s : List ℕ) (bytes : Bytes s) {c : Contents} {q : ℕ} (e : acb s �
   sounds = all-both (λ k x. NameIn s (x .name)) (λ k x. AllowedRecord n (colourOf x)) 0 (c .entries) (all-lie s e .1) (all-source colourOf (λ k x. AllowedRecord n x) 0 (c .entries) swatches)
 
   -- it is the book that was read
-  pub given-book : bookIn s (headerPlaces (c .header)) (tagged (c .tag)) (tabled (c .entries)) ≡ bookOf c
+  pub given-book : bookIn s (headerPlaces (c .header)) (tagged (c .tag)) (tabled c) ≡ bookOf c
   given-book =
       let a = texts-back s 0 (c .header .texts) (all-lie s e .0) in
-      let b = colours-back s n (components-some (c .header .numbers .space) .1) 0 (c .entries) sounds in
+      let b = colours-back s n (components-some (c .header .numbers .space) .1) tagged-ink 0 (c .entries) sounds in
       λ i. record {
         identifier = c .header .identifier;
         texts = a i;
@@ -142,7 +152,7 @@ module _ (s : List ℕ) (bytes : Bytes s) {c : Contents} {q : ℕ} (e : acb s �
       }
 
   -- it fits
-  pub given-fit : BookFitting s (headerPlaces (c .header)) (tagged (c .tag)) (tabled (c .entries))
+  pub given-fit : BookFitting s (headerPlaces (c .header)) (tagged (c .tag)) (tabled c)
   given-fit = record {
     headed = record {
       four = length-map textPlace (c .header .texts) ∙ sym (length-map (λ (nm : Name). nm .units) (c .header .texts)) ∙ allowed .four;
@@ -154,8 +164,9 @@ module _ (s : List ℕ) (bytes : Bytes s) {c : Contents} {q : ℕ} (e : acb s �
     strings = all-image textPlace (λ k l. TextFitting s l) 0 (c .header .texts)
         (all-map (λ k nm. NameIn s nm × String (nm .units)) (λ k nm. TextFitting s (textPlace nm)) (λ k nm h. texts-fit s nm (h .0) (h .1)) 0 (c .header .texts)
         (all-both (λ k nm. NameIn s nm) (λ k nm. String (nm .units)) 0 (c .header .texts) (all-lie s e .0) (all-source (λ (nm : Name). nm .units) (λ k us. String us) 0 (c .header .texts) (allowed .texts))));
-    count = subst (λ (k : ℕ). k < 256 ^ 2) (length-map colourOf (c .entries) ∙ sym (length-map givenOf (c .entries))) (allowed .count);
-    records = all-image givenOf (λ k g. Fitting s n g) 0 (c .entries)
-        (all-map (λ k x. NameIn s (x .name) × AllowedRecord n (colourOf x)) (λ k x. Fitting s n (givenOf x)) (λ k x h. taken-fits s n (components-some (c .header .numbers .space) .1) x h) 0 (c .entries) sounds);
+    count = subst (λ (k : ℕ). k < 256 ^ 2) (length-map colourOf (c .entries) ∙ sym (length-map (λ e. stated tagged-ink (givenOf e)) (c .entries))) (allowed .count);
+    records = all-image (λ e. stated tagged-ink (givenOf e)) (λ k g. Fitting s n g) 0 (c .entries)
+        (all-map (λ k x. NameIn s (x .name) × AllowedRecord n (colourOf x)) (λ k x. Fitting s n (stated tagged-ink (givenOf x))) (λ k x h. taken-fits s n (components-some (c .header .numbers .space) .1) tagged-ink x h) 0 (c .entries) sounds);
     tag = tt;
+    inked = all-image (λ e. stated tagged-ink (givenOf e)) (λ k g. inkFault (tagged (c .tag)) g ≡ 0) 0 (c .entries) (all-fit-by (λ x. inkFault (tagged (c .tag)) (stated tagged-ink (givenOf x)) ≡ 0) (λ x. rw (eq-eqb tagged-ink tagged-ink refl)) 0 (c .entries));
   }

@@ -2,18 +2,23 @@
 use Prim.Native.Nat.{ℕ, suc, _+_, _*_}
 use mathlib.Core.Path.{_≡_, refl, ap, ap₂}
 use mathlib.Core.List.{List, [], _∷_, map}
-use lib.Dec.{leb}
+use lib.Dec.{leb, eqb}
 use lib.ListN.{length}
 use Rattle.algebra.specs.Reader.{pick, limit}
 use Rattle.algebra.specs.Faults.{firstOf, faults}
 use Rattle.algebra.specs.Writing.{needs, writes}
-use Rattle.acb.specs.Grammar.{Colour, Ending, fileBytes}
+use Rattle.acb.specs.Grammar.{Colour, Ending, tagged, other, fileBytes}
 use Rattle.acb.specs.Reading.{componentsOf}
 use Rattle.acb.specs.Faults.{endingFault}
 use Rattle.acb_judge.specs.Answer.{HeaderPlaces}
-use Rattle.acb_write_judge.specs.Writing.{unitsIn, colourIn, sizes, sizeIn, endingSize, headSize, textFault, byteFault, headFault, colourFault, fault, needed, written}
-use Rattle.acb.specs.Row.{RecordRow}
+use Rattle.acb_write_judge.specs.Writing.{unitsIn, colourIn, sizes, sizeIn, endingSize, headSize, textFault, byteFault, headFault, colourFault, otherFault, inkFault, fault, needed, written}
+use Rattle.colour.specs.Inks.{inkNumber}
+use Rattle.acb.specs.Row.{RecordRow, tagInk}
 use Rattle.acb_roundtrip.specs.Tie.{Alike, AllAlike}
+
+ink-alike : (t : Ending) (g h : RecordRow) → g .ink ≡ h .ink → inkFault t g ≡ inkFault t h
+ink-alike (tagged t) g h e = ap (λ (k : ℕ). pick (eqb k (inkNumber (tagInk t))) 0 14) e
+ink-alike (other v) g h e = refl
 
 module _ (text : List ℕ) (n : ℕ) where
   pub colour-alike : (g h : RecordRow) → Alike n g h → colourIn text n g ≡ colourIn text n h
@@ -58,9 +63,16 @@ module _ (text : List ℕ) (h : HeaderPlaces) (t : Ending) (gs hs : List RecordR
   abbrev m : ℕ
   m = componentsOf (h .space)
 
+  inks-alike : (gs hs : List RecordRow) → AllAlike m gs hs → faults (inkFault t) gs ≡ faults (inkFault t) hs
+  unfolding faults
+  inks-alike [] [] x = refl
+  inks-alike [] (h ∷ hs) x = absurd x
+  inks-alike (g ∷ gs) [] x = absurd x
+  inks-alike (g ∷ gs) (h ∷ hs) x = ap₂ (λ (a b : ℕ). firstOf a b) (ink-alike t g h (x .0 .same-ink)) (inks-alike gs hs (x .1))
+
   first-alike : fault text h t gs ≡ fault text h t hs
-  unfolding fault
-  first-alike = λ i. pick (leb (headSize h + sizes-alike text m gs hs x i + endingSize t) limit) (firstOf (headFault text h (length-alike text m gs hs x i)) (firstOf (faults-alike text m gs hs x i) (endingFault t))) 1
+  unfolding fault otherFault
+  first-alike = λ i. firstOf (pick (leb (headSize h + sizes-alike text m gs hs x i + endingSize t) limit) (firstOf (headFault text h (length-alike text m gs hs x i)) (firstOf (faults-alike text m gs hs x i) (endingFault t))) 1) (inks-alike gs hs x i)
 
   pub needed-alike : needed text h t gs ≡ needed text h t hs
   needed-alike = λ i. needs (first-alike i) (headSize h + sizes-alike text m gs hs x i + endingSize t)

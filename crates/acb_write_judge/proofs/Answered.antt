@@ -3,7 +3,7 @@
 use Prim.Native.Nat.{ℕ}
 use mathlib.Core.Path.{_≡_, refl}
 use mathlib.Core.List.{List, [], _∷_}
-use lib.Dec.{leb, ltb}
+use lib.Dec.{leb, ltb, eqb}
 use lib.ListN.{length}
 use Rattle.algebra.specs.Reader.{limit}
 use Rattle.algebra.specs.Faults.{faults}
@@ -16,8 +16,9 @@ use Rattle.acb.specs.Faults.{endingFault}
 use Rattle.acb.specs.Faults as f
 use Rattle.acb_judge.specs.Answer.{HeaderPlaces}
 use Rattle.acb_write_judge.specs.Refusals.{refusals}
-use Rattle.acb_write_judge.specs.Writing.{componentsIn, bookIn, size, textFault, headFault, byteFault, colourFault, fault, needed, written}
-use Rattle.acb.specs.Row.{RecordRow}
+use Rattle.acb_write_judge.specs.Writing.{componentsIn, bookIn, size, textFault, headFault, byteFault, colourFault, otherFault, inkFault, fault, needed, written}
+use Rattle.colour.specs.Inks.{inkNumber}
+use Rattle.acb.specs.Row.{RecordRow, tagInk}
 
 text-numbered : (text : List ℕ) (l : ℕ × ℕ) → Fault refusals (textFault text l)
 text-numbered text l = body-fault (among refl) 2 (l .1) text (l .0)
@@ -42,13 +43,21 @@ ending-numbered : (t : Ending) → Fault refusals (endingFault t)
 ending-numbered (tagged t) = among refl
 ending-numbered (other v) = among refl
 
-fault-numbered : (text : List ℕ) (h : HeaderPlaces) (t : Ending) (gs : List RecordRow) → Fault refusals (fault text h t gs)
-unfolding fault
-fault-numbered text h t gs =
+other-numbered : (text : List ℕ) (h : HeaderPlaces) (t : Ending) (gs : List RecordRow) → Fault refusals (otherFault text h t gs)
+unfolding otherFault
+other-numbered text h t gs =
     pick-fault (leb (size h t gs) limit)
     (first-fault (headFault text h (length gs)) _ (head-numbered text h (length gs))
     (first-fault (faults (colourFault text (componentsOf (h .space))) gs) _ (faults-fault (colourFault text (componentsOf (h .space))) (colour-numbered text (componentsOf (h .space))) gs) (ending-numbered t)))
     (among refl)
+
+ink-numbered : (t : Ending) (g : RecordRow) → Fault refusals (inkFault t g)
+ink-numbered (tagged t) g = pick-fault (eqb (g .ink) (inkNumber (tagInk t))) no-fault (among refl)
+ink-numbered (other v) g = no-fault
+
+fault-numbered : (text : List ℕ) (h : HeaderPlaces) (t : Ending) (gs : List RecordRow) → Fault refusals (fault text h t gs)
+unfolding fault
+fault-numbered text h t gs = first-fault (otherFault text h t gs) _ (other-numbered text h t gs) (faults-fault (inkFault t) (ink-numbered t) gs)
 
 -- the length that is needed is refused by one of these numbers
 pub needed-refused : (text : List ℕ) (h : HeaderPlaces) (t : Ending) (gs : List RecordRow) {x p : ℕ} → needed text h t gs ≡ refused x p → Of refusals x × (p ≡ 0)

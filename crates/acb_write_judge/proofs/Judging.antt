@@ -31,8 +31,8 @@ pub record-whole : (run : List ℕ) (n k : ℕ) → width * n ≤ length run →
 record-whole run n k h l = whole-in width taken run (taken []) k (omega arith)
 
 -- the record of a row, with the place of its name taken on its own
-pub row-taken : (run l : List ℕ) (k x : ℕ) → l ≡ rowAt width run k → x ≡ getD l 0 0 → record { name = (x, taken l .name .1); code = taken l .code; components = taken l .components } ≡ givenAt run k
-row-taken run l k x e h = ap (λ (p : ℕ). record { name = (p, taken l .name .1); code = taken l .code; components = taken l .components }) h ∙ ap taken e
+pub row-taken : (run l : List ℕ) (k x : ℕ) → l ≡ rowAt width run k → x ≡ getD l 0 0 → record { name = (x, taken l .name .1); code = taken l .code; components = taken l .components; ink = taken l .ink } ≡ givenAt run k
+row-taken run l k x e h = ap (λ (p : ℕ). record { name = (p, taken l .name .1); code = taken l .code; components = taken l .components; ink = taken l .ink }) h ∙ ap taken e
 
 -- ---- the first fault of a list, one value after the other
 

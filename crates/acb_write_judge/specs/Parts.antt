@@ -17,4 +17,5 @@ toldRecord r = record {
   name = toldText (r .name);
   code = r .code0 ∷ r .code1 ∷ r .code2 ∷ r .code3 ∷ r .code4 ∷ r .code5 ∷ [];
   components = r .component0 ∷ r .component1 ∷ r .component2 ∷ r .component3 ∷ [];
+  ink = r .ink;
 }

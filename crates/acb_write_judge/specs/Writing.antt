@@ -2,14 +2,15 @@
 use Prim.Native.Nat.{ℕ, _+_, _*_}
 use mathlib.Core.List.{List, [], _∷_, map}
 use lib.ListN.{length, take}
-use lib.Dec.{leb}
+use lib.Dec.{leb, eqb}
 use Rattle.algebra.specs.Numbers.{nums}
 use Rattle.algebra.specs.Reader.{pick, body, numberOf, limit}
 use Rattle.algebra.specs.Faults.{firstOf, faults}
 use Rattle.algebra.specs.Writing.{Outcome, needs, writes}
 use Rattle.acb.specs.Grammar.{Colour, Tag, none, spot, process, Ending, tagged, other, Book, fileBytes}
 use Rattle.acb.specs.Reading.{componentsOf}
-use Rattle.acb.specs.Row.{RecordRow}
+use Rattle.colour.specs.Inks.{inkNumber}
+use Rattle.acb.specs.Row.{RecordRow, tagInk}
 use Rattle.acb.specs.Faults.{endingFault}
 use Rattle.acb.specs.Faults as f
 use Rattle.acb_judge.specs.Answer.{HeaderPlaces}
@@ -90,11 +91,24 @@ unfoldable pub colourFault : List ℕ → ℕ → RecordRow → ℕ
 colourFault text n g = firstOf (textFault text (g .name)) (firstOf (faults byteFault (g .code)) (faults byteFault (componentsIn n g)))
 
 -- first the limit, on the whole output's length; then the header; then the records in their order; then the tag
-unfoldable pub fault : List ℕ → HeaderPlaces → Ending → List RecordRow → ℕ
-fault text h t gs =
+unfoldable pub otherFault : List ℕ → HeaderPlaces → Ending → List RecordRow → ℕ
+otherFault text h t gs =
     pick (leb (size h t gs) limit)
     (firstOf (headFault text h (length gs)) (firstOf (faults (colourFault text (componentsOf (h .space))) gs) (endingFault t)))
     1
+
+-- an ink that is not the one with a number is 14
+abbrev pub unlessInk : ℕ → RecordRow → ℕ
+unlessInk k g = pick (eqb (g .ink) k) 0 14
+
+-- the ink of every record is the one that the tag states; another tag is refused before
+abbrev pub inkFault : Ending → RecordRow → ℕ
+inkFault (tagged t) g = unlessInk (inkNumber (tagInk t)) g
+inkFault (other v) g = 0
+
+-- after all these the inks
+unfoldable pub fault : List ℕ → HeaderPlaces → Ending → List RecordRow → ℕ
+fault text h t gs = firstOf (otherFault text h t gs) (faults (inkFault t) gs)
 
 -- ---- the answer
 

@@ -9,12 +9,12 @@ ghost use Rattle.algebra.specs.Reader.{pick, limit};
 ghost use Rattle.algebra.specs.Faults.{faults};
 ghost use Rattle.algebra.specs.Writing.{bytes, refused};
 ghost use Rattle.acb_judge.specs.Answer.{toldText, toldHeader, toldTag};
-ghost use Rattle.acb_write_judge.specs.Writing.{componentsIn, stringSize, tagSize, endingSize, headSize, size, textFault, byteFault, headFault, colourFault, fault, needed};
+ghost use Rattle.acb_write_judge.specs.Writing.{componentsIn, stringSize, tagSize, endingSize, headSize, size, textFault, byteFault, headFault, colourFault, unlessInk, inkFault, needed};
 ghost use Rattle.algebra.specs.Table.{rows, whole};
 ghost use Rattle.acb.specs.Row.{width, taken};
 ghost use Rattle.fields.specs.Answer.{toldWritten};
 ghost use Rattle.acb_write_judge.specs.Parts.{toldRecord, recordIn};
-ghost use Rattle.acb_write_judge.specs.scaffold.Parts.{givenAt};
+ghost use Rattle.acb_write_judge.specs.scaffold.Parts.{givenAt, neededApart};
 ghost use Rattle.acb_write_judge.specs.Answer.{toldEnding};
 use acb::WIDTH;
 use acb_judge::Header;
@@ -22,7 +22,7 @@ use acb_judge::Tag;
 use acb_judge::Text;
 use fields::Written;
 
-// A record of a run: where its name lies, its six code bytes and four components.
+// A record of a run: where its name lies, its six code bytes, four components, and its ink.
 pub struct Record {
     pub name: Text,
     pub code0: u32,
@@ -35,6 +35,7 @@ pub struct Record {
     pub component1: u32,
     pub component2: u32,
     pub component3: u32,
+    pub ink: u32,
 }
 
 // How a book to be written ends: as a file may end, or with another tag, which is refused.
@@ -67,6 +68,7 @@ fn whole_at(run: &[u32], k: usize) -> Record
         component1: row[9],
         component2: row[10],
         component3: row[11],
+        ink: row[12],
     }
 }
 
@@ -85,6 +87,7 @@ fn no_record() -> Record
         component1: 0,
         component2: 0,
         component3: 0,
+        ink: 0,
     }
 }
 
@@ -297,9 +300,9 @@ fn colours_fault(run: &[u32], text: &[u8], count: usize, n: usize) -> u32
     0
 }
 
-// The exact length that writing needs, or the refusal.
-pub fn write_length(header: Header, ending: Ending, records: &[u32], text: &[u8]) -> Written
-    ensures { λ r. ⌜ toldWritten r ≡ needed (now (text .entry)) (toldHeader header) (toldEnding ending) (whole width taken (now (records .entry))) ⌝ }
+// The exact length that writing needs, or the refusal, apart from the inks.
+fn length_of(header: Header, ending: Ending, records: &[u32], text: &[u8]) -> Written
+    ensures { λ r. ⌜ toldWritten r ≡ neededApart (now (text .entry)) (toldHeader header) (toldEnding ending) (whole width taken (now (records .entry))) ⌝ }
 {
     let n = records.len() / WIDTH;
     let Written::Bytes(size) = size_of(header, ending, records, n) else {
@@ -316,5 +319,63 @@ pub fn write_length(header: Header, ending: Ending, records: &[u32], text: &[u8]
     match ending {
         Ending::Other => Written::Refused(3),
         Ending::Tagged(_) => Written::Bytes(size),
+    }
+}
+
+// ---- inks
+
+// The fault of a record's ink, where the book's tag states the ink with a number.
+fn ink_fault(given: Record, ink: u32) -> u32
+    ensures { λ r. ⌜ r ≡ unlessInk ink (toldRecord given) ⌝ }
+{
+    if given.ink == ink {
+        return 0;
+    }
+    14
+}
+
+// The first fault of the n inks.
+fn inks_fault(run: &[u32], n: usize, ink: u32) -> u32
+    requires { ⌜ width * n ≤ length (now run) ⌝ }
+    ensures { λ r. ⌜ r ≡ faults (unlessInk ink) (rows width taken (now (run .entry)) n 0) ⌝ }
+{
+    let mut i: usize = 0;
+    while i < n {
+        let x = ink_fault(whole_at(run, i), ink);
+        if x != 0 {
+            return x;
+        }
+        i += 1;
+    }
+    0
+}
+
+// The first fault of the inks of a book that ends so. Another tag was refused before.
+fn inks_of(ending: Ending, records: &[u32]) -> u32
+    ensures { λ r. ⌜ r ≡ faults (inkFault (toldEnding ending)) (whole width taken (now (records .entry))) ⌝ }
+{
+    match ending {
+        Ending::Other => 0,
+        Ending::Tagged(tag) => inks_fault(
+            records,
+            records.len() / WIDTH,
+            acb_judge::ink_of(tag).number(),
+        ),
+    }
+}
+
+// The exact length that writing needs, or the refusal.
+pub fn write_length(header: Header, ending: Ending, records: &[u32], text: &[u8]) -> Written
+    ensures { λ r. ⌜ toldWritten r ≡ needed (now (text .entry)) (toldHeader header) (toldEnding ending) (whole width taken (now (records .entry))) ⌝ }
+{
+    match length_of(header, ending, records, text) {
+        Written::Refused(x) => Written::Refused(x),
+        Written::Bytes(size) => {
+            let x = inks_of(ending, records);
+            if x != 0 {
+                return Written::Refused(x);
+            }
+            Written::Bytes(size)
+        }
     }
 }

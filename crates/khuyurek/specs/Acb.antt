@@ -72,13 +72,13 @@ answerOf (refused x p r f) = record { number = x; place = p; count = 0; header =
 abbrev pub readOf : Verdict Report × List ℕ → AcbAnswer × List ℕ
 readOf v = (answerOf (v .0), v .1)
 
--- a record's code and components beside where its name lies, or the refusal
-abbrev pub placed : List ℕ → List ℕ → Verdict (ℕ × ℕ) → AcbRecord
-placed cs ks (accepted l) = record { number = 0; units = l .1; place = 0; name = l .0; code = cs; components = ks }
-placed cs ks (refused x p r f) = record { number = x; units = 0; place = p; name = 0; code = cs; components = ks }
+-- a record's code, components and ink beside where its name lies, or the refusal
+abbrev pub placed : List ℕ → List ℕ → ℕ → Verdict (ℕ × ℕ) → AcbRecord
+placed cs ks k (accepted l) = record { number = 0; units = l .1; place = 0; name = l .0; code = cs; components = ks; ink = k }
+placed cs ks k (refused x p r f) = record { number = x; units = 0; place = p; name = 0; code = cs; components = ks; ink = k }
 
 abbrev pub recordOf : record-of.RecordPlaces → AcbRecord
-recordOf w = placed (w .code) (w .components) (w .name)
+recordOf w = placed (w .code) (w .components) (w .ink) (w .name)
 
 -- ---- what a book shows
 

@@ -1,16 +1,16 @@
 // ACB colour books for C.
 ghost use mathlib.Core.Path.{_≡_};
+ghost use mathlib.Core.List.{[]};
 ghost use Rattle.acb.specs.Reading.{acb};
 ghost use Rattle.acb_judge.specs.Answer.{report, told, toldTag, toldHeader};
-ghost use Rattle.acb_read.specs.Table.{entriesOf, blank};
-ghost use Rattle.acb_read.specs.Answer.{recordPlaces};
+ghost use Rattle.acb_read.specs.Answer.{places};
 ghost use Rattle.acb_shown_values.specs.Components.{shownComponent};
 ghost use Rattle.acb_shown_values.specs.Texts.{shownStart};
 ghost use Rattle.acb_shown_values.specs.Answer.{toldPage};
 ghost use Rattle.acb_shown_file.specs.View.{shownAt, pageAt, fullLength, fullNameAt};
 ghost use Rattle.acb_shown_file.specs.Answer.{toldCount};
 ghost use Rattle.algebra.specs.Table.{verdict, filled, recordAt, whole};
-ghost use Rattle.acb.specs.Row.{width, taken, row};
+ghost use Rattle.acb.specs.Row.{width, numbers, taken, recordsOf};
 ghost use Rattle.acb_write_judge.specs.Answer.{toldEnding};
 ghost use Rattle.khuyurek.specs.Acb.{numberOf, headerOf, noHeader, answerOf, readOf, recordOf, fourOf, shownOf, fullOf, fullReadOf, pageOf, pageInOf, givenOf, tagOf, lengthOf, wroteOf};
 use crate::Length;
@@ -55,8 +55,8 @@ pub struct AcbAnswer {
     pub header: AcbHeader,
 }
 
-// Number 0 is accepted, with the place of the name's first unit, its units, the code and the
-// components; else the refusal.
+// Number 0 is accepted, with the place of the name's first unit, its units, the code, the components
+// and the ink; else the refusal.
 #[repr(C)]
 pub struct AcbRecord {
     pub number: u32,
@@ -65,6 +65,7 @@ pub struct AcbRecord {
     pub name: usize,
     pub code: [u8; 6],
     pub components: [u8; 4],
+    pub ink: u32,
 }
 
 fn number_of(t: Tag) -> u32
@@ -153,10 +154,10 @@ pub extern "C" fn khuyurek_acb_judge(file: &[u8]) -> AcbAnswer
     exported(acb_judge::judge(file))
 }
 
-// Reads a book into a table, twelve numbers a record.
+// Reads a book into a table, thirteen numbers a record.
 #[no_mangle]
 pub extern "C" fn khuyurek_acb_read(file: &[u8], table: &mut [u32]) -> AcbAnswer
-    ensures { λ r. ⌜ (r, now (table .exit)) ≡ readOf (filled width row entriesOf report (acb (now (file .entry))) (now (table .entry))) ⌝ }
+    ensures { λ r. ⌜ (r, now (table .exit)) ≡ readOf (filled width numbers recordsOf report (acb (now (file .entry))) (now (table .entry))) ⌝ }
 {
     exported(acb_read::read(file, table))
 }
@@ -164,12 +165,14 @@ pub extern "C" fn khuyurek_acb_read(file: &[u8], table: &mut [u32]) -> AcbAnswer
 // Record i of a book.
 #[no_mangle]
 pub extern "C" fn khuyurek_acb_record_at(file: &[u8], i: usize) -> AcbRecord
-    ensures { λ r. ⌜ r ≡ recordOf (recordPlaces (recordAt entriesOf blank i (acb (now (file .entry))))) ⌝ }
+    ensures { λ r. ⌜ r ≡ recordOf (places (recordAt recordsOf (taken []) i (acb (now (file .entry))))) ⌝ }
 {
     let swatch = acb_read::record_at(file, i);
     let code = swatch.code;
     let components = swatch.components;
     let name = swatch.name;
+    let stated = swatch.ink;
+    let ink = stated.number();
     match name {
         NamePlace::At { place, units } => AcbRecord {
             number: 0,
@@ -178,6 +181,7 @@ pub extern "C" fn khuyurek_acb_record_at(file: &[u8], i: usize) -> AcbRecord
             name: place,
             code,
             components,
+            ink,
         },
         NamePlace::Refused { number, place } => AcbRecord {
             number,
@@ -186,6 +190,7 @@ pub extern "C" fn khuyurek_acb_record_at(file: &[u8], i: usize) -> AcbRecord
             name: 0,
             code,
             components,
+            ink,
         },
     }
 }

@@ -14,7 +14,7 @@ use std::collections::BTreeSet;
 
 const CANARY: u32 = 0xC0FF_EE11;
 const BYTE_CANARY: u8 = 0xA5;
-const ROW_LEN: usize = 12;
+const ROW_LEN: usize = 13;
 
 fn refused(number: u32, place: usize) -> Refusal {
     Refusal {
@@ -72,10 +72,10 @@ fn anpa_is_read() {
     let mut table = [CANARY; 2 * ROW_LEN + 3];
     assert_eq!(read(&ANPA, &mut table), Ok(accepted));
     let first = [
-        0x128, 4, 0x20, 0x37, 0x31, 0x2D, 0x31, 0x44, 0xF8, 0x7B, 0x7B, 0,
+        0x128, 4, 0x20, 0x37, 0x31, 0x2D, 0x31, 0x44, 0xF8, 0x7B, 0x7B, 0, 4,
     ];
     let second = [
-        0x13D, 4, 0x20, 0x37, 0x31, 0x2D, 0x32, 0x44, 0xF1, 0x78, 0x78, 0,
+        0x13D, 4, 0x20, 0x37, 0x31, 0x2D, 0x32, 0x44, 0xF1, 0x78, 0x78, 0, 4,
     ];
     assert_eq!(table[..ROW_LEN], first);
     assert_eq!(table[ROW_LEN..2 * ROW_LEN], second);
@@ -84,6 +84,7 @@ fn anpa_is_read() {
         name: text(0x13D, 4),
         code: *b" 71-2D",
         components: [0xF1, 0x78, 0x78, 0],
+        ink: 4,
     };
     assert_eq!(record(&ANPA, 1), Ok(second));
     assert_eq!(record(&ANPA, 2), Err(refused(12, 0)));
@@ -219,7 +220,10 @@ fn made_up_books_are_read() {
             assert_eq!(row[0] as usize, layout.colours[index] + 4);
             assert_eq!(row[1] as usize, colour.name.len());
             assert!(row[2..8].iter().eq(colour.code.map(u32::from).iter()));
-            assert!(row[8..].iter().eq(colour.components.map(u32::from).iter()));
+            assert!(row[8..12]
+                .iter()
+                .eq(colour.components.map(u32::from).iter()));
+            assert_eq!(row[12], [4, 1, 3][book.tag as usize]);
         }
     }
 }

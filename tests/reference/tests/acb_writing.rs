@@ -7,11 +7,11 @@ use reference::{Refusal, LIMIT};
 use std::collections::BTreeSet;
 
 const CANARY: u8 = 0xA5;
-const ROW_LEN: usize = 12;
+const ROW_LEN: usize = 13;
 const JUNK: u32 = 0x9E37_79B9;
 
 /// An RGB colour with a name of one unit, at the text's start.
-const NAMED: [u32; ROW_LEN] = [0, 1, 32, 32, 32, 32, 32, 32, 1, 2, 3, 0];
+const NAMED: [u32; ROW_LEN] = [0, 1, 32, 32, 32, 32, 32, 32, 1, 2, 3, 0, 4];
 const TEXT: [u8; 2] = [0x00, 0x41];
 
 fn refused(number: u32) -> Refusal {
@@ -33,6 +33,15 @@ fn bare(space: u16) -> Header {
 
 fn tag(number: u32) -> Tag {
     Tag::ALL.get(number as usize).copied().unwrap_or(Tag::Other)
+}
+
+/// The ink that a tag states, by its number.
+fn ink(tag: u32) -> u32 {
+    match tag {
+        1 => 1,
+        2 => 3,
+        _ => 4,
+    }
 }
 
 fn header(made: &acb::Header) -> Header {
@@ -139,7 +148,7 @@ fn faults_come_in_turn() {
     header.space = 7;
     assert_eq!(outcome(&header, most), Ok(32 + 8 + 65_535 * 15));
 
-    let mut record = [1, 1, 32, 256, 32, 32, 32, 32, 256, 2, 3, JUNK];
+    let mut record = [1, 1, 32, 256, 32, 32, 32, 32, 256, 2, 3, JUNK, 4];
     assert_eq!(outcome(&header, &record), Err(refused(2)));
     record[0] = 0;
     assert_eq!(outcome(&header, &record), Err(refused(5)));
@@ -204,7 +213,7 @@ fn a_remainder_and_a_spare_component_are_left_alone() {
     assert_eq!(write(&bare(7), &records, &TEXT, &mut out), Ok(47));
     let mut table = [JUNK; ROW_LEN];
     read(&out, &mut table).unwrap();
-    assert_eq!(table, [36, 1, 32, 32, 32, 32, 32, 32, 1, 2, 3, 0]);
+    assert_eq!(table, [36, 1, 32, 32, 32, 32, 32, 32, 1, 2, 3, 0, 4]);
 }
 
 #[test]
@@ -264,6 +273,40 @@ fn another_tag_is_judged_last() {
     assert_eq!(write(&other, &NAMED, &TEXT, &mut out), Err(refused(3)));
     assert_eq!(write(&other, &NAMED, &TEXT, &mut []), Err(refused(3)));
     assert_eq!(out, [CANARY; 100]);
+}
+
+#[test]
+fn every_record_has_the_ink_that_the_tag_states() {
+    for tag_number in 0..4 {
+        let mut header = bare(0);
+        header.tag = tag(tag_number);
+        for other in [0, 1, 2, 3, 4, 5, 0x104, 0x1_0001, u32::MAX] {
+            for index in 0..2 {
+                let mut rows = [NAMED; 2];
+                rows.iter_mut().for_each(|row| row[12] = ink(tag_number));
+                rows[index][12] = other;
+                let wanted = match tag_number {
+                    3 => Err(refused(3)),
+                    _ if other != ink(tag_number) => Err(refused(14)),
+                    0 => Ok(62),
+                    _ => Ok(70),
+                };
+                assert_eq!(length(&header, &rows.concat(), &TEXT), wanted);
+                // A dummy has its ink, too.
+                rows[index][1] = 0;
+                let wanted = wanted.map(|length| length - 2);
+                assert_eq!(length(&header, &rows.concat(), &TEXT), wanted);
+                rows[1 - index][2] = 256;
+                assert_eq!(length(&header, &rows.concat(), &TEXT), Err(refused(5)));
+            }
+        }
+    }
+    let mut out = [CANARY; 47];
+    let mut record = NAMED;
+    record[12] = 1;
+    assert_eq!(write(&bare(0), &record, &TEXT, &mut out), Err(refused(14)));
+    assert_eq!(write(&bare(0), &record, &TEXT, &mut []), Err(refused(14)));
+    assert_eq!(out, [CANARY; 47]);
 }
 
 #[test]
@@ -329,11 +372,18 @@ fn the_writer_judges_as_the_reader_judges_the_bytes() {
         let outcome = length(&header(&lot.header), &lot.records, &lot.text);
         let number = outcome.map_err(|refusal| refusal.number);
         let judged = judge(&file).map_err(|refusal| refusal.number);
-        assert_eq!(number, judged.map(|_| file.len()), "{lot:?}");
+        // The bytes have one ink, that of the tag.
+        let ink = ink(lot.header.tag);
+        let other = lot.records.chunks_exact(ROW_LEN).any(|row| row[12] != ink);
+        let wanted = match judged {
+            Ok(_) if other => Err(14),
+            judged => judged.map(|_| file.len()),
+        };
+        assert_eq!(number, wanted, "{lot:?}");
         reached.extend(number.err());
     }
     assert!(made > 8_000, "{made} lots");
-    assert_eq!(reached, BTreeSet::from([3, 4, 5]));
+    assert_eq!(reached, BTreeSet::from([3, 4, 5, 14]));
 }
 
 #[test]
@@ -350,5 +400,5 @@ fn damaged_lots_never_panic() {
             }
         }
     }
-    assert_eq!(reached, BTreeSet::from([1, 2, 3, 4, 5, 11]));
+    assert_eq!(reached, BTreeSet::from([1, 2, 3, 4, 5, 11, 14]));
 }

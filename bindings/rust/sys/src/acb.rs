@@ -47,6 +47,7 @@ pub struct Record {
     pub name: usize,
     pub code: [u8; 6],
     pub components: [u8; 4],
+    pub ink: u32,
 }
 
 /// What a record's components show: three or four of them, the rest 0.

@@ -1,7 +1,8 @@
+use Rattle.acb.specs.Reading.{acb}
 use mathlib.Core.Path.{sym, ap, _∙_}
 use native.Mathlib.Omega.{arith}
 use Rattle.acb_read.specs.Answer.{toldPlace, RecordPlaces}
-use Rattle.acb_read.proofs.Answers.{name-in, name-part, name-none}
+use Rattle.acb_read.proofs.Answers.{name-in, name-part, name-none, same-places}
 use borrow.Author.Needs.{needs}
 use Rattle.acb_read.proofs.name_at.Statement.{statement}
 use Rattle.acb_read.proofs.name_at.Tie as tie
@@ -22,7 +23,7 @@ add-end : tie.Need-add-end
 add-end c =
     let r = c .before .before .before in
     let st = r .before .before in
-    let h = name-in (st .args .file .now) (st .args .i) _ _ (sym (ap toldPlace (c .before .name .given .1)) ∙ ap (λ (w : RecordPlaces). w .name) (r .record-at .ensures)) in
+    let h = name-in (st .args .file .now) (st .args .i) _ _ (sym (ap toldPlace (c .before .name .given .1)) ∙ ap (λ (w : RecordPlaces). w .name) (r .record-at .ensures) ∙ same-places (st .args .i) (acb (st .args .file .now)) .0) in
     omega arith
 
 sub-result : tie.Need-sub-result
@@ -35,7 +36,7 @@ part-result-end : tie.Need-part-result-end
 part-result-end c =
     let r = c .before .before .before in
     let st = r .before .before in
-    let h = name-in (st .args .file .now) (st .args .i) _ _ (sym (ap toldPlace (c .before .name .given .1)) ∙ ap (λ (w : RecordPlaces). w .name) (r .record-at .ensures)) in
+    let h = name-in (st .args .file .now) (st .args .i) _ _ (sym (ap toldPlace (c .before .name .given .1)) ∙ ap (λ (w : RecordPlaces). w .name) (r .record-at .ensures) ∙ same-places (st .args .i) (acb (st .args .file .now)) .0) in
     omega arith
 
 enum-told : tie.Need-enum-told
@@ -48,13 +49,13 @@ returns : tie.Need-returns
 returns c =
     let r = c .before .before .before .before in
     let st = r .before .before in
-    name-part (st .args .file .now) (st .args .i) _ _ (sym (ap toldPlace (c .before .before .name .given .1)) ∙ ap (λ (w : RecordPlaces). w .name) (r .record-at .ensures))
+    name-part (st .args .file .now) (st .args .i) _ _ (sym (ap toldPlace (c .before .before .name .given .1)) ∙ ap (λ (w : RecordPlaces). w .name) (r .record-at .ensures) ∙ same-places (st .args .i) (acb (st .args .file .now)) .0)
 
 returns-2 : tie.Need-returns-2
 returns-2 c =
     let r = c .before .before .before in
     let st = r .before .before in
-    name-none (st .args .file .now) (st .args .i) _ _ _ _ (sym (ap toldPlace (c .before .enum-told .given .1)) ∙ ap (λ (w : RecordPlaces). w .name) (r .record-at .ensures))
+    name-none (st .args .file .now) (st .args .i) _ _ _ _ (sym (ap toldPlace (c .before .enum-told .given .1)) ∙ ap (λ (w : RecordPlaces). w .name) (r .record-at .ensures) ∙ same-places (st .args .i) (acb (st .args .file .now)) .0)
 
 pub name-at-spec : {M : Type 1} → statement M
 name-at-spec =

@@ -9,10 +9,10 @@ use Rattle.acb_read.proofs.put_numbers.Statement.{statement}
 use Rattle.acb_read.proofs.put_numbers.Tie as tie
 
 abbrev Inv-loop : tie.InvT-loop
-Inv-loop table₀ to row i₀ table i = (i ≤ 12) × (sets table₀ to row ≡ sets table (to + i) (drop i row)) × (length table ≡ length table₀)
+Inv-loop table₀ to row i₀ table i = (i ≤ 13) × (sets table₀ to row ≡ sets table (to + i) (drop i row)) × (length table ≡ length table₀)
 
 abbrev μ-loop : tie.MeasureT-loop
-μ-loop table₀ to row i₀ table i = 12 - i
+μ-loop table₀ to row i₀ table i = 13 - i
 
 loop-holds : tie.Need-loop-holds Inv-loop μ-loop
 loop-holds c = (omega arith, copy-start _ (c .args .t3) (c .args .table .now) (c .args .to) 0 refl, refl)
@@ -43,9 +43,9 @@ loop-again c =
     let l = c .before .loop in
     let s = c .before .before in
     let a = s .args in
-    let twelve : length (s .args .t3) ≡ 12 = search needs in (
+    let thirteen : length (s .args .t3) ≡ 13 = search needs in (
       omega arith,
-      copy-turn _ (a .t3) (l .table) (a .to) (l .i) (l .inv .1) (omega (arith, twelve)),
+      copy-turn _ (a .t3) (l .table) (a .to) (l .i) (l .inv .1) (omega (arith, thirteen)),
       length-set (l .table) (a .to + l .i) _ ∙ l .inv .2,
     )
 
@@ -57,8 +57,8 @@ returns c =
     let l = c .before .loop in
     let s = c .before .before in
     let a = s .args in
-    let twelve : length (s .args .t3) ≡ 12 = search needs in
-    sym (copy-end _ (a .t3) (l .table) (a .to) (l .i) (l .inv .1) (omega (arith, twelve, c .loop-test .left)))
+    let thirteen : length (s .args .t3) ≡ 13 = search needs in
+    sym (copy-end _ (a .t3) (l .table) (a .to) (l .i) (l .inv .1) (omega (arith, thirteen, c .loop-test .left)))
 
 pub put-numbers-spec : {M : Type 1} → statement M
 put-numbers-spec =

@@ -10,8 +10,8 @@ use Rattle.acb_read.proofs.put_row.Tie as tie
 text-place-requires : tie.Need-text-place-requires
 text-place-requires c κs = search needs
 
-cast-t11 : tie.Need-cast-t11
-cast-t11 c = omega (arith, ap (λ (l : ℕ × ℕ). l .0) (c .before .before .text-place .ensures), c .before .before .before .before .before .before .pre .1)
+cast-t12 : tie.Need-cast-t12
+cast-t12 c = omega (arith, ap (λ (l : ℕ × ℕ). l .0) (c .before .before .text-place .ensures), c .before .before .before .before .before .before .pre .1)
 
 array-read-wide : tie.Need-array-read-wide
 array-read-wide c = search needs
@@ -73,6 +73,9 @@ array-read-wide-10 c = search needs
 wide-requires-10 : tie.Need-wide-requires-10
 wide-requires-10 c κs = search needs
 
+number-requires : tie.Need-number-requires
+number-requires c κs = search needs
+
 put-numbers-requires : tie.Need-put-numbers-requires
 put-numbers-requires c κs = search needs
 
@@ -81,18 +84,19 @@ same-length c = search needs
 
 returns : tie.Need-returns
 returns c =
-    let w = c .before .before in
-    let l = c .before .before .before .before .before .before .before .before .before .before .before .before .before .before .before .text-place .ensures in
-    let a = c .before .before .before .before .before .before .before .before .before .before .before .before .before .before .before .before .before .before .before .args in
-    w .put-numbers .ensures
-    ∙ λ i. sets (a .table .now) (a .to) (l i .0 ∷ l i .1 ∷ c .before .before .before .before .before .before .before .before .before .before .before .before .wide .ensures .0 i ∷ c .before .before .before .before .before .before .before .before .before .before .before .wide2 .ensures .0 i ∷ c .before .before .before .before .before .before .before .before .before .before .wide3 .ensures .0 i ∷ c .before .before .before .before .before .before .before .before .before .wide4 .ensures .0 i ∷ c .before .before .before .before .before .before .before .before .wide5 .ensures .0 i ∷ c .before .before .before .before .before .before .before .wide6 .ensures .0 i ∷ c .before .before .before .before .before .before .wide7 .ensures .0 i ∷ c .before .before .before .before .before .wide8 .ensures .0 i ∷ c .before .before .before .before .wide9 .ensures .0 i ∷ c .before .before .before .wide10 .ensures .0 i ∷ [])
+    let n = c .before .before .before in
+    let t = n .before .before .before .before .before .before .before .before .before .before .before .before .before in
+    let l = t .text-place .ensures in
+    let a = t .before .before .before .before .args in
+    c .before .before .put-numbers .ensures
+    ∙ λ i. sets (a .table .now) (a .to) (l i .0 ∷ l i .1 ∷ n .before .before .before .before .before .before .before .before .before .before .wide .ensures .0 i ∷ n .before .before .before .before .before .before .before .before .before .wide2 .ensures .0 i ∷ n .before .before .before .before .before .before .before .before .wide3 .ensures .0 i ∷ n .before .before .before .before .before .before .before .wide4 .ensures .0 i ∷ n .before .before .before .before .before .before .wide5 .ensures .0 i ∷ n .before .before .before .before .before .wide6 .ensures .0 i ∷ n .before .before .before .before .wide7 .ensures .0 i ∷ n .before .before .before .wide8 .ensures .0 i ∷ n .before .before .wide9 .ensures .0 i ∷ n .before .wide10 .ensures .0 i ∷ n .number .ensures i ∷ [])
 
 pub put-row-spec : {M : Type 1} → statement M
 put-row-spec =
     tie.close
     (tie.spec
     text-place-requires
-    cast-t11
+    cast-t12
     array-read-wide
     wide-requires
     array-read-wide-2
@@ -113,6 +117,7 @@ put-row-spec =
     wide-requires-9
     array-read-wide-10
     wide-requires-10
+    number-requires
     put-numbers-requires
     same-length
     returns)

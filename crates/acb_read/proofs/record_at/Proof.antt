@@ -1,13 +1,15 @@
+use mathlib.Core.List.{[]}
+use Rattle.colour.specs.Inks.{inkNumber}
+use Rattle.acb.specs.Row.{taken, recordsOf}
 use Prim.Native.Nat.{ℕ}
 use mathlib.Core.Path.{refl, sym, ap, _∙_}
 use native.Mathlib.Omega.{arith}
 use Rattle.algebra.proofs.Table.{accepted-of, record-refused, record-none}
 use Rattle.acb.specs.Reading.{acb}
 use Rattle.acb_judge.specs.Answer.{Report, report, told}
-use Rattle.acb_read.specs.Table.{entriesOf, blank}
-use Rattle.acb_read.specs.Answer.{RecordPlaces, recordPlaces}
+use Rattle.acb_read.specs.Answer.{RecordPlaces, recordPlaces, places, withInk}
 use Rattle.acb_read.specs.Walked.{step}
-use Rattle.acb_read.proofs.Answers.{record-walked}
+use Rattle.acb_read.proofs.Answers.{record-walked, record-stated, count-records}
 use borrow.Author.Needs.{needs}
 use Rattle.acb_read.proofs.record_at.Statement.{statement}
 use Rattle.acb_read.proofs.record_at.Tie as tie
@@ -33,7 +35,7 @@ returns c =
     let j = v .before .before in
     let a = j .before .before .args in
     let e = accepted-of report (acb (a .file .now)) (sym (ap told (v .header .given .1)) ∙ j .judge .ensures) in
-    c .none2 .ensures ∙ ap recordPlaces (record-none entriesOf report (λ (r : Report). r .count) (λ x. refl) (acb (a .file .now)) blank (a .i) e (omega (arith, c .before .if1 .taken)))
+    c .none2 .ensures ∙ ap places (record-none recordsOf report (λ (r : Report). r .count) count-records (acb (a .file .now)) (taken []) (a .i) e (omega (arith, c .before .if1 .taken)))
 
 place-at-requires : tie.Need-place-at-requires
 place-at-requires c κs = search needs
@@ -46,16 +48,27 @@ returns-2 c =
     let x = c .before .before in
     let j = x .before .before in
     let a = j .before .before .args in
-    c .none .ensures ∙ ap recordPlaces (record-refused entriesOf report (λ (r : Report). r .count) (λ y. refl) (acb (a .file .now)) blank (a .i) (sym (ap told (x .number .given .1)) ∙ j .judge .ensures))
+    c .none .ensures ∙ ap places (record-refused recordsOf report (λ (r : Report). r .count) count-records (acb (a .file .now)) (taken []) (a .i) (sym (ap told (x .number .given .1)) ∙ j .judge .ensures))
+
+ink-of-requires : tie.Need-ink-of-requires
+ink-of-requires c κs = search needs
+
+inked-requires : tie.Need-inked-requires
+inked-requires c κs = search needs
 
 returns-3 : tie.Need-returns-3
 returns-3 c =
-    let v = c .before .before .before .before .before in
+    let k = c .before .ink-of in
+    let d = c .before .before in
+    let v = d .before .before .before .before in
     let j = v .before .before in
     let a = j .before .before .args in
     let s = a .file .now in
     let e = accepted-of report (acb s) (sym (ap told (v .header .given .1)) ∙ j .judge .ensures) in
-    ap (λ (w : RecordPlaces × ℕ). w .0) (c .before .step-at .ensures) ∙ ap (λ (p : ℕ). step (v .header .given .0 .0 .space) s p .0) (c .before .before .place-at .ensures) ∙ record-walked s e (a .i) (omega (arith, c .before .before .before .if1 .left))
+    c .inked .ensures
+    ∙ ap (withInk (inkNumber (k .result)))
+    (ap (λ (w : RecordPlaces × ℕ). w .0) (d .step-at .ensures) ∙ ap (λ (p : ℕ). step (v .header .given .0 .0 .space) s p .0) (d .before .place-at .ensures) ∙ record-walked s e (a .i) (omega (arith, d .before .before .if1 .left)))
+    ∙ record-stated s e (a .i) (omega (arith, d .before .before .if1 .left)) (inkNumber (k .result)) (ap inkNumber (k .ensures))
 
 pub record-at-spec : {M : Type 1} → statement M
 record-at-spec =
@@ -69,5 +82,7 @@ record-at-spec =
     returns
     place-at-requires
     step-at-requires
+    ink-of-requires
+    inked-requires
     returns-2
     returns-3)

@@ -68,18 +68,18 @@ add-t31 c = search needs
 shared-slice-read-t33 : tie.Need-shared-slice-read-t33
 shared-slice-read-t33 c = search needs
 
-add-t37 : tie.Need-add-t37
-add-t37 c = search needs
-
 add-t38 : tie.Need-add-t38
 add-t38 c = search needs
+
+add-t39 : tie.Need-add-t39
+add-t39 c = search needs
 
 returns : tie.Need-returns
 returns c =
     let a = c .before .before .before .before .before .before .before .before .before .before .before .args in
     let s = a .file .now in
     let k = a .first + 2 * a .units in
-    ap (λ (d : ℕ). (record { name = accepted (a .first, a .units); code = six s k; components = getD s (k + 6) 0 ∷ getD s (k + 7) 0 ∷ getD s (k + 8) 0 ∷ d ∷ [] }, k + 6 + a .n)) (c .before .before .before .before .before .before .before .before .before .fourth-at .ensures)
+    ap (λ (d : ℕ). (record { name = accepted (a .first, a .units); code = six s k; components = getD s (k + 6) 0 ∷ getD s (k + 7) 0 ∷ getD s (k + 8) 0 ∷ d ∷ []; ink = 4 }, k + 6 + a .n)) (c .before .before .before .before .before .before .before .before .before .fourth-at .ensures)
 
 pub whole-at-spec : {M : Type 1} → statement M
 whole-at-spec =
@@ -105,6 +105,6 @@ whole-at-spec =
     shared-slice-read-t30
     add-t31
     shared-slice-read-t33
-    add-t37
     add-t38
+    add-t39
     returns)

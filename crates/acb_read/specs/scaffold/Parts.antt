@@ -15,7 +15,7 @@ fourthAt n s c = pick (eqb n 4) (getD s (c + 9) 0) 0
 
 -- the record whose name has u units from p on and whose code stands at c, and the place behind it
 abbrev pub codedAt : ℕ → List ℕ → ℕ → ℕ → ℕ → RecordPlaces × ℕ
-codedAt n s p u c = (record { name = accepted (p, u); code = six s c; components = getD s (c + 6) 0 ∷ getD s (c + 7) 0 ∷ getD s (c + 8) 0 ∷ fourthAt n s c ∷ [] }, c + 6 + n)
+codedAt n s p u c = (record { name = accepted (p, u); code = six s c; components = getD s (c + 6) 0 ∷ getD s (c + 7) 0 ∷ getD s (c + 8) 0 ∷ fourthAt n s c ∷ []; ink = 4 }, c + 6 + n)
 
 abbrev pub wholeAt : ℕ → List ℕ → ℕ → ℕ → RecordPlaces × ℕ
 wholeAt n s p u = codedAt n s p u (p + 2 * u)

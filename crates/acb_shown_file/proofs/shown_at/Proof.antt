@@ -1,3 +1,4 @@
+use Rattle.acb_read.proofs.Answers.{same-places}
 use borrow.Author.Needs.{needs}
 use mathlib.Core.Path.{sym, ap, _∙_}
 use Rattle.acb.specs.Reading.{acb}
@@ -43,7 +44,7 @@ returns-2 c =
 returns-3 : tie.Need-returns-3
 returns-3 c =
     let w = c .before .before .before .before .before in
-    c .values .ensures ∙ values-are _ (file-is w) (w .before .before .before .before .args .i) (c .before .before .before .if1 .left) _ (ap (λ (y : RecordPlaces). y .components) (c .before .before .record-at .ensures))
+    c .values .ensures ∙ values-are _ (file-is w) (w .before .before .before .before .args .i) (c .before .before .before .if1 .left) _ (ap (λ (y : RecordPlaces). y .components) (c .before .before .record-at .ensures) ∙ same-places (w .before .before .before .before .args .i) (acb (w .before .before .before .before .args .file .now)) .1)
 
 pub shown-at-spec : {M : Type 1} → statement M
 shown-at-spec =

@@ -65,9 +65,12 @@ shared-slice-read-t32 c = search needs
 shared-slice-read-t34 : tie.Need-shared-slice-read-t34
 shared-slice-read-t34 c = search needs
 
+shared-slice-read-t36 : tie.Need-shared-slice-read-t36
+shared-slice-read-t36 c = search needs
+
 returns : tie.Need-returns
 returns c =
-    let w = c .before .before .before .before .before .before .before .before .before .before .before in
+    let w = c .before .before .before .before .before .before .before .before .before .before .before .before in
     let a = w .before .before .before .before .args in
     let l : width * a .k + width - width * a .k ≡ width = omega arith in
     row-taken (a .run .now) _ (a .k) _ (ap (part (a .run .now) (width * a .k)) l) (w .wide .ensures .0)
@@ -95,4 +98,5 @@ whole-at-spec =
     shared-slice-read-t30
     shared-slice-read-t32
     shared-slice-read-t34
+    shared-slice-read-t36
     returns)

@@ -7,11 +7,16 @@ use Rattle.algebra.specs.Chars.{chars}
 use Rattle.algebra.specs.Numbers.{be, joined}
 use Rattle.algebra.specs.Reader.{pick}
 use Rattle.algebra.specs.Faults.{faults}
-use Rattle.acb.specs.Grammar.{stringBytes}
+use Rattle.algebra.specs.Writing.{Outcome, needs}
+use Rattle.acb.specs.Grammar.{stringBytes, Ending}
 use Rattle.acb_judge.specs.Answer.{HeaderPlaces}
-use Rattle.acb_write_judge.specs.Writing.{unitsIn, sizes, stringSize, sizeIn, textFault, colourFault}
+use Rattle.acb_write_judge.specs.Writing.{unitsIn, sizes, stringSize, sizeIn, size, textFault, colourFault, otherFault}
 use Rattle.algebra.specs.Table.{rowAt}
 use Rattle.acb.specs.Row.{RecordRow, width, taken}
+
+-- the length that writing needs, or the refusal, apart from the inks
+abbrev pub neededApart : List ℕ → HeaderPlaces → Ending → List RecordRow → Outcome
+neededApart text h t gs = needs (otherFault text h t gs) (size h t gs)
 
 -- record k of a run
 abbrev pub givenAt : List ℕ → ℕ → RecordRow

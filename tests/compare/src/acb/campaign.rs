@@ -10,7 +10,7 @@ use generate::acb::{
 };
 use generate::Random;
 use reference::acb::{BARE_HEAD_LEN, COMPONENTS, MAX_COLOURS, ROW_LEN, TAG_LEN};
-use reference::{number, LIMIT, UNIT_LEN};
+use reference::{ink, number, LIMIT, UNIT_LEN};
 
 /// One lot of records, and one string, for so many files.
 const FILES_A_LOT: u64 = 2;
@@ -31,6 +31,8 @@ const RGB: u16 = 0;
 const CMYK: u16 = 2;
 const LAB: u16 = 7;
 const SPACES: [u16; 4] = [0, 1, 2, 7];
+/// A dummy of an untagged book.
+const DUMMY: [u32; ROW_LEN] = [0, 0, 0, 0, 0, 0, 0, 0, 0, 0, 0, 0, ink::NOT_STATED];
 /// Positions past the fourth component, too.
 const POSITIONS: usize = 5;
 /// What a colour has besides its name's units, in CMYK.
@@ -42,6 +44,7 @@ enum Part {
     Fixed,
     Bytes,
     Numbers,
+    Inks,
     Tails,
     Pages,
     Prefixes,
@@ -69,6 +72,7 @@ pub fn run(seed: u64, files: u64) -> Checked<Tally> {
     every_component()?;
     campaign.every_byte()?;
     campaign.every_number()?;
+    campaign.every_ink()?;
     campaign.every_tail()?;
     campaign.every_page()?;
     campaign.every_prefix()?;
@@ -190,8 +194,8 @@ impl Campaign {
         Ok(())
     }
 
-    /// P9 with each number of 16 bits in its header, and a record of CMYK with
-    /// each of its bytes at each value and past what a byte holds.
+    /// P9 with each number of 16 bits in its header, and a record with each of its
+    /// bytes, and its ink, at each value and past what a byte holds.
     fn every_number(&mut self) -> Checked {
         let mut random = self.random(Part::Numbers, 0);
         for value in 0..=u16::MAX {
@@ -202,13 +206,41 @@ impl Campaign {
         for space in SPACES {
             for index in 2..ROW_LEN {
                 for value in (0..=0x101).chain([0xFFFF, 0x1_0000, u32::MAX]) {
-                    let mut records = vec![0; ROW_LEN];
+                    let mut records = DUMMY.to_vec();
                     records[index] = value;
                     let lot = Lot {
                         header: Header::bare(space),
                         records,
                         text: Vec::new(),
                     };
+                    check_lot(&lot, &mut random, &mut self.tally)?;
+                }
+            }
+        }
+        Ok(())
+    }
+
+    /// Every ink of the first and of the last record under each tag, and under
+    /// another, alone and with a fault of the other record.
+    fn every_ink(&mut self) -> Checked {
+        let mut random = self.random(Part::Inks, 0);
+        for tag in 0..4 {
+            for (wrong, ink) in [false, true].into_iter().flat_map(|wrong| {
+                (0..9)
+                    .chain([256, 257, 0x1_0003, 0x1_0004, u32::MAX])
+                    .map(move |ink| (wrong, ink))
+            }) {
+                for (record, other) in [(0, 1), (1, 0)] {
+                    let mut lot = Lot {
+                        header: Header::bare(RGB),
+                        records: DUMMY.repeat(2),
+                        text: Vec::new(),
+                    }
+                    .tagged(tag);
+                    lot.records[record * ROW_LEN + ROW_LEN - 1] = ink;
+                    if wrong {
+                        lot.records[other * ROW_LEN + 2] = 256;
+                    }
                     check_lot(&lot, &mut random, &mut self.tally)?;
                 }
             }
@@ -376,7 +408,7 @@ impl Campaign {
                     let mut lot = Lot::sharing_text(&mut random, space, &units);
                     check_lot(&lot, &mut random, &mut self.tally)?;
                     for tag in [2, 3] {
-                        lot.header.tag = tag;
+                        lot = lot.tagged(tag);
                         check_lot(&lot, &mut random, &mut self.tally)?;
                     }
                 }
@@ -385,7 +417,7 @@ impl Campaign {
         for count in [MAX_COLOURS, MAX_COLOURS + 1, MAX_COLOURS + 2, 1 << 17] {
             let mut lot = Lot {
                 header: Header::bare(RGB),
-                records: vec![0; count * ROW_LEN],
+                records: DUMMY.repeat(count),
                 text: Vec::new(),
             };
             check_lot(&lot, &mut random, &mut self.tally)?;

@@ -29,11 +29,13 @@ pub fn record(result: Result<acb::Record, Refusal>) -> Record {
             name,
             code,
             components,
+            ink,
         }) => Record {
             name: name.place,
             units: name.units,
             code,
             components,
+            ink,
             ..Record::default()
         },
         Err(Refusal { number, place, .. }) => Record {

@@ -18,7 +18,7 @@ const READING: [u32; 8] = [
 const NAMING: [u32; 3] = [0, number::NO_ROOM, number::NO_RECORD];
 const SHOWING: [u32; 2] = [0, number::NO_RECORD];
 const PAGING: [u32; 2] = [0, number::NO_PAGE];
-const WRITING: [u32; 7] = [
+const WRITING: [u32; 8] = [
     0,
     number::TOO_LONG,
     number::CUT,
@@ -26,6 +26,7 @@ const WRITING: [u32; 7] = [
     number::UNKNOWN_SPACE,
     number::OUT_OF_RANGE,
     number::NO_ROOM,
+    number::NO_COUNTERPART,
 ];
 
 /// Names, components and pages count the calls on accepted files alone.

@@ -16,6 +16,7 @@ use reference::UNIT_LEN;
 const SPARE_ROOM: usize = 80;
 
 const FIRST_COMPONENT: usize = 8;
+const INK: usize = 12;
 
 pub fn check_lot(lot: &Lot, random: &mut Random, tally: &mut Tally) -> Checked {
     let header = expected::made_header(&lot.header);
@@ -163,7 +164,7 @@ fn check_read_back(given: Given, out: &[u8]) -> Checked {
 /// A sound record with 0 for a component to spare, as a reader fills it in.
 fn used(row: &[u32; ROW_LEN], space: u16) -> [u32; ROW_LEN] {
     let mut row = *row;
-    row[FIRST_COMPONENT + components(space)..].fill(0);
+    row[FIRST_COMPONENT + components(space)..INK].fill(0);
     row
 }
 

@@ -6,11 +6,17 @@ use crate::names::{any_name, any_text, empty_anywhere, far_past, just_past};
 use crate::random::Random;
 use std::ops::RangeInclusive;
 
-const ROW_LEN: usize = 12;
+const ROW_LEN: usize = 13;
 const NAME: RangeInclusive<usize> = 0..=1;
 const UNITS: usize = 1;
 const CODE: usize = 2;
 const COMPONENTS: usize = 8;
+const INK: usize = 12;
+
+/// The ink that each tag states, and that of no tag: spot, process, not stated.
+const INKS: [u32; 3] = [4, 1, 3];
+/// All inks, and numbers that are none; some of them are once cut to 16 bits.
+const ANY_INKS: [u32; 9] = [0, 1, 2, 3, 4, 5, 0x1_0001, 0x1_0004, u32::MAX];
 
 /// Units that make the output too long, or would if no sum of lengths wrapped.
 const MANY_UNITS: [u32; 5] = [8_388_608, 0x7FFF_FFF3, 0x7FFF_FFFF, 0x8000_0000, u32::MAX];
@@ -45,6 +51,10 @@ pub struct Lot {
 #[derive(Clone, Copy, Debug, PartialEq, Eq)]
 pub enum LotDamage {
     TagWrong,
+    /// A fault save where there is no record.
+    TagOther,
+    /// A fault save where it is the ink that the tag states.
+    InkAny,
     StringPastText,
     StringFarPastText,
     StringLong,
@@ -71,8 +81,10 @@ pub enum LotDamage {
 }
 
 impl LotDamage {
-    pub const ALL: [LotDamage; 20] = [
+    pub const ALL: [LotDamage; 22] = [
         LotDamage::TagWrong,
+        LotDamage::TagOther,
+        LotDamage::InkAny,
         LotDamage::StringPastText,
         LotDamage::StringFarPastText,
         LotDamage::StringLong,
@@ -183,6 +195,16 @@ impl Lot {
         lot
     }
 
+    /// The header with another tag, and the records with the ink that it states.
+    pub fn tagged(mut self, tag: u32) -> Self {
+        self.header.tag = tag;
+        let ink = INKS.get(tag as usize).copied().unwrap_or(INKS[0]);
+        for row in self.records.chunks_exact_mut(ROW_LEN) {
+            row[INK] = ink;
+        }
+        self
+    }
+
     pub fn count(&self) -> usize {
         self.records.len() / ROW_LEN
     }
@@ -192,12 +214,13 @@ impl Lot {
         self.records.extend([place as u32, units as u32]);
         self.records.extend(colour.code.map(u32::from));
         self.records.extend(colour.components.map(u32::from));
+        self.records.push(INKS[self.header.tag as usize]);
     }
 
     fn fill_spare(&mut self, random: &mut Random) {
         let used = COMPONENTS + components(self.header.space);
         for row in self.records.chunks_exact_mut(ROW_LEN) {
-            row[used..].fill_with(|| random.u32());
+            row[used..INK].fill_with(|| random.u32());
         }
     }
 
@@ -207,6 +230,7 @@ impl Lot {
         let (place, units) = &mut header.strings[random.below(4)];
         match kind {
             LotDamage::TagWrong => header.tag = random.pick(&WRONG_TAGS),
+            LotDamage::TagOther => header.tag = random.below(TAGS.len()) as u32,
             LotDamage::StringPastText => {
                 // A unit at least, and the last byte or unit past the text.
                 *units = (*units).clamp(1, 100);
@@ -241,6 +265,7 @@ impl Lot {
             LotDamage::NameLong => row[UNITS] = random.pick(&MANY_UNITS),
             LotDamage::NameAboutTheLimit => row[UNITS] = random.pick(&UNITS_ABOUT_THE_LIMIT),
             LotDamage::EmptyNameAnywhere => empty_anywhere(&mut row[NAME], random),
+            LotDamage::InkAny => row[INK] = random.pick(&ANY_INKS),
             LotDamage::CodeWrong => row[CODE + random.below(6)] = random.pick(&WRONG_BYTES),
             LotDamage::ComponentWrong => {
                 row[COMPONENTS + random.below(4)] = random.pick(&WRONG_BYTES)

@@ -1,6 +1,7 @@
 //! What a book says before and behind its colours.
 
 use super::layout::{STRINGS, TAG_LEN};
+use crate::ink;
 
 /// A string by where its units lie in the file, or in the text of a writer.
 #[derive(Clone, Copy, Debug, Default, PartialEq, Eq)]
@@ -31,6 +32,16 @@ impl Tag {
             Tag::Spot => b"spflspot",
             Tag::Process => b"spflproc",
             Tag::Other => &[0; TAG_LEN],
+        }
+    }
+
+    /// The ink of every colour of a book, as its tag states it; another tag
+    /// states none.
+    pub fn ink(self) -> u32 {
+        match self {
+            Tag::Spot => ink::SPOT,
+            Tag::Process => ink::PROCESS,
+            Tag::None | Tag::Other => ink::NOT_STATED,
         }
     }
 

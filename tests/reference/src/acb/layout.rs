@@ -26,8 +26,8 @@ pub const COMPONENTS: usize = 4;
 pub const TAG_LEN: usize = 8;
 
 /// The numbers that stand for a colour in a table or in records to be written:
-/// its name's place and units, six code bytes and four components.
-pub const ROW_LEN: usize = 2 + CODE_LEN + COMPONENTS;
+/// its name's place and units, six code bytes, four components and the ink.
+pub const ROW_LEN: usize = 2 + CODE_LEN + COMPONENTS + 1;
 
 /// How many components a space has; no answer for an unknown one.
 #[inline(always)]

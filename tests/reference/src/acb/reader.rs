@@ -24,6 +24,7 @@ pub struct Record {
     pub name: Text,
     pub code: [u8; CODE_LEN],
     pub components: [u8; COMPONENTS],
+    pub ink: u32,
 }
 
 /// Judges a whole file.
@@ -65,6 +66,7 @@ impl Judged {
             file_len: file.len(),
             components: self.components,
             left: self.accepted.count,
+            ink: self.accepted.header.tag.ink(),
         }
     }
 
@@ -179,7 +181,8 @@ impl Record {
         let [w, x, y, z] = self.components.map(u32::from);
         // A file's places fit 32 bits, since its length does.
         let place = self.name.place as u32;
-        [place, self.name.units, a, b, c, d, e, f, w, x, y, z]
+        let (units, ink) = (self.name.units, self.ink);
+        [place, units, a, b, c, d, e, f, w, x, y, z, ink]
     }
 }
 
@@ -195,6 +198,7 @@ pub(crate) struct Records<'a> {
     file_len: usize,
     components: usize,
     left: usize,
+    ink: u32,
 }
 
 impl Records<'_> {
@@ -231,6 +235,7 @@ impl Iterator for Records<'_> {
             name: Text { place, units },
             code: self.take(),
             components: self.take_components(),
+            ink: self.ink,
         })
     }
 }

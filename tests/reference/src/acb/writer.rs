@@ -20,6 +20,10 @@ pub fn length(header: &Header, records: &[u32], text: &[u8]) -> Result<usize, Re
     let (rows, _) = records.as_chunks::<ROW_LEN>();
     let need = output_len(header, rows).ok_or(Refusal::of_call(number::TOO_LONG))?;
     judge(header, rows, text).map_err(Refusal::of_call)?;
+    let ink = header.tag.ink();
+    if rows.iter().any(|row| row[ROW_LEN - 1] != ink) {
+        return Err(Refusal::of_call(number::NO_COUNTERPART));
+    }
     Ok(need)
 }
 
@@ -90,7 +94,7 @@ fn judge(header: &Header, rows: &[Row], text: &[u8]) -> Result<(), u32> {
 /// of which is a byte; a component to spare is not looked at.
 #[inline(always)]
 fn judge_row(row: &Row, components: usize, text: &[u8]) -> Result<(), u32> {
-    let &[place, units, ref bytes @ ..] = row;
+    let &[place, units, ref bytes @ .., _] = row;
     units_in(text, place, units).ok_or(number::CUT)?;
     let used = &bytes[..CODE_LEN + components];
     let all = used.iter().fold(0, |all, number| all | number);
@@ -127,7 +131,7 @@ fn put_string(rest: &mut &mut [u8], units: Option<&[u8]>, count: u32) {
 /// Puts a judged record, its code and components at once.
 #[inline(always)]
 fn put_record(rest: &mut &mut [u8], row: &Row, components: usize, text: &[u8]) {
-    let &[place, units, ref numbers @ ..] = row;
+    let &[place, units, ref numbers @ .., _] = row;
     put_string(rest, units_in(text, place, units), units);
     let bytes: [u8; CODE_LEN + COMPONENTS] = numbers.map(|number| number as u8);
     if components == COMPONENTS {
