@@ -577,6 +577,28 @@ khuyurek_length khuyurek_descriptor_replace(
     const uint32_t *depth, size_t depth_len, const uint32_t *kind, size_t kind_len,
     size_t row, uint32_t value_kind, uint32_t unit, uint64_t bits, uint8_t *out, size_t out_len);
 
+/* An entry of a descriptor to be built, 16 numbers: 0 the kind as four characters in one number,
+ * `Objc` for the root; 1, 2 the key; 3, 4 the class's Unicode string; 5, 6 the class's ID; 7, 8 a
+ * first part; 9, 10 a second part; of each of these two numbers the length or count field as it is
+ * to stand in the file, and the place of its bytes in the text; 11 the unit; 12, 13 a number's high
+ * and low 32 bits; 14 the count of members; 15 the number of objects. A Unicode string's count and
+ * bytes have its closing zero; an ID of length field 0 has four bytes. Numbers that a kind does not
+ * use are spare. docs/INTERFACE.md says which kind uses what. */
+#define KHUYUREK_DESCRIPTOR_ENTRY 16
+
+/* How many bytes building a descriptor needs, and building it. The root's entry comes first, then
+ * its members in file order: an entry belongs to the innermost container that still wants members.
+ * Judged is 1 on the whole length, then as the reader would judge the bytes made, in file order: an
+ * entry too few or a part outside the text 2, a kind that may not stand there or an unknown unit 4,
+ * a value out of its range 5, an entry too many 6, an unclosed string 8, a member at depth 33 10;
+ * then 11, too little room. All refusals are at place 0. A remainder of fewer than 16 numbers is left
+ * alone, and past the bytes made out keeps its contents. */
+khuyurek_length khuyurek_descriptor_build_length(const uint32_t *entries, size_t entries_len,
+                                                 const uint8_t *text, size_t text_len);
+khuyurek_length khuyurek_descriptor_build(const uint32_t *entries, size_t entries_len,
+                                          const uint8_t *text, size_t text_len,
+                                          uint8_t *out, size_t out_len);
+
 /* Judges the whole file, then 12 where it has no such row. */
 khuyurek_descriptor_value khuyurek_descriptor_value_at(const uint8_t *file,
                                                        size_t file_len, size_t row);

@@ -1,7 +1,7 @@
 /* The header and the archive from C: P3, P6 and a book of one Lab colour are read, listed by their
  * record and written back; P4 is refused with its record and field, P7 with its place, a group left
  * open and a tag that is none by the writer; the book's colour, full name and page are shown; P12 is
- * read into its rows; a document's resource section is found, read and written back; P3 and P6 are walked, and P3 is taken in chunks; a few samples and channels are converted, one by one and in runs, and those that
+ * read into its rows and built from its entries; a document's resource section is found, read and written back; P3 and P6 are walked, and P3 is taken in chunks; a few samples and channels are converted, one by one and in runs, and those that
  * are refused are refused by their numbers. */
 #include <stdio.h>
 #include <string.h>
@@ -37,13 +37,14 @@ static const uint8_t P12[40] = {
     0x00, 0x02, 0x62, 0x6F, 0x6F, 0x6C, 0x01, 0x62, 0x6F, 0x6F, 0x6C, 0x01,
 };
 
-/* The tags `RGB `, `CMYK` and `Gray` and the kinds `bool` and `VlLs` as numbers, and the bits of
- * three channels. */
+/* The tags `RGB `, `CMYK` and `Gray` and the kinds `bool`, `VlLs` and `Objc` as numbers, and the bits
+ * of three channels. */
 #define RGB_MODEL 0x52474220u
 #define CMYK_MODEL 0x434D594Bu
 #define GRAY_MODEL 0x47726179u
 #define BOOL_KIND 0x626F6F6Cu
 #define LIST_KIND 0x566C4C73u
+#define OBJECT_KIND 0x4F626A63u
 #define HALF 0x3F000000u
 #define ONE 0x3F800000u
 #define NAN_BITS 0x7FC00000u
@@ -300,6 +301,30 @@ static int descriptor(void) {
                                       5, 4, BOOL_KIND, 0, 1, turned, sizeof turned)
               .number
           == KHUYUREK_NO_RECORD);
+
+    /* P12 from its entries, with itself as the text: the root's class is the string of no units at 4
+     * and the ID of one byte at 12, and the list's key the one at 21. */
+    uint32_t entries[4 * KHUYUREK_DESCRIPTOR_ENTRY] = {
+        [0] = OBJECT_KIND, [5] = 1, [6] = 12, [14] = 1,
+        [16] = LIST_KIND, [17] = 1, [18] = 21, [30] = 2,
+        [32] = BOOL_KIND, [45] = 1,
+        [48] = BOOL_KIND, [61] = 1,
+    };
+    uint8_t made[sizeof P12 + 1] = {[sizeof P12] = 99};
+    CHECK(khuyurek_descriptor_build_length(entries, 64, P12, sizeof P12).length == sizeof P12);
+    wrote = khuyurek_descriptor_build(entries, 64, P12, sizeof P12, made, sizeof P12 - 1);
+    CHECK(wrote.number == KHUYUREK_NO_ROOM && wrote.length == 0 && made[0] == 0 && made[3] == 0);
+    wrote = khuyurek_descriptor_build(entries, 64, P12, sizeof P12, made, sizeof made);
+    CHECK(wrote.number == 0 && wrote.length == sizeof P12);
+    CHECK(memcmp(made, P12, sizeof P12) == 0 && made[sizeof P12] == 99);
+    CHECK(khuyurek_descriptor_build_length(entries, 63, P12, sizeof P12).number == KHUYUREK_CUT);
+    entries[61] = 2;
+    CHECK(khuyurek_descriptor_build_length(entries, 64, P12, sizeof P12).number
+          == KHUYUREK_OUT_OF_RANGE);
+    entries[61] = 1;
+    entries[30] = 1;
+    CHECK(khuyurek_descriptor_build_length(entries, 64, P12, sizeof P12).number
+          == KHUYUREK_LEFT_OVER);
 
     khuyurek_descriptor_value value = khuyurek_descriptor_value_at(P12, sizeof P12, 1);
     CHECK(value.number == 0 && value.first == 26 && value.length == 14);

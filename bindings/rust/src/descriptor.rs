@@ -3,7 +3,11 @@
 use std::fmt::{self, Debug, Display, Formatter, Write};
 
 use crate::raw::descriptor as raw;
-use crate::Refusal;
+use crate::text::{exact, held, length};
+use crate::{Refusal, Units};
+
+/// How many numbers an entry has.
+pub const ENTRY: usize = 16;
 
 /// Four characters: a row's kind or a unit. Shown without the spaces at its end.
 #[derive(Clone, Copy, PartialEq, Eq, Hash)]
@@ -64,6 +68,49 @@ pub struct Rows<'a> {
     parents: Vec<u32>,
 }
 
+/// A part of the text that entries come with.
+#[derive(Clone, Copy, Debug, Default, PartialEq, Eq)]
+pub struct Part {
+    /// The length or count field, as it is to stand in the file.
+    pub count: u32,
+    /// The place of its first byte in the text.
+    pub first: u32,
+}
+
+/// The root or a member of a descriptor to be built. What its kind does not use is
+/// neither judged nor written: docs/INTERFACE.md says which kind uses what.
+#[derive(Clone, Copy, Debug, PartialEq, Eq)]
+pub struct Entry {
+    /// The item's type or the reference's form; `Objc` for the root, `UnFl` for
+    /// the pair of an object array.
+    pub kind: Tag,
+    /// The key's ID, where the member is a pair.
+    pub key: Part,
+    /// The class's Unicode string.
+    pub class_name: Part,
+    /// The class's ID.
+    pub class: Part,
+    /// The first part: a string, an ID, data or doubles.
+    pub one: Part,
+    /// The second part, an ID.
+    pub other: Part,
+    /// The unit.
+    pub unit: Tag,
+    /// A number by its bits, the low 32 of a `bool` or `long`.
+    pub bits: u64,
+    /// How many members follow.
+    pub members: u32,
+    /// How many objects an object array has.
+    pub objects: u32,
+}
+
+/// A text that entries come with. Each call adds a part, and gives it for an entry; none
+/// is added behind 4,294,967,295 bytes, where the calls panic.
+#[derive(Clone, Debug, Default)]
+pub struct Text {
+    bytes: Vec<u8>,
+}
+
 /// Judges a file: the number of its rows.
 pub fn judge(file: &[u8]) -> Result<usize, Refusal> {
     rows(raw::judge(file))
@@ -118,6 +165,25 @@ pub fn typed_at(file: &[u8], row: usize) -> Result<Value, Refusal> {
         b"UntF" => Value::UnitDouble(Tag(typed.unit.to_be_bytes()), f64::from_bits(bits)),
         _ => Value::Other,
     })
+}
+
+/// How many bytes a descriptor takes that is built from entries: the root, then its
+/// members in file order. An entry belongs to the innermost container that still wants
+/// members.
+pub fn build_length(entries: &[Entry], text: &[u8]) -> Result<usize, Refusal> {
+    length(raw::build_length(&laid_out(entries), text))
+}
+
+/// Builds a descriptor from entries.
+pub fn build(entries: &[Entry], text: &[u8]) -> Result<Vec<u8>, Refusal> {
+    let numbers = laid_out(entries);
+    exact(raw::build_length(&numbers, text), |out| {
+        raw::build(&numbers, text, out)
+    })
+}
+
+fn laid_out(entries: &[Entry]) -> Vec<u32> {
+    entries.iter().flat_map(|entry| entry.numbers()).collect()
 }
 
 fn rows(answer: raw::Answer) -> Result<usize, Refusal> {
@@ -203,6 +269,115 @@ fn given(value: Value) -> raw::Replacement {
             of(b"UntF", u32::from_be_bytes(unit.0), number.to_bits())
         }
         Value::Other => of(&[0; 4], 0, 0),
+    }
+}
+
+impl Entry {
+    /// An entry of a kind, and zeros.
+    pub fn new(kind: &[u8; 4]) -> Entry {
+        let mut numbers = [0; ENTRY];
+        numbers[0] = u32::from_be_bytes(*kind);
+        Entry::from_numbers(numbers)
+    }
+
+    /// The numbers, as [`raw::build`](fn@raw::build) takes them.
+    pub fn numbers(&self) -> [u32; ENTRY] {
+        let tag = |tag: Tag| u32::from_be_bytes(tag.0);
+        [
+            tag(self.kind),
+            self.key.count,
+            self.key.first,
+            self.class_name.count,
+            self.class_name.first,
+            self.class.count,
+            self.class.first,
+            self.one.count,
+            self.one.first,
+            self.other.count,
+            self.other.first,
+            tag(self.unit),
+            (self.bits >> 32) as u32,
+            self.bits as u32,
+            self.members,
+            self.objects,
+        ]
+    }
+
+    /// The entry of some numbers.
+    pub fn from_numbers(numbers: [u32; ENTRY]) -> Entry {
+        let tag = |i: usize| Tag(numbers[i].to_be_bytes());
+        let part = |i: usize| Part {
+            count: numbers[i],
+            first: numbers[i + 1],
+        };
+        Entry {
+            kind: tag(0),
+            key: part(1),
+            class_name: part(3),
+            class: part(5),
+            one: part(7),
+            other: part(9),
+            unit: tag(11),
+            bits: u64::from(numbers[12]) << 32 | u64::from(numbers[13]),
+            members: numbers[14],
+            objects: numbers[15],
+        }
+    }
+}
+
+impl Text {
+    /// A text without a part.
+    pub fn new() -> Text {
+        Text::default()
+    }
+
+    /// An ID of four characters, whose length field is 0.
+    pub fn char_id(&mut self, id: &[u8; 4]) -> Part {
+        self.add(0, id)
+    }
+
+    /// An ID by its bytes.
+    ///
+    /// # Panics
+    ///
+    /// Where there are none: a length field of 0 is that of four characters.
+    pub fn string_id(&mut self, id: &[u8]) -> Part {
+        assert!(!id.is_empty(), "an ID has a byte at least");
+        self.add(id.len(), id)
+    }
+
+    /// A Unicode string; its closing zero is added.
+    pub fn string(&mut self, string: &str) -> Part {
+        let mut units = Units::encode(string);
+        units.extend([0; 2]);
+        self.add(units.len() / 2, &units)
+    }
+
+    /// Data.
+    pub fn data(&mut self, bytes: &[u8]) -> Part {
+        self.add(bytes.len(), bytes)
+    }
+
+    /// Doubles, one for each object of an array.
+    pub fn doubles(&mut self, doubles: &[f64]) -> Part {
+        let bytes: Vec<u8> = doubles.iter().flat_map(|d| d.to_be_bytes()).collect();
+        self.add(doubles.len(), &bytes)
+    }
+
+    /// The bytes.
+    pub fn bytes(&self) -> &[u8] {
+        &self.bytes
+    }
+
+    // A count that 32 bits cannot hold is given as the largest: such a part is past
+    // the limit anyhow, which is judged first.
+    fn add(&mut self, count: usize, bytes: &[u8]) -> Part {
+        let first = u32::try_from(self.bytes.len()).expect("a place has 32 bits");
+        self.bytes.extend_from_slice(bytes);
+        Part {
+            count: held(count),
+            first,
+        }
     }
 }
 

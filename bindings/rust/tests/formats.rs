@@ -4,7 +4,7 @@
 use std::fs;
 use std::path::Path;
 
-use khuyurek::descriptor::{self, Tag, Value};
+use khuyurek::descriptor::{self, Entry, Part, Tag, Text, Value};
 use khuyurek::{
     acb, aco, ase, stream, to_channel, to_channels, to_sample, to_samples, Ink, Model, Refusal,
     Space, Units,
@@ -405,6 +405,107 @@ fn descriptor_is_read() {
     assert_eq!(descriptor::value_at(&P12, 1), Ok(&P12[26..]));
     assert_eq!(descriptor::value_at(&P12, 4), Err(refusal(12, 0)));
     assert_eq!(descriptor::judge(&P12[..39]), Err(refusal(2, 39)));
+}
+
+#[test]
+fn descriptor_is_built() {
+    let mut text = Text::new();
+    let class = text.string_id(b"a");
+    let key = text.string_id(b"a");
+    let root = Entry {
+        class,
+        members: 1,
+        ..Entry::new(b"Objc")
+    };
+    let list = Entry {
+        key,
+        members: 2,
+        ..Entry::new(b"VlLs")
+    };
+    let flag = Entry {
+        bits: 1,
+        ..Entry::new(b"bool")
+    };
+    let entries = [root, list, flag, flag];
+    assert_eq!(descriptor::build_length(&entries, text.bytes()), Ok(40));
+    assert_eq!(descriptor::build(&entries, text.bytes()), Ok(P12.to_vec()));
+    // An entry too few or too many, a text that is too short, and a `bool` that is none.
+    let short = descriptor::build(&entries[..3], text.bytes());
+    assert_eq!(short, Err(refusal(2, 0)));
+    let long = [root, list, flag, flag, flag];
+    assert_eq!(descriptor::build(&long, text.bytes()), Err(refusal(6, 0)));
+    let cut = descriptor::build(&entries, &text.bytes()[..1]);
+    assert_eq!(cut, Err(refusal(2, 0)));
+    let two = [root, list, flag, Entry { bits: 2, ..flag }];
+    assert_eq!(descriptor::build(&two, text.bytes()), Err(refusal(5, 0)));
+    assert_eq!(descriptor::build(&[], &[]), Err(refusal(2, 0)));
+}
+
+#[test]
+fn built_descriptor_holds_what_was_given() {
+    let mut text = Text::new();
+    let pair = |key: Part, kind: &[u8; 4]| Entry {
+        key,
+        ..Entry::new(kind)
+    };
+    let root = Entry {
+        class_name: text.string("Class"),
+        class: text.char_id(b"clss"),
+        members: 6,
+        ..Entry::new(b"Objc")
+    };
+    let ink = Entry {
+        unit: Tag(*b"#Prc"),
+        bits: 37.5f64.to_bits(),
+        ..pair(text.char_id(b"Ink "), b"UntF")
+    };
+    let long = Entry {
+        bits: (-3i32 as u32).into(),
+        ..pair(text.string_id(b"layer"), b"long")
+    };
+    let wide = Entry {
+        bits: (-3i64) as u64,
+        ..pair(text.char_id(b"Wide"), b"comp")
+    };
+    let name = Entry {
+        one: text.string("Label"),
+        ..pair(text.char_id(b"Nm  "), b"TEXT")
+    };
+    let data = Entry {
+        one: text.data(&[1, 2, 3]),
+        ..pair(text.char_id(b"Data"), b"tdta")
+    };
+    let array = Entry {
+        objects: 2,
+        class: text.char_id(b"Pnt "),
+        members: 1,
+        ..pair(text.char_id(b"Pts "), b"ObAr")
+    };
+    let column = Entry {
+        unit: Tag(*b"#Pxl"),
+        one: text.doubles(&[0.5, -1.0]),
+        ..pair(text.char_id(b"Hrzn"), b"UnFl")
+    };
+    let entries = [root, ink, long, wide, name, data, array, column];
+    let file = descriptor::build(&entries, text.bytes()).unwrap();
+    let rows = descriptor::read(&file).unwrap();
+    let kinds: Vec<Tag> = rows.iter().map(|row| row.kind).collect();
+    assert_eq!(kinds, entries.map(|entry| entry.kind));
+    let typed = |row| descriptor::typed_at(&file, row);
+    assert_eq!(typed(1), Ok(Value::UnitDouble(Tag(*b"#Prc"), 37.5)));
+    assert_eq!(typed(2), Ok(Value::Long(-3)));
+    assert_eq!(typed(3), Ok(Value::Comp(-3)));
+    let string = descriptor::value_at(&file, 4).unwrap();
+    assert_eq!(string, *b"\0\0\0\x06\0L\0a\0b\0e\0l\0\0");
+    assert_eq!(
+        descriptor::value_at(&file, 5),
+        Ok(&[0, 0, 0, 3, 1, 2, 3][..])
+    );
+    let keys = [*b"\0\0\0\0Pts ", *b"\0\0\0\0Hrzn"].concat();
+    assert_eq!(rows.find(&keys), Ok(vec![Some(6), None]));
+    for entry in entries {
+        assert_eq!(Entry::from_numbers(entry.numbers()), entry);
+    }
 }
 
 #[test]

@@ -79,6 +79,17 @@ fn widths_and_limit_are_the_librarys() {
 }
 
 #[test]
+fn entry_is_the_librarys() {
+    let entry = khuyurek::descriptor::ENTRY;
+    let header = source("include/khuyurek.h");
+    let line = format!("#define KHUYUREK_DESCRIPTOR_ENTRY {entry}");
+    assert!(header.lines().any(|found| found == line), "{line}");
+    let library = source("crates/descriptor_entry/src/lib.rt");
+    let line = format!("pub const WIDTH: usize = {entry};");
+    assert!(library.lines().any(|found| found == line), "{line}");
+}
+
+#[test]
 fn store_is_the_librarys() {
     let store = khuyurek::stream::STORE;
     let header = source("include/khuyurek.h");

@@ -1,6 +1,7 @@
 // What C and Rust link: the library's calls with plain structs as answers. include/khuyurek.h
 // declares the same for C.
 mod books;
+mod building;
 mod columns;
 mod conversions;
 mod descriptors;
@@ -33,6 +34,8 @@ pub use books::khuyurek_acb_record_at;
 pub use books::khuyurek_acb_shown_at;
 pub use books::khuyurek_acb_shown_start;
 pub use books::khuyurek_acb_write;
+pub use building::khuyurek_descriptor_build;
+pub use building::khuyurek_descriptor_build_length;
 pub use columns::Parents;
 pub use columns::khuyurek_descriptor_parents;
 pub use columns::khuyurek_descriptor_read;

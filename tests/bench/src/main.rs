@@ -4,6 +4,7 @@
 mod acb;
 mod aco;
 mod ase;
+mod build;
 mod chunks;
 mod conversion;
 mod descriptor;
@@ -40,6 +41,7 @@ enum Part {
     Names,
     Descriptors,
     Keys,
+    Entries,
     Resources,
     Seasons,
     Reports,
@@ -57,6 +59,7 @@ fn main() -> ExitCode {
         Some("names") => (Some(Part::Names), &args[1..]),
         Some("descriptor") => (Some(Part::Descriptors), &args[1..]),
         Some("keys") => (Some(Part::Keys), &args[1..]),
+        Some("entries") => (Some(Part::Entries), &args[1..]),
         Some("resource") => (Some(Part::Resources), &args[1..]),
         Some("season") => (Some(Part::Seasons), &args[1..]),
         Some("report") => (Some(Part::Reports), &args[1..]),
@@ -70,7 +73,7 @@ fn main() -> ExitCode {
         Some(Ok(rounds)) if rounds > 0 => rounds,
         Some(_) => {
             eprintln!(
-                "usage: bench [aco|chunks|ase|acb|names|descriptor|keys|resource|season|report|index|convert] [ROUNDS]"
+                "usage: bench [aco|chunks|ase|acb|names|descriptor|keys|entries|resource|season|report|index|convert] [ROUNDS]"
             );
             return ExitCode::FAILURE;
         }
@@ -103,6 +106,9 @@ fn main() -> ExitCode {
     }
     if wanted(Part::Keys) {
         keys::compare(&mut report, rounds);
+    }
+    if wanted(Part::Entries) {
+        build::compare(&mut report, rounds);
     }
     if wanted(Part::Resources) {
         resource::compare(&mut report, rounds);

@@ -2,6 +2,7 @@
 
 mod acb;
 mod ase;
+mod build;
 mod campaign;
 mod chunks;
 mod converting;
@@ -39,6 +40,7 @@ const USAGE: &str = "usage: compare [SEED [FILES]]
        compare descriptor [SEED [FILES]]
        compare find [SEED [FILES]]
        compare replace [SEED [FILES]]
+       compare build [SEED [LOTS]]
        compare resource [SEED [SECTIONS]]
        compare seasons [SEED [FILES]]
        compare reports [SEED [FILES]]
@@ -91,6 +93,12 @@ fn main() -> ExitCode {
             rest,
             replace::campaign::run,
             replace::Tally::all_reached,
+        ),
+        Some("build") => compare_asked(
+            "entries",
+            rest,
+            build::campaign::run,
+            build::Tally::all_reached,
         ),
         Some("resource") => compare_library(
             "resources",

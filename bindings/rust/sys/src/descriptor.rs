@@ -148,6 +148,20 @@ extern "C" {
         out: *mut u8,
         out_len: usize,
     ) -> Written;
+    fn khuyurek_descriptor_build_length(
+        entries: *const u32,
+        entries_len: usize,
+        text: *const u8,
+        text_len: usize,
+    ) -> Written;
+    fn khuyurek_descriptor_build(
+        entries: *const u32,
+        entries_len: usize,
+        text: *const u8,
+        text_len: usize,
+        out: *mut u8,
+        out_len: usize,
+    ) -> Written;
     fn khuyurek_descriptor_value_at(file: *const u8, file_len: usize, row: usize) -> Value;
     fn khuyurek_descriptor_typed_at(file: *const u8, file_len: usize, row: usize) -> Typed;
 }
@@ -249,6 +263,29 @@ pub fn replace(
             value.kind,
             value.unit,
             value.bits,
+            out.as_mut_ptr(),
+            out.len(),
+        )
+    }
+}
+
+/// How many bytes a descriptor built from entries takes, 16 numbers each.
+pub fn build_length(entries: &[u32], text: &[u8]) -> Written {
+    // SAFETY: see above.
+    unsafe {
+        khuyurek_descriptor_build_length(entries.as_ptr(), entries.len(), text.as_ptr(), text.len())
+    }
+}
+
+/// Builds it.
+pub fn build(entries: &[u32], text: &[u8], out: &mut [u8]) -> Written {
+    // SAFETY: see above; the buffer is borrowed for writing.
+    unsafe {
+        khuyurek_descriptor_build(
+            entries.as_ptr(),
+            entries.len(),
+            text.as_ptr(),
+            text.len(),
             out.as_mut_ptr(),
             out.len(),
         )
