@@ -1,0 +1,5 @@
+pub mod Grammar
+pub mod Reading
+pub mod Bytes
+pub mod Answer
+pub mod scaffold
