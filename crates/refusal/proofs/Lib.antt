@@ -1,0 +1,3 @@
+-- Theorems on the sentences.
+pub mod Laws
+pub mod Theorems
