@@ -4,7 +4,7 @@ use mathlib.Core.Path.{_≡_, refl, sym, ap, ap₂, _∙_, subst, subst₂}
 use mathlib.Core.List.{List, [], _∷_, _++_, map}
 use mathlib.Core.Bool.{Bool, true, false}
 use lib.Dec.{leb, eqb}
-use lib.ListN.{length, getD}
+use lib.ListN.{length, getD, length-append}
 use native.Mathlib.Omega.{arith}
 use borrow.Author.Tests.{leb-true, eqb-true}
 use Rattle.algebra.specs.Chars.{chars}
@@ -31,7 +31,9 @@ use Rattle.descriptor_entry.proofs.Meeting.{meets-number}
 use Rattle.descriptor_entry.proofs.Whole.{file-meets}
 use Rattle.descriptor_entry.proofs.Faultless.{AllWords}
 use Rattle.descriptor_entries.specs.Taken.{putAll, fieldsOf, blank, entryOf, membersOf, entriesOf, entriesIn, entries}
-use Rattle.descriptor_entries.proofs.Held.{HoldsAll, endOf, end-later, Stands, stands-append}
+use Rattle.descriptor_entries.specs.Answered.{numbers}
+use Rattle.descriptor_entries.specs.scaffold.Filling.{endOf}
+use Rattle.descriptor_entries.proofs.Held.{HoldsAll, end-later, Stands, stands-append}
 use Rattle.descriptor_entries.proofs.Shaped.{object-made, class-end}
 use Rattle.descriptor_entries.proofs.Filled.{all-words, all-length, keyed-words}
 use Rattle.descriptor_entries.proofs.Headed.{begun}
@@ -40,14 +42,14 @@ use Rattle.descriptor_entries.proofs.Members.{Sixteen, Under, under}
 -- ---- the root
 
 -- what was read of it
-record Root (s : List ℕ) (o : Opened) (q : ℕ) : Type 0 where
+pub record Root (s : List ℕ) (o : Opened) (q : ℕ) : Type 0 where
   pub version : 16 ≡ num 4 s 0
   pub head : o .head ≡ record { kind = chars "Objc"; first = 0; depth = 0; value = 4 }
   pub below : o .below ≡ pairs
   pub count : o .count ≡ num 4 s (endOf s 4 (sh.object .a ∷ sh.object .b ∷ []))
   pub end : endOf s 4 (fieldsOf sh.object) ≡ q
 
-root-read : (s : List ℕ) (o : Opened) (q : ℕ) → rootHead s 0 ≡ ok o q → Root s o q
+pub root-read : (s : List ℕ) (o : Opened) (q : ℕ) → rootHead s 0 ≡ ok o q → Root s o q
 unfolding rootHead
 root-read s o q e =
     let i = then-inv (judged 4 version s 0) _ e in
@@ -66,7 +68,7 @@ root-read s o q e =
       end = omega (arith, c, k .2, ok-place (u .3));
     }
 
-object-is : itemShape (chars "Objc") ≡ sh.object
+pub object-is : itemShape (chars "Objc") ≡ sh.object
 unfolding itemShape
 object-is = refl
 
@@ -144,11 +146,18 @@ module _ (s : List ℕ) (b : Bytes s) where
       let g = under s b (suc (length s)) (settled ((o .below, o .count) ∷ [])) (t .1) (u .0) (p .high) (omega arith) (u .2 ∙ ap (λ (k : ℕ). ok (u .0) k) (v .0)) in
       (subst (λ (l : List Opened). Whole (entriesOf s l) (length l)) (v .1) (whole o (t .1) (u .0) (p .high) (root-taken o (t .1) (p .high) (root-read s o (t .1) (t .2))) g), leb-true _ _ (i .0))
 
--- ---- theorems
+numbers-length : (i : ℕ) (es : List Entry) → All Sixteen i es → length (numbers es) ≡ 16 * length es
+unfolding joined
+numbers-length i [] h = refl
+numbers-length i (e ∷ es) h = let m = numbers-length (i + 1) es (h .1) in omega (arith, h .0, m, length-append e (numbers es))
 
--- entries as a run of numbers
-abbrev numbers : List Entry → List ℕ
-numbers es = joined (λ e. e) es
+-- 16 numbers a head
+pub taken-length : (s : List ℕ) → Bytes s → (all : List Opened) (q : ℕ) → fileHeads s ≡ ok all q → length (numbers (entriesOf s all)) ≡ 16 * length all
+taken-length s b all q e =
+    let g = accepted-whole s b all q e .0 in
+    numbers-length 0 (entriesOf s all) (g .wide) ∙ ap (λ (n : ℕ). 16 * n) (g .count)
+
+-- ---- theorems
 
 pub record Builds (s : List ℕ) (rows : ℕ) : Type 0 where
   pub count : length (entries s) ≡ rows

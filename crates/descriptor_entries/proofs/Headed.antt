@@ -29,18 +29,12 @@ use Rattle.descriptor_entry.proofs.Meeting.{Meets}
 use Rattle.descriptor_entry.proofs.Suited.{Both, each, neither, paired}
 use Rattle.descriptor_entry.proofs.Headed.{head-meets}
 use Rattle.descriptor_entries.specs.Taken.{span, put, putAll, putKey, fieldsOf, blank, entryOf}
-use Rattle.descriptor_entries.proofs.Held.{Holds, HoldsAll, endOf, end-later, Stands, stands-none, stands-append, number-stands, field-size, field-stands, fields-size, fields-stand}
+use Rattle.descriptor_entries.specs.scaffold.Filling.{endOf, keySpan}
+use Rattle.descriptor_entries.proofs.Held.{Holds, HoldsAll, end-later, Stands, stands-none, stands-append, number-stands, field-size, field-stands, fields-size, fields-stand}
 use Rattle.descriptor_entries.proofs.Filled.{all-words, all-length, keyed-words}
 use Rattle.descriptor_entries.proofs.Shaped.{keyed, Made, Kind, Form, id-end, class-end, column-end, item-kinds, form-kinds, column-made, object-made}
 
 -- ---- what was read
-
--- the bytes of a key
-abbrev pub keySpan : (s : List ℕ) (at : ℕ) → Due → ℕ
-keySpan s at items = 0
-keySpan s at pairs = span s at (f.Id 1)
-keySpan s at h.forms = 0
-keySpan s at (columns m) = span s at (f.Id 1)
 
 -- a head at a place: its kind behind the key, at k, and the fields of the kind
 pub record Read (s : List ℕ) (c : Due) (at : ℕ) (x : Head) (q : ℕ) : Type 0 where

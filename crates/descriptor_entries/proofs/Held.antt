@@ -16,6 +16,7 @@ use Rattle.descriptor_entry.specs.declared.Field.the-variants as f
 use Rattle.descriptor_entry.specs.declared.Shape.{Shape}
 use Rattle.descriptor_entry.proofs.Laws.{size-append, bytes-append, bytes-length, fits-join}
 use Rattle.descriptor_entries.specs.Taken.{span, fieldsOf}
+use Rattle.descriptor_entries.specs.scaffold.Filling.{endOf}
 
 -- ---- what an entry holds
 
@@ -35,11 +36,6 @@ Holds s at e (f.Doubles i) = (numberIn e i ≡ num 4 s at) × (numberIn e (i + 1
 abbrev pub HoldsAll : (s : List ℕ) (at : ℕ) → Entry → List Field → Type 0
 HoldsAll s at e [] = Unit {0}
 HoldsAll s at e (x ∷ xs) = Holds s at e x × HoldsAll s (at + span s at x) e xs
-
--- where fields end
-abbrev pub endOf : (s : List ℕ) (at : ℕ) → List Field → ℕ
-endOf s at [] = at
-endOf s at (x ∷ xs) = endOf s (at + span s at x) xs
 
 pub end-later : (s : List ℕ) (xs : List Field) (at : ℕ) → at ≤ endOf s at xs
 end-later s [] at = omega arith

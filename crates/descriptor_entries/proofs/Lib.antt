@@ -4,3 +4,6 @@ pub mod Filled
 pub mod Headed
 pub mod Members
 pub mod Built
+pub mod Stored
+pub mod Turns
+pub mod Entered
