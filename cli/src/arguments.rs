@@ -51,12 +51,10 @@ pub fn parse<'a>(words: &'a [OsString], flags: &[&'static str]) -> Result<Argume
     Ok(arguments)
 }
 
-/// Whether help is asked for, before `--`.
-pub fn asks_for_help(words: &[OsString]) -> bool {
-    let options = words.iter().take_while(|word| *word != "--");
-    options
-        .into_iter()
-        .any(|word| word == "--help" || word == "-h")
+/// Whether one of some options is given, before `--`.
+pub fn asks(words: &[OsString], options: &[&str]) -> bool {
+    let mut before = words.iter().take_while(|word| *word != "--");
+    before.any(|word| options.iter().any(|option| word == option))
 }
 
 /// What follows the first letters of a word.
@@ -65,15 +63,6 @@ fn after<'a>(word: &'a OsStr, first: &str) -> Option<&'a str> {
 }
 
 fn kind_of(word: &OsStr) -> Result<Kind, Misuse> {
-    let kinds = [
-        ("aco", Kind::Aco),
-        ("ase", Kind::Ase),
-        ("acb", Kind::Acb),
-        ("descriptor", Kind::Descriptor),
-        ("resource", Kind::Resource),
-    ];
-    let known = kinds.into_iter().find(|(name, _)| word == *name);
-    known
-        .map(|(_, kind)| kind)
-        .ok_or_else(|| Misuse(format!("no such kind: {}", shown_name(word))))
+    let known = Kind::ALL.into_iter().find(|kind| word == kind.word());
+    known.ok_or_else(|| Misuse(format!("no such kind: {}", shown_name(word))))
 }

@@ -1,31 +1,20 @@
 //! `compare OLD NEW`: the positions at which two palettes differ.
 
 use crate::arguments::{parse, Misuse};
+use crate::colours::{colour, colour_pairs, swatch, swatch_pairs};
+use crate::each::Form;
 use crate::files::{complain, take, Kind, Taken};
-use crate::refusals::line;
+use crate::json::Object;
+use crate::refusals::{self, line};
 use crate::status::Status;
-use crate::text::quoted;
 use crate::Stopped;
-use khuyurek::compare::{compare, Difference, Palette};
-use khuyurek::{aco, ase, Model, Space, Units};
+use khuyurek::compare::{compare, Difference, Palette, Refused};
+use khuyurek::{aco, ase};
 use std::ffi::OsString;
-use std::io::Write;
-
-pub const USAGE: &str = "\
-usage: khuyurek compare [--kind KIND] [--] OLD NEW
-
-Compares two palettes, ACO or ASE, by position over their colours: a line for each position that
-differs, with what differs and both colours, and a last line: same, or how many differ. - is standard
-input.
-
-  --kind KIND   both files are of this kind, aco or ase. Else as for listing
-
-Exit status: 0 same; 1 different; 3 a file is refused; 2 wrong usage, or a file that cannot be read
-or is no palette.
-";
+use std::io::{self, Write};
 
 pub fn run(words: &[OsString], out: &mut dyn Write) -> Result<Status, Stopped> {
-    let arguments = parse(words, &[])?;
+    let arguments = parse(words, &["--json"])?;
     let [old, new] = arguments.names[..] else {
         return Err(Misuse("compare takes two files".to_string()).into());
     };
@@ -36,7 +25,7 @@ pub fn run(words: &[OsString], out: &mut dyn Write) -> Result<Status, Stopped> {
     for name in [old, new] {
         match take(name, arguments.kind) {
             Ok(file) => taken.push(file),
-            Err(complaint) => complain(&complaint),
+            Err(untaken) => untaken.complain(),
         }
     }
     let [first, second] = &taken[..] else {
@@ -45,18 +34,25 @@ pub fn run(words: &[OsString], out: &mut dyn Write) -> Result<Status, Stopped> {
     let (Some(old), Some(new)) = (palette(first), palette(second)) else {
         return Ok(Status::Failed);
     };
-    match compare(old, new) {
-        Ok(found) => write(first, second, &found, out),
-        Err(refused) => {
-            let file = if refused.file == 1 { first } else { second };
-            writeln!(out, "{}", line(file, &refused.refusal))?;
+    let files = [first, second];
+    match (compare(old, new), Form::of(&arguments)) {
+        (Ok(found), Form::Words) => write(files, &found, out),
+        (Ok(found), Form::Json) => write_object(files, &found, out),
+        (Err(refused), form) => {
+            match form {
+                Form::Words => {
+                    let file = files[refused.file as usize - 1];
+                    writeln!(out, "{}", line(file, &refused.refusal))?;
+                }
+                Form::Json => write_refused(files, &refused, out)?,
+            }
             Ok(Status::Refused)
         }
     }
 }
 
 /// None of another kind, which is said.
-fn palette(file: &Taken) -> Option<Palette<'_>> {
+pub fn palette(file: &Taken) -> Option<Palette<'_>> {
     match file.kind {
         Kind::Aco => Some(Palette::Aco(&file.bytes)),
         Kind::Ase => Some(Palette::Ase(&file.bytes)),
@@ -67,13 +63,8 @@ fn palette(file: &Taken) -> Option<Palette<'_>> {
     }
 }
 
-fn write(
-    first: &Taken,
-    second: &Taken,
-    found: &[Difference],
-    out: &mut dyn Write,
-) -> Result<Status, Stopped> {
-    let (mut first, mut second) = (Colours::of(first), Colours::of(second));
+fn write(files: [&Taken; 2], found: &[Difference], out: &mut dyn Write) -> Result<Status, Stopped> {
+    let [mut first, mut second] = files.map(Colours::of);
     let mut differing = 0;
     for (position, found) in found.iter().enumerate() {
         let (old, new) = (first.next(), second.next());
@@ -86,7 +77,8 @@ fn write(
             Difference::OnlySecond => ("only in the second", [new, None]),
         };
         differing += 1;
-        let colours: Vec<String> = colours.into_iter().flatten().collect();
+        let colours = colours.into_iter().flatten();
+        let colours: Vec<String> = colours.map(|colour| colour.words()).collect();
         writeln!(out, "{position} {what}: {}", colours.join(" -> "))?;
     }
     if differing == 0 {
@@ -97,10 +89,81 @@ fn write(
     Ok(Status::Different)
 }
 
-/// The colours of an accepted palette, in words; groups are passed over.
+fn write_object(
+    files: [&Taken; 2],
+    found: &[Difference],
+    out: &mut dyn Write,
+) -> Result<Status, Stopped> {
+    let differing = found
+        .iter()
+        .filter(|kind| **kind != Difference::Same)
+        .count();
+    let mut object = begun(files, true, out)?;
+    object.plain("same", differing == 0)?;
+    object.plain("positions", found.len())?;
+    object.plain("differing", differing)?;
+    let mut array = object.array("differences")?;
+    let [mut first, mut second] = files.map(Colours::of);
+    for (position, found) in found.iter().enumerate() {
+        let (old, new) = (first.next(), second.next());
+        let what = match found {
+            Difference::Same => continue,
+            Difference::Name => "name",
+            Difference::Colour => "colour",
+            Difference::Both => "both",
+            Difference::OnlyFirst => "only first",
+            Difference::OnlySecond => "only second",
+        };
+        let mut object = array.object()?;
+        object.plain("position", position)?;
+        object.text("difference", what)?;
+        for (key, colour) in [("first", old), ("second", new)] {
+            if let Some(colour) = colour {
+                let mut within = object.object(key)?;
+                colour.pairs(&mut within)?;
+                within.end()?;
+            }
+        }
+        object.end()?;
+    }
+    array.end()?;
+    object.end()?;
+    writeln!(out)?;
+    Ok(match differing {
+        0 => Status::Fine,
+        _ => Status::Different,
+    })
+}
+
+fn write_refused(files: [&Taken; 2], refused: &Refused, out: &mut dyn Write) -> io::Result<()> {
+    let mut object = begun(files, false, out)?;
+    object.plain("refused", refused.file)?;
+    let within = object.object("refusal")?;
+    let file = files[refused.file as usize - 1];
+    refusals::object(file, &refused.refusal, within)?;
+    object.end()?;
+    writeln!(out)
+}
+
+fn begun<'a>(files: [&Taken; 2], accepted: bool, out: &'a mut dyn Write) -> io::Result<Object<'a>> {
+    let mut object = Object::begin(out)?;
+    object.text("first_file", &files[0].title)?;
+    object.text("first_kind", files[0].kind.word())?;
+    object.text("second_file", &files[1].title)?;
+    object.text("second_kind", files[1].kind.word())?;
+    object.plain("accepted", accepted)?;
+    Ok(object)
+}
+
+/// The colours of an accepted palette; groups are passed over.
 enum Colours<'a> {
     Aco(aco::Walk<'a>),
     Ase(ase::Walk<'a>),
+}
+
+enum Colour<'a> {
+    Aco(aco::Swatch<'a>),
+    Ase(ase::Colour<'a>),
 }
 
 impl<'a> Colours<'a> {
@@ -113,56 +176,29 @@ impl<'a> Colours<'a> {
     }
 }
 
-impl Iterator for Colours<'_> {
-    type Item = String;
+impl<'a> Iterator for Colours<'a> {
+    type Item = Colour<'a>;
 
-    fn next(&mut self) -> Option<String> {
+    fn next(&mut self) -> Option<Colour<'a>> {
         match self {
-            Colours::Aco(walk) => walk.next().map(|swatch| {
-                let values = samples(swatch.space, swatch.samples);
-                colour(space(swatch.space), &values, swatch.name)
-            }),
-            Colours::Ase(walk) => walk.next().map(|block| {
-                let channels = block.channels;
-                let values = channels.values().iter().map(|value| format!("{value:?}"));
-                let values: Vec<String> = values.collect();
-                colour(model(channels.model()), &values, block.name)
-            }),
+            Colours::Aco(walk) => walk.next().map(Colour::Aco),
+            Colours::Ase(walk) => walk.next().map(Colour::Ase),
         }
     }
 }
 
-/// The space or model, the numbers, and the name in quotes.
-fn colour(of: &str, values: &[String], name: Units<'_>) -> String {
-    format!("{of} {} {}", values.join(" "), quoted(name))
-}
-
-/// The samples that the space has; the chrominances of Lab have a sign.
-fn samples(space: Space, samples: [u16; 4]) -> Vec<String> {
-    let values = samples.iter().take(space.count()).enumerate();
-    values
-        .map(|(index, &sample)| match space {
-            Space::Lab if index > 0 => (sample as i16).to_string(),
-            _ => sample.to_string(),
-        })
-        .collect()
-}
-
-fn space(space: Space) -> &'static str {
-    match space {
-        Space::Rgb => "RGB",
-        Space::Hsb => "HSB",
-        Space::Cmyk => "CMYK",
-        Space::Lab => "Lab",
-        Space::Gray => "gray",
+impl Colour<'_> {
+    fn words(&self) -> String {
+        match self {
+            Colour::Aco(found) => swatch(found),
+            Colour::Ase(found) => colour(found),
+        }
     }
-}
 
-fn model(model: Model) -> &'static str {
-    match model {
-        Model::Rgb => "RGB",
-        Model::Cmyk => "CMYK",
-        Model::Lab => "LAB",
-        Model::Gray => "Gray",
+    fn pairs(&self, object: &mut Object<'_>) -> io::Result<()> {
+        match self {
+            Colour::Aco(found) => swatch_pairs(found, object),
+            Colour::Ase(found) => colour_pairs(found, object),
+        }
     }
 }

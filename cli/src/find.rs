@@ -1,31 +1,24 @@
 //! `find BOOK NAME`: a colour of a book by its printed name.
 
 use crate::arguments::{parse, Misuse};
+use crate::colours::space;
+use crate::each::{begun, refused, Form};
 use crate::files::{complain, take, Kind, Taken};
+use crate::objects::record_pairs;
 use crate::refusals::line;
+use crate::shown::record_words;
 use crate::status::Status;
-use crate::text::{quoted, quoted_text};
+use crate::text::quoted_text;
 use crate::Stopped;
-use khuyurek::{acb, Refusal, Space, Units};
+use khuyurek::{acb, Refusal};
 use std::ffi::OsString;
 use std::io::Write;
-
-pub const USAGE: &str = "\
-usage: khuyurek find [--kind acb] [--] BOOK NAME
-
-Looks in a colour book for the first colour of that name, without prefix and suffix, and writes its
-number, its full name and the components as they are shown: percents in CMYK, lightness in percent
-and signed a and b in Lab, 0 to 255 in RGB. For - the book is standard input.
-
-Exit status: 0 found; 1 no colour has that name; 3 the book is refused; 2 wrong usage, or a file that
-cannot be read or is no colour book.
-";
 
 /// The refusal of a search that finds none.
 const NO_RECORD: u32 = 12;
 
 pub fn run(words: &[OsString], out: &mut dyn Write) -> Result<Status, Stopped> {
-    let arguments = parse(words, &[])?;
+    let arguments = parse(words, &["--json"])?;
     let [book, name] = arguments.names[..] else {
         return Err(Misuse("find takes a book and a name".to_string()).into());
     };
@@ -38,19 +31,19 @@ pub fn run(words: &[OsString], out: &mut dyn Write) -> Result<Status, Stopped> {
             complain(&format!("{title}: {} is no colour book", kind.title()));
             return Ok(Status::Failed);
         }
-        Err(complaint) => {
-            complain(&complaint);
+        Err(untaken) => {
+            untaken.complain();
             return Ok(Status::Failed);
         }
     };
-    match find(&book, name) {
-        Ok(Some(record)) => write(&book, record, out),
-        Ok(None) => {
-            writeln!(out, "no colour is called {}", quoted_text(name))?;
-            Ok(Status::Different)
-        }
-        Err(refusal) => {
-            writeln!(out, "{}", line(&book, &refusal))?;
+    match (find(&book, name), Form::of(&arguments)) {
+        (Ok(found), Form::Words) => write(&book, name, found, out),
+        (Ok(found), Form::Json) => write_object(&book, name, found, out),
+        (Err(refusal), form) => {
+            match form {
+                Form::Words => writeln!(out, "{}", line(&book, &refusal))?,
+                Form::Json => refused(&book, &refusal, out)?,
+            }
             Ok(Status::Refused)
         }
     }
@@ -67,18 +60,44 @@ fn find(book: &Taken, name: &str) -> Result<Option<usize>, Refusal> {
     }
 }
 
-fn write(book: &Taken, record: usize, out: &mut dyn Write) -> Result<Status, Stopped> {
-    let judged = "a record that was found is there";
-    let (_, header) = acb::judge(&book.bytes).expect(judged);
-    let full = acb::full_name(&book.bytes, record).expect(judged);
-    let shown = acb::shown_at(&book.bytes, record).expect(judged);
-    let values: Vec<String> = shown.values().iter().map(i32::to_string).collect();
-    let space = match header.space {
-        Space::Cmyk => "CMYK",
-        Space::Lab => "Lab",
-        _ => "RGB",
+const JUDGED: &str = "a record that was found is there";
+
+fn write(
+    book: &Taken,
+    name: &str,
+    found: Option<usize>,
+    out: &mut dyn Write,
+) -> Result<Status, Stopped> {
+    let Some(record) = found else {
+        writeln!(out, "no colour is called {}", quoted_text(name))?;
+        return Ok(Status::Different);
     };
-    let name = quoted(Units::new(&full));
-    writeln!(out, "{record} {name} {space} {}", values.join(" "))?;
+    let book = acb::read(&book.bytes).expect(JUDGED);
+    let swatch = book.get(record).expect(JUDGED);
+    writeln!(out, "{record} {}", record_words(&book, &swatch))?;
     Ok(Status::Fine)
+}
+
+fn write_object(
+    file: &Taken,
+    name: &str,
+    found: Option<usize>,
+    out: &mut dyn Write,
+) -> Result<Status, Stopped> {
+    let mut object = begun(file, true, out)?;
+    object.text("asked", name)?;
+    object.plain("found", found.is_some())?;
+    if let Some(record) = found {
+        let book = acb::read(&file.bytes).expect(JUDGED);
+        let swatch = book.get(record).expect(JUDGED);
+        object.plain("record", record)?;
+        object.text("space", space(book.header().space))?;
+        record_pairs(&book, &swatch, &mut object)?;
+    }
+    object.end()?;
+    writeln!(out)?;
+    Ok(match found {
+        Some(_) => Status::Fine,
+        None => Status::Different,
+    })
 }

@@ -1,22 +1,37 @@
-//! The program behind `khuyurek check`, `compare`, `report` and `find`: what the proved
-//! library says of colour files, for people. docs/LISTINGS.md describes the output.
+//! `khuyurek` for people: what the proved library says of colour files, in words, and
+//! as JSON for programs. docs/COMMAND.md describes it.
 //!
-//! All judgement is the library's. A subcommand is a module with its usage and a
-//! function `run`; what they share is in `arguments`, `files`, `refusals`,
-//! `text` and `status`.
+//! All judgement is the library's. A subcommand is a module with a function `run`, and
+//! a text under `usage`; what they share: `arguments`, `files`, `each` (one file after the
+//! other), `held` (what a file holds), `shown`, `exact` and `objects` (three forms of a
+//! listing), `colours`, `values`, `text`, `json`, `refusals`, `places`, `progress`,
+//! `whole_file` and `status`.
 
 #![forbid(unsafe_code)]
 
 mod arguments;
 mod check;
+mod colours;
 mod compare;
+mod convert;
+mod each;
+mod exact;
 mod files;
 mod find;
+mod held;
+mod json;
+mod list;
+mod objects;
+mod places;
+mod progress;
 mod refusals;
 mod report;
+mod shown;
 mod status;
 mod text;
 mod totals;
+mod values;
+mod whole_file;
 
 use arguments::Misuse;
 use status::Status;
@@ -52,28 +67,28 @@ impl From<io::Error> for Stopped {
     }
 }
 
-const SUBCOMMANDS: [Subcommand; 4] = [
-    Subcommand {
-        name: "check",
-        usage: check::USAGE,
-        run: check::run,
-    },
-    Subcommand {
-        name: "compare",
-        usage: compare::USAGE,
-        run: compare::run,
-    },
-    Subcommand {
-        name: "report",
-        usage: report::USAGE,
-        run: report::run,
-    },
-    Subcommand {
-        name: "find",
-        usage: find::USAGE,
-        run: find::run,
-    },
+/// A subcommand; its usage is the text of its name under `usage`.
+macro_rules! subcommand {
+    ($name:literal, $run:path) => {
+        Subcommand {
+            name: $name,
+            usage: include_str!(concat!("usage/", $name, ".txt")),
+            run: $run,
+        }
+    };
+}
+
+const SUBCOMMANDS: [Subcommand; 7] = [
+    subcommand!("list", list::run),
+    subcommand!("check", check::run),
+    subcommand!("compare", compare::run),
+    subcommand!("report", report::run),
+    subcommand!("find", find::run),
+    subcommand!("blocks", list::run_blocks),
+    subcommand!("convert", convert::run),
 ];
+
+const USAGE: &str = include_str!("usage/khuyurek.txt");
 
 fn main() -> ExitCode {
     let words: Vec<OsString> = std::env::args_os().skip(1).collect();
@@ -100,23 +115,30 @@ fn main() -> ExitCode {
 }
 
 fn called(words: &[OsString], out: &mut dyn Write) -> Result<Status, Stopped> {
-    let (name, rest) = words
-        .split_first()
-        .ok_or_else(|| Misuse("no subcommand is named".to_string()))?;
-    let subcommand = SUBCOMMANDS.iter().find(|known| name == known.name);
+    let subcommand = words.first().and_then(|name| {
+        let mut known = SUBCOMMANDS.iter();
+        known.find(|known| name == known.name)
+    });
     let Some(subcommand) = subcommand else {
-        if name == "--help" || name == "-h" {
-            for subcommand in &SUBCOMMANDS {
-                writeln!(out, "{}", subcommand.usage)?;
-            }
-            return Ok(Status::Fine);
-        }
-        let name = text::shown_name(name);
-        return Err(Misuse(format!("no such subcommand: {name}")).into());
+        return unnamed(words, out);
     };
-    if arguments::asks_for_help(rest) {
+    let rest = &words[1..];
+    if arguments::asks(rest, &["--help", "-h"]) {
         write!(out, "{}", subcommand.usage)?;
         return Ok(Status::Fine);
     }
     (subcommand.run)(rest, out)
+}
+
+/// Without a subcommand, files are listed.
+fn unnamed(words: &[OsString], out: &mut dyn Write) -> Result<Status, Stopped> {
+    if arguments::asks(words, &["--help", "-h"]) {
+        write!(out, "{USAGE}")?;
+        return Ok(Status::Fine);
+    }
+    if arguments::asks(words, &["--version"]) {
+        writeln!(out, "khuyurek {}", env!("CARGO_PKG_VERSION"))?;
+        return Ok(Status::Fine);
+    }
+    list::run_headed(words, out)
 }

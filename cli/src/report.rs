@@ -1,10 +1,10 @@
 //! `report FILE...`: totals over many files, and the sum of such reports.
 
 use crate::arguments::{parse, Misuse};
-use crate::files::{complain, read, take, Kind, Taken};
+use crate::files::{complain, read, take, title, Kind, Taken, Untaken};
+use crate::progress::Progress;
 use crate::refusals::line;
 use crate::status::Status;
-use crate::text::shown_name;
 use crate::totals::{from_json, lines, to_json};
 use crate::Stopped;
 use khuyurek::report::{self, Report};
@@ -12,28 +12,11 @@ use khuyurek::{aco, Refusal};
 use std::ffi::{OsStr, OsString};
 use std::io::{self, BufRead, Write};
 
-pub const USAGE: &str = "\
-usage: khuyurek report [--json] [--kind KIND] [--] FILE...
-       khuyurek report [--json] --merge [--] REPORT...
-
-Counts over ACO, ASE and ACB files and descriptors: a line for each file that is refused, then a line
-for each total: files accepted, and refused by each number; colours by format and by space or model;
-colours with a name and without; dummies; descriptor rows. For - the names of files are read from
-standard input, one a line.
-
-  --json        the totals as an object of JSON; refused files are named on standard error
-  --merge       sums reports that were written with --json
-  --kind KIND   all files are of this kind: aco, ase, acb or descriptor. Else as for listing
-
-Exit status: 0 every file is accepted; 3 some file is refused; 2 wrong usage, a file that cannot be
-read or whose kind cannot be told, which then counts nowhere, or a total past 4294967295.
-";
-
 /// A report that is longer is none of ours.
-const REPORT_LIMIT: u64 = 1 << 16;
+const REPORT_LIMIT: usize = 1 << 16;
 
 pub fn run(words: &[OsString], out: &mut dyn Write) -> Result<Status, Stopped> {
-    let arguments = parse(words, &["--json", "--merge"])?;
+    let arguments = parse(words, &["--json", "--merge", "--progress"])?;
     if arguments.names.is_empty() {
         return Err(Misuse("no file is named".to_string()).into());
     }
@@ -45,11 +28,14 @@ pub fn run(words: &[OsString], out: &mut dyn Write) -> Result<Status, Stopped> {
     let status = if arguments.has("--merge") {
         sum(&arguments.names, &mut report)
     } else {
+        let named = !arguments.names.iter().any(|name| *name == "-");
+        let files = named.then_some(arguments.names.len());
         let mut reporting = Reporting {
             kind: arguments.kind,
             json,
             report: &mut report,
             status: Status::Fine,
+            progress: Progress::of(files, arguments.has("--progress"), true),
         };
         for name in arguments.names {
             reporting.name(name, out)?;
@@ -71,6 +57,7 @@ struct Reporting<'a> {
     json: bool,
     report: &'a mut Report,
     status: Status,
+    progress: Progress,
 }
 
 impl Reporting<'_> {
@@ -100,10 +87,11 @@ impl Reporting<'_> {
     }
 
     fn file(&mut self, name: &OsStr, out: &mut dyn Write) -> Result<(), Stopped> {
+        self.progress.next(&title(name));
         match take(name, self.kind) {
             Ok(file) => self.add(&file, out),
-            Err(complaint) => {
-                self.complain(&complaint);
+            Err(Untaken { title, reason }) => {
+                self.complain(&format!("{title}: {reason}"));
                 Ok(())
             }
         }
@@ -121,6 +109,7 @@ impl Reporting<'_> {
                 self.status = self.status.max(Status::Refused);
                 let line = line(file, &with_record(file, refusal));
                 if self.json {
+                    self.progress.clear();
                     complain(&line);
                 } else {
                     writeln!(out, "{line}")?;
@@ -136,6 +125,7 @@ impl Reporting<'_> {
     }
 
     fn complain(&mut self, complaint: &str) {
+        self.progress.clear();
         complain(complaint);
         self.status = Status::Failed;
     }
@@ -176,12 +166,7 @@ fn sum(names: &[&OsStr], report: &mut Report) -> Status {
     let mut status = Status::Fine;
     for name in names {
         if let Err(complaint) = add_report(name, report) {
-            let title = if *name == "-" {
-                "standard input".to_string()
-            } else {
-                shown_name(name)
-            };
-            complain(&format!("{title}: {complaint}"));
+            complain(&format!("{}: {complaint}", title(name)));
             status = Status::Failed;
         }
     }

@@ -16,6 +16,27 @@ pub fn quoted_text(text: &str) -> String {
     quote(text.chars().map(Ok))
 }
 
+/// Bytes in quotes whose characters are not known: ASCII as it is, and each other byte
+/// by its number in hex, as `\x8E`.
+pub fn quoted_bytes(bytes: &[u8]) -> String {
+    format!("\"{}\"", bytes.escape_ascii())
+}
+
+/// Bytes as text for programs: each is the character of its number.
+pub fn characters(bytes: &[u8]) -> String {
+    bytes.iter().map(|byte| char::from(*byte)).collect()
+}
+
+/// A name's units in hex, four digits each.
+pub fn unit_digits(name: Units<'_>) -> String {
+    name.iter().map(|unit| format!("{unit:04X}")).collect()
+}
+
+/// Whether a name has a surrogate without its other half, which no text has.
+pub fn is_torn(name: Units<'_>) -> bool {
+    char::decode_utf16(name.iter()).any(|c| c.is_err())
+}
+
 /// A file's name, in quotes where it is empty or would break the line or steer a
 /// terminal.
 pub fn shown_name(name: &OsStr) -> String {
@@ -25,6 +46,12 @@ pub fn shown_name(name: &OsStr) -> String {
     } else {
         name.into_owned()
     }
+}
+
+/// So many of something, in words.
+pub fn many(count: usize, what: &str) -> String {
+    let ending = if count == 1 { "" } else { "s" };
+    format!("{count} {what}{ending}")
 }
 
 fn quote(chars: impl Iterator<Item = Result<char, u16>>) -> String {

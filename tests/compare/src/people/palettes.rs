@@ -54,7 +54,7 @@ fn expected(files: &[(u32, Vec<u8>); 2], names: [&str; 2]) -> (String, i32) {
         Err(error) => {
             let file = error.file as usize - 1;
             let (_, kind) = KINDS[files[file].0 as usize];
-            return (refused(names[file], kind, &error.refusal), 3);
+            return (refused(names[file], kind, &error.refusal), 1);
         }
     };
     if compared.differences == 0 {
@@ -98,7 +98,7 @@ fn colours(kind: u32, file: &[u8]) -> Vec<String> {
                 _ => format!("gray {a}"),
             };
             let units = &file[swatch.name..][..2 * swatch.units as usize];
-            colours.push(format!("{colour} {}", quoted(units)));
+            colours.push(format!("{} {colour}", quoted(units)));
             at = step.next;
         }
     }
@@ -117,7 +117,7 @@ fn colours(kind: u32, file: &[u8]) -> Vec<String> {
             model => unreachable!("no model: {model:08X}"),
         };
         let units = &file[record.name..][..2 * record.units as usize];
-        colours.push(format!("{colour} {}", quoted(units)));
+        colours.push(format!("{} {colour}", quoted(units)));
         at = step.next;
     }
 }

@@ -95,7 +95,7 @@ fn files(
                 },
             };
             lines += &refused(&name, KINDS[kind], &refusal);
-            status = 3;
+            status = 1;
         }
         names.push(name);
     }

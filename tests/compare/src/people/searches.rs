@@ -50,7 +50,7 @@ fn any_name(book: &Book, random: &mut Random) -> Option<String> {
 
 fn expected(file: &[u8], book: &Book, path: &str, name: &str) -> (String, i32) {
     if let Err(refusal) = acb::judge(file) {
-        return (refused(path, "ACB", &refusal), 3);
+        return (refused(path, "ACB", &refusal), 1);
     }
     let units: Vec<u16> = name.encode_utf16().collect();
     let mut colours = book.colours.iter();

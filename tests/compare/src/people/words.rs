@@ -1,4 +1,4 @@
-//! What the program writes, in the words of docs/LISTINGS.md.
+//! What the program writes, in the words of docs/COMMAND.md.
 
 use reference::Refusal;
 
