@@ -3,21 +3,20 @@ use Prim.Native.Nat.{ℕ, zero, suc, _+_, _-_, _*_, _/_, _^_, _≤_, _<_}
 use mathlib.Core.Path.{_≡_, refl, sym, ap, _∙_, subst}
 use mathlib.Core.List.{List, [], _∷_, _++_}
 use mathlib.Core.Bool.{Bool, true, false}
-use lib.Dec.{leb, eqb}
+use lib.Dec.{leb}
 use lib.ListN.{length, getD, take, drop, length-take, length-drop}
 use lib.Seq.{getD-drop}
 use lib.Ieee.{binary64, ofBits}
 use lib.Ieee.Scale.{finite}
-use borrow.Author.Tests.{leb-true, eqb-true}
+use borrow.Author.Tests.{leb-true}
 use native.Mathlib.Omega.{arith}
-use Rattle.algebra.specs.Chars.{chars}
 use Rattle.algebra.specs.Numbers.{num, counted}
 use Rattle.algebra.specs.Table.{rowAt, rows}
-use Rattle.algebra.specs.Reader.{Res, ok, refuse, then, pick, field, body, judged, each, done, numberOf}
+use Rattle.algebra.specs.Reader.{Res, ok, refuse, then, pick, field, body, each, numberOf}
 use Rattle.algebra.specs.Store.{part}
 use Rattle.algebra.specs.Faults.{firstOf, faults}
 use Rattle.algebra.proofs.Tells.{first-inv, pick-none}
-use Rattle.descriptor.specs.Reading.{double, bits}
+use Rattle.descriptor.specs.Reading.{double}
 use Rattle.descriptor_heads.specs.Heads.{Due, items, pairs, forms, columns, Stack, deepest}
 use Rattle.descriptor_entry.specs.declared.Field.{Field}
 use Rattle.descriptor_entry.specs.declared.Field.the-variants as f

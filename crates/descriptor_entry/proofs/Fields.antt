@@ -1,30 +1,30 @@
 -- What reading gives where the bytes of an entry's fields stand: each field, and each kind. Assumes nothing.
 use Prim.Native.Nat.{ℕ, zero, suc, _+_, _-_, _*_, _^_, _≤_, _<_}
 use mathlib.Core.Path.{_≡_, refl, sym, ap, ap₂, _∙_, subst}
-use mathlib.Core.List.{List, [], _∷_, _++_}
+use mathlib.Core.List.{List, [], _∷_}
 use mathlib.Core.Bool.{Bool, true, false}
 use lib.Dec.{leb, eqb}
-use lib.ListN.{length, length-append}
+use lib.ListN.{length}
 use lib.Ieee.{binary64, ofBits}
 use lib.Ieee.Scale.{finite}
 use native.Mathlib.Omega.{arith}
 use native.Mathlib.Nat.{add-zero}
-use Rattle.algebra.specs.Numbers.{be, num, nums, joined, At, Bytes, All}
-use Rattle.algebra.specs.Reader.{Res, ok, refuse, Reader, then, pick, field, body, rule, unless, judged, give, _>>=_, each, done, numberOf}
+use Rattle.algebra.specs.Numbers.{be, nums, joined, At, Bytes, All}
+use Rattle.algebra.specs.Reader.{Res, ok, refuse, Reader, then, pick, field, body, rule, judged, _>>=_, each, done, numberOf}
 use Rattle.algebra.specs.Store.{part}
-use Rattle.algebra.specs.Faults.{firstOf, faults, faultsFrom}
+use Rattle.algebra.specs.Faults.{firstOf, faultsFrom}
 use Rattle.algebra.specs.Algebra.{Tells}
-use Rattle.algebra.proofs.Laws.{field-in, body-in}
-use Rattle.algebra.proofs.Places.{length-be, at-in, at-left, at-right, num-be, at-part, part-nums, nums-bes, nums-lt, length-nums}
+use Rattle.algebra.proofs.Laws.{body-in}
+use Rattle.algebra.proofs.Places.{at-in, at-part, part-nums, nums-bes, nums-lt, length-nums}
 use Rattle.algebra.proofs.Tells.{first-none, Outcome, good, bad, outcome, tells, each-tells, unless-tells}
 use Rattle.descriptor.specs.Reading as count
-use Rattle.descriptor.specs.Reading.{boolean, bits, unit, arrayUnit, passing, skip, id, shut, closing, unicode, class, flag, double, enumerated, rawBytes, isUnit, isArrayUnit, unitDouble, column}
+use Rattle.descriptor.specs.Reading.{boolean, bits, unit, arrayUnit, passing, skip, id, shut, closing, unicode, flag, double, rawBytes, isUnit, isArrayUnit, unitDouble, column}
 use Rattle.descriptor_entry.specs.Pieces as p
-use Rattle.descriptor_entry.specs.Pieces.{Piece, number, run, doubles, bytesOf, faultOf, bytes, fault, Fit, Fits}
+use Rattle.descriptor_entry.specs.Pieces.{number, run, doubles, faultOf, bytes, Fit, Fits}
 use Rattle.descriptor_entry.specs.Shapes.{idLength}
 use Rattle.descriptor_entry.proofs.Laws.{part-inside}
 use Rattle.descriptor_entry.proofs.Meeting as r
-use Rattle.descriptor_entry.proofs.Meeting.{Meets, Reads, meets-then, reads-then, reads-one, reads-give, reads-passing, reads-judged, reads-field, reads-run, reads-skip}
+use Rattle.descriptor_entry.proofs.Meeting.{Meets, Reads, reads-then, reads-one, reads-passing, reads-judged, reads-field, reads-run}
 
 -- numbers of a part of the text, where it stands in s
 same-nums : (s text : List ℕ) → Bytes text → (w n at first k : ℕ) → k ≡ n * w → 0 < k → k ≤ length text - first → At s at (part text first k) → nums w n s at ≡ nums w n text first
@@ -106,7 +106,7 @@ unfolding double
 double-tells s = tells (λ at v fit h. done-outcome _ _ _ (outcome (unless-tells s 8 (λ v. finite (ofBits binary64 v)) 5 (omega arith)) at v fit h))
 
 module _ (s text : List ℕ) (b : Bytes text) where
-  reads-doubles : (n first : ℕ) → Fit text (doubles first n) → Reads s text (doubles first n ∷ []) (passing (each n 0 (λ i. double))) tt
+  pub reads-doubles : (n first : ℕ) → Fit text (doubles first n) → Reads s text (doubles first n ∷ []) (passing (each n 0 (λ i. double))) tt
   unfolding each
   reads-doubles n first fit = reads-one s text (doubles first n) (passing (each n 0 (λ i. double))) tt (λ at h. go n refl at h)
     where

@@ -1,30 +1,30 @@
 -- The head of a member where the bytes of an entry stand. Assumes nothing.
-use Prim.Native.Nat.{ℕ, zero, suc, _+_, _-_, _*_, _^_, _≤_, _<_}
-use mathlib.Core.Path.{_≡_, refl, sym, ap, ap₂, _∙_, subst, subst₂}
-use mathlib.Core.List.{List, [], _∷_, _++_}
+use Prim.Native.Nat.{ℕ, _+_}
+use mathlib.Core.Path.{_≡_, refl, sym, ap, ap₂, subst, subst₂}
+use mathlib.Core.List.{List, _∷_, _++_}
 use mathlib.Core.Bool.{Bool, true, false}
-use lib.Dec.{leb, eqb}
+use lib.Dec.{eqb}
 use lib.ListN.{length, length-append}
 use native.Mathlib.Omega.{arith}
 use native.Mathlib.Nat.{add-zero}
 use Rattle.algebra.specs.Chars.{chars}
-use Rattle.algebra.specs.Numbers.{be, At, Bytes, joined}
+use Rattle.algebra.specs.Numbers.{At, Bytes}
 use Rattle.algebra.specs.Reader.{Res, ok, refuse, Reader, then, pick, field, rule, unless, judged}
 use Rattle.algebra.specs.Faults.{firstOf, faults}
-use Rattle.algebra.proofs.Laws.{field-in, field-short}
-use Rattle.algebra.proofs.Places.{length-be, at-in, at-left, at-right, num-be}
-use Rattle.algebra.proofs.Tells.{first-none, first-zero}
-use Rattle.descriptor.specs.Reading.{Known, is, unknown, beside, known, id, class, Sort, sortOf, formOf, refValue, column, columnType, version}
+use Rattle.algebra.proofs.Laws.{field-short}
+use Rattle.algebra.proofs.Places.{at-left, at-right}
+use Rattle.algebra.proofs.Tells.{first-none}
+use Rattle.descriptor.specs.Reading.{Known, is, unknown, beside, known, id, Sort, sortOf, formOf, refValue, column, columnType}
 use Rattle.descriptor_heads.specs.Heads as h
-use Rattle.descriptor_heads.specs.Heads.{Due, items, pairs, columns, Opened, opens, itemHead, memberHead, bare, rootHead}
+use Rattle.descriptor_heads.specs.Heads.{Due, items, pairs, columns, Opened, opens, itemHead, memberHead, bare}
 use Rattle.descriptor_raw.specs.Raw.{dueOf}
 use Rattle.descriptor_entry.specs.declared.Field.the-variants as f
 use Rattle.descriptor_entry.specs.declared.Shape.{Shape}
-use Rattle.descriptor_entry.specs.Pieces.{Piece, number, size, bytes, fault, faultOf, bytesOf, Fits}
-use Rattle.descriptor_entry.specs.Shapes.{Entry, numberIn, kindOf, countOf, objectsOf, piecesOf, both, itemShapes, formShapes, columnShapes, shapeIn, itemShape, formShape, columnShape, shapeOf}
-use Rattle.descriptor_entry.specs.Entries.{keyPieces, objectsDue, fieldPieces, headPieces, asks}
+use Rattle.descriptor_entry.specs.Pieces.{Piece, number, size, bytes, fault, faultOf, Fits}
+use Rattle.descriptor_entry.specs.Shapes.{Entry, numberIn, kindOf, countOf, objectsOf, piecesOf, both, itemShapes, formShapes, shapeIn, itemShape, formShape, columnShape, shapeOf}
+use Rattle.descriptor_entry.specs.Entries.{keyPieces, fieldPieces, headPieces, asks}
 use Rattle.descriptor_entry.proofs.Laws.{bytes-append, faults-append, fits-left, fits-right, bytes-length}
-use Rattle.descriptor_entry.proofs.Meeting.{Meets, good, bad, meets-then, Reads}
+use Rattle.descriptor_entry.proofs.Meeting.{Meets, good, bad, meets-then, begins}
 use Rattle.descriptor_entry.proofs.Fields.{reads-id, reads-column}
 use Rattle.descriptor_entry.proofs.Suited.{Both, each, neither, paired, Suits, SuitsForm, item-table, form-table}
 
@@ -32,24 +32,6 @@ use Rattle.descriptor_entry.proofs.Suited.{Both, each, neither, paired,
 pub meets-made : {A B : Type 0} {m : Res A} {x end : ℕ} {a : A} → Meets m x end a → (g : A → B) → Meets (then m (λ c q. ok (g c) q)) x end (g a)
 meets-made (good e z) g = good (ap (λ (w : Res _). then w (λ c q. ok (g c) q)) e) z
 meets-made (bad p r k e l) g = bad p r k (ap (λ (w : Res _). then w (λ c q. ok (g c) q)) e) l
-
-module _ (s text : List ℕ) where
-  -- a number of four bytes, and what stands behind it
-  pub record Begins (k x : ℕ) (ps : List Piece) (at : ℕ) : Type 0 where
-    pub number-is : field 4 s at ≡ ok k (at + 4)
-    pub behind : At s (at + 4) (bytes text ps)
-    pub length-is : at + 4 + length (bytes text ps) ≡ at + length (bytes text (number 4 k x ∷ ps))
-
-  pub begins : (k x : ℕ) (ps : List Piece) (at : ℕ) → k < 256 ^ 4 → At s at (bytes text (number 4 k x ∷ ps)) → Begins k x ps at
-  unfolding joined
-  begins k x ps at small stands =
-      let l : length (be 4 k) ≡ 4 = length-be 4 k in
-      let left = at-left s at (be 4 k) (bytes text ps) stands in
-      let right = at-right s at (be 4 k) (bytes text ps) stands in record {
-        number-is = field-in 4 s at (omega (arith, at-in s at (be 4 k) left)) ∙ ap (λ (n : ℕ). ok n (at + 4)) (num-be s 4 at k small left);
-        behind = subst (λ (n : ℕ). At s (at + n) (bytes text ps)) l right;
-        length-is = omega (arith, length-append (be 4 k) (bytes text ps));
-      }
 
 module _ (s text : List ℕ) (b : Bytes text) where
   -- ---- items

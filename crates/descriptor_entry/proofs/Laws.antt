@@ -1,17 +1,15 @@
 -- Pieces one after the other. Assumes nothing.
-use Prim.Native.Nat.{ℕ, zero, suc, _+_, _-_, _*_, _^_, _≤_, _<_}
-use mathlib.Core.Path.{_≡_, refl, sym, ap, ap₂, _∙_, subst}
+use Prim.Native.Nat.{ℕ, zero, suc, _+_, _-_, _≤_}
+use mathlib.Core.Path.{_≡_, refl, sym, ap, ap₂, _∙_}
 use mathlib.Core.List.{List, [], _∷_, _++_}
-use lib.Dec.{eqb}
 use lib.ListN.{length, length-append, length-take, length-drop}
 use native.Mathlib.Omega.{arith}
-use Rattle.algebra.specs.Numbers.{be, joined}
-use Rattle.algebra.specs.Reader.{pick, body, numberOf}
+use Rattle.algebra.specs.Numbers.{joined}
 use Rattle.algebra.specs.Store.{part}
 use Rattle.algebra.specs.Faults.{firstOf, faults}
 use Rattle.algebra.proofs.Places.{length-be, joined-append}
 use Rattle.algebra.proofs.Tells.{first-some}
-use Rattle.descriptor_entry.specs.Pieces.{Piece, number, run, units, doubles, sizeOf, bytesOf, faultOf, size, bytes, fault, Fit, Fits}
+use Rattle.descriptor_entry.specs.Pieces.{Piece, number, run, units, doubles, sizeOf, bytesOf, size, bytes, Fit, Fits}
 
 pub first-assoc : (a b c : ℕ) → firstOf a (firstOf b c) ≡ firstOf (firstOf a b) c
 first-assoc zero b c = refl

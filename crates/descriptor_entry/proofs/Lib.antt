@@ -6,5 +6,6 @@ pub mod Headed
 pub mod Members
 pub mod Whole
 pub mod Faultless
+pub mod Carried
 pub mod RoundTrip
 pub mod Tables

@@ -1,22 +1,20 @@
 -- What reading answers where the bytes of pieces stand, by their fault: a value and the place behind them, or a refusal of that number. Assumes nothing.
-use Prim.Native.Nat.{ℕ, zero, suc, _+_, _-_, _*_, _^_, _≤_, _<_}
+use Prim.Native.Nat.{ℕ, _+_, _*_, _^_, _<_}
 use mathlib.Core.Path.{_≡_, refl, sym, ap, ap₂, _∙_, subst}
 use mathlib.Core.List.{List, [], _∷_, _++_, append-nil}
 use mathlib.Core.Bool.{Bool, true, false}
-use lib.Dec.{eqb}
 use lib.ListN.{length, length-append}
 use native.Mathlib.Omega.{arith}
 use native.Mathlib.Nat.{add-zero}
-use Rattle.algebra.specs.Numbers.{be, num, nums, joined, At, Bytes, All}
-use Rattle.algebra.specs.Reader.{Res, ok, refuse, Reader, then, pick, field, body, rule, Judged, fine, unless, judged, give, _>>=_, each, done, numberOf}
+use Rattle.algebra.specs.Numbers.{be, joined, At}
+use Rattle.algebra.specs.Reader.{Res, ok, refuse, Reader, then, pick, field, rule, Judged, unless, judged, give, _>>=_, done, numberOf}
 use Rattle.algebra.specs.Store.{part}
-use Rattle.algebra.specs.Faults.{firstOf, faults, faultsFrom, found}
-use Rattle.algebra.specs.Algebra.{Tells}
+use Rattle.algebra.specs.Faults.{firstOf, faults}
 use Rattle.algebra.proofs.Laws.{field-in, body-in}
-use Rattle.algebra.proofs.Places.{length-be, at-in, at-left, at-right, num-be, at-part, at-take, part-nums, nums-bes, nums-lt, length-bes, length-nums, length-part}
+use Rattle.algebra.proofs.Places.{length-be, at-in, at-left, at-right, num-be}
 use Rattle.algebra.proofs.Tells.{first-none, first-some, first-zero}
-use Rattle.descriptor.specs.Reading.{passing, skip, id, shut, closing, unicode, class, flag, bits, double, enumerated, rawBytes}
-use Rattle.descriptor_entry.specs.Pieces.{Piece, number, run, units, doubles, sizeOf, bytesOf, faultOf, size, bytes, fault, Fit, Fits}
+use Rattle.descriptor.specs.Reading.{passing, skip}
+use Rattle.descriptor_entry.specs.Pieces.{Piece, number, run, bytesOf, faultOf, bytes, fault, Fit}
 use Rattle.descriptor_entry.proofs.Laws.{faults-append, bytes-append, part-inside}
 
 -- an answer by a fault's number x: the value a and the place `end`, or a refusal of that number
@@ -104,3 +102,20 @@ module _ (s text : List ℕ) where
       let z : at + n * 1 ≡ at + length (part text first n) = omega (arith, fit) in
       good (ap done (body-in 1 s at n (omega (arith, fit, at-in s at (part text first n) h))) ∙ ap (λ (k : ℕ). ok tt k) z)
       (ap numberOf (body-in 1 text first n (omega (arith, part-inside text first n fit)))))
+
+  -- a number of four bytes, and what stands behind it
+  pub record Begins (k x : ℕ) (ps : List Piece) (at : ℕ) : Type 0 where
+    pub number-is : field 4 s at ≡ ok k (at + 4)
+    pub behind : At s (at + 4) (bytes text ps)
+    pub length-is : at + 4 + length (bytes text ps) ≡ at + length (bytes text (number 4 k x ∷ ps))
+
+  pub begins : (k x : ℕ) (ps : List Piece) (at : ℕ) → k < 256 ^ 4 → At s at (bytes text (number 4 k x ∷ ps)) → Begins k x ps at
+  unfolding joined
+  begins k x ps at small stands =
+      let l : length (be 4 k) ≡ 4 = length-be 4 k in
+      let left = at-left s at (be 4 k) (bytes text ps) stands in
+      let right = at-right s at (be 4 k) (bytes text ps) stands in record {
+        number-is = field-in 4 s at (omega (arith, at-in s at (be 4 k) left)) ∙ ap (λ (n : ℕ). ok n (at + 4)) (num-be s 4 at k small left);
+        behind = subst (λ (n : ℕ). At s (at + n) (bytes text ps)) l right;
+        length-is = omega (arith, length-append (be 4 k) (bytes text ps));
+      }

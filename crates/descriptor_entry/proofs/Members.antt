@@ -1,17 +1,17 @@
 -- Members one after the other, where the bytes of entries stand up to a file's end; and the file. Assumes nothing.
-use Prim.Native.Nat.{ℕ, zero, suc, _+_, _-_, _*_, _^_, _≤_, _<_}
-use mathlib.Core.Path.{_≡_, refl, sym, ap, ap₂, _∙_, subst, subst₂}
+use Prim.Native.Nat.{ℕ, zero, suc, _+_, _-_, _≤_, _<_}
+use mathlib.Core.Path.{_≡_, refl, sym, ap, _∙_, subst, subst₂}
 use mathlib.Core.List.{List, [], _∷_, _++_}
 use mathlib.Core.Bool.{Bool, true, false}
-use lib.Dec.{leb, eqb}
+use lib.Dec.{leb}
 use lib.ListN.{length, length-append}
 use native.Mathlib.Omega.{arith}
 use native.Mathlib.Nat.{add-zero}
-use Rattle.algebra.specs.Numbers.{be, At, Bytes, joined}
-use Rattle.algebra.specs.Reader.{Res, ok, refuse, Reader, then, pick, until}
+use Rattle.algebra.specs.Numbers.{At, Bytes, joined}
+use Rattle.algebra.specs.Reader.{Res, ok, refuse, then, pick, until}
 use Rattle.algebra.specs.Faults.{firstOf, faults}
-use Rattle.algebra.proofs.Places.{at-left, at-right, at-in}
-use Rattle.descriptor_heads.specs.Heads.{Due, Opened, Stack, over, nextHead, settled, after, deepest, headAt, memberHead}
+use Rattle.algebra.proofs.Places.{at-left, at-right}
+use Rattle.descriptor_heads.specs.Heads.{Due, Opened, Stack, over, nextHead, after, deepest, headAt, memberHead}
 use Rattle.descriptor_entry.specs.Pieces.{Piece, number, size, bytes, fault, faultOf, Fits}
 use Rattle.descriptor_entry.specs.Shapes.{Entry, kindOf, shapeOf}
 use Rattle.descriptor_entry.specs.Entries.{keyPieces, objectsDue, fieldPieces, headPieces, asks, next, memberPieces, ending, asked}

@@ -1,7 +1,7 @@
 -- What is promised of descriptors that are built. Assumes nothing.
 use Prim.Native.Nat.{ℕ, _≤_}
-use mathlib.Core.Path.{_≡_, refl, sym, ap, _∙_}
-use mathlib.Core.List.{List, [], _∷_, _++_}
+use mathlib.Core.Path.{_≡_, refl, sym, ap, _∙_, subst}
+use mathlib.Core.List.{List, [], _∷_}
 use mathlib.Core.Bool.{Bool, true, false}
 use lib.Dec.{leb, eqb}
 use lib.ListN.{length}
@@ -16,13 +16,15 @@ use Rattle.descriptor.specs.Reading.{descriptor}
 use Rattle.descriptor_heads.specs.Heads.{Opened, fileHeads}
 use Rattle.descriptor_heads.specs.Rows.{rowsOf}
 use Rattle.descriptor_heads.proofs.Theorem.{rows-are}
-use Rattle.descriptor_entry.specs.Pieces.{Piece, number, size, fault, faultOf, Fits}
+use Rattle.descriptor_entry.specs.Pieces.{number, size, fault, faultOf, Fits}
 use Rattle.descriptor_entry.specs.Shapes.{Entry, kindOf, object}
 use Rattle.descriptor_entry.specs.Entries.{given, fieldPieces, rootPieces, memberPieces, rootStack, pieces, askedHeads, ended, buildFault, made, Words, Rooted}
 use Rattle.descriptor_entry.proofs.Laws.{faults-append, bytes-length}
 use Rattle.descriptor_entry.proofs.Meeting.{meets-number, meets-ok}
 use Rattle.descriptor_entry.proofs.Whole.{file-meets}
-use Rattle.descriptor_entry.proofs.Faultless.{AllWords, pieces-fit, given-words}
+use Rattle.descriptor_entry.specs.Promise.{FileCarried}
+use Rattle.descriptor_entry.proofs.Faultless.{pieces-fit, given-words}
+use Rattle.descriptor_entry.proofs.Carried.{file-carried}
 
 mapped-number : {A B : Type 0} (g : A → B) (m : Res A) → numberOf (mapRes g m) ≡ numberOf m
 mapped-number g (ok a q) = refl
@@ -70,3 +72,14 @@ written-reads text run b w e =
 pub written-rows : (text run : List ℕ) → Bytes text → Words run → buildFault text (given run) ≡ 0
     → descriptor (made text (given run)) ≡ ok (rowsOf (length (made text (given run))) (askedHeads (given run))) (length (made text (given run)))
 written-rows text run b w e = rows-are (made text (given run)) ∙ ap (mapRes (rowsOf (length (made text (given run))))) (written-reads text run b w e .0)
+
+same-heads : {os ps : List Opened} {p q : ℕ} → ok os p ≡ ok ps q → os ≡ ps
+same-heads e = cc
+
+-- and whose heads, as they are read, carry the entries: keys, classes, strings and IDs in the form given, values and counts
+pub written-carried : (text run : List ℕ) → Bytes text → Words run → buildFault text (given run) ≡ 0 → (os : List Opened) (q : ℕ) → fileHeads (made text (given run)) ≡ ok os q → FileCarried text (made text (given run)) (given run) os
+written-carried text run b w e os q reads =
+    let es : List Entry = given run in
+    let s = sound text es e in
+    let fit = pieces-fit text es (given-words run w) (s .none) in
+    subst (λ (os : List Opened). FileCarried text (made text es) es os) (same-heads (sym (written-reads text run b w e .0) ∙ reads)) (file-carried text b es fit (s .none) (s .whole))

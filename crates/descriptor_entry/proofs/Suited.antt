@@ -1,31 +1,27 @@
 -- The head of a member, where the bytes of an entry stand: each kind by the two tables. Assumes nothing.
-use Prim.Native.Nat.{ℕ, zero, suc, _+_, _-_, _*_, _^_, _≤_, _<_}
-use mathlib.Core.Path.{_≡_, refl, sym, ap, ap₂, _∙_, subst, subst₂}
+use Prim.Native.Nat.{ℕ, _+_}
+use mathlib.Core.Path.{_≡_, refl, sym, ap, _∙_, subst, subst₂}
 use mathlib.Core.List.{List, [], _∷_, _++_, append-nil}
 use mathlib.Core.Bool.{Bool, true, false}
-use lib.Dec.{leb, eqb}
-use lib.ListN.{length, length-append}
+use lib.Dec.{eqb}
 use native.Mathlib.Omega.{arith}
-use Rattle.algebra.specs.Chars.{chars}
-use Rattle.algebra.specs.Numbers.{be, At, Bytes, joined}
-use Rattle.algebra.specs.Reader.{Res, ok, refuse, Reader, then, pick, field, unless, judged, give, _>>=_, done}
-use Rattle.algebra.specs.Faults.{firstOf, faults}
-use Rattle.algebra.proofs.Laws.{field-in, body-in}
-use Rattle.algebra.proofs.Places.{length-be, at-in, at-left, at-right, num-be}
-use Rattle.descriptor.specs.Reading.{Known, is, unknown, beside, known, skip, id, unicode, class, flag, double, enumerated, rawBytes, unitDouble, Sort, leaf, list, object, reference, array, types, sortOf, forms, formOf, refValue, column, columnType}
+use Rattle.algebra.specs.Numbers.{Bytes, joined}
+use Rattle.algebra.specs.Reader.{ok, Reader, pick, field, give, _>>=_, done}
+use Rattle.algebra.specs.Faults.{faults}
+use Rattle.algebra.proofs.Laws.{body-in}
+use Rattle.descriptor.specs.Reading.{Known, is, unknown, beside, known, skip, id, unicode, class, flag, double, enumerated, rawBytes, unitDouble, Sort, leaf, list, object, reference, array, types, forms, refValue}
 use Rattle.descriptor_heads.specs.Heads as h
-use Rattle.descriptor_heads.specs.Heads.{Due, items, pairs, columns, Opened, opens, itemHead, memberHead}
+use Rattle.descriptor_heads.specs.Heads.{Due, items, pairs, columns, opens}
 use Rattle.descriptor_raw.specs.Raw.{dueOf}
 use Rattle.descriptor_entry.specs.declared.Field.{Field}
 use Rattle.descriptor_entry.specs.declared.Field.the-variants as f
 use Rattle.descriptor_entry.specs.declared.Shape.{Shape}
-use Rattle.descriptor_entry.specs.Pieces.{Piece, number, run, size, bytes, fault, faultOf, bytesOf, Fits}
+use Rattle.descriptor_entry.specs.Pieces.{Piece, bytes, Fits}
 use Rattle.descriptor_entry.specs.Shapes as sh
-use Rattle.descriptor_entry.specs.Shapes.{Entry, numberIn, kindOf, wideOf, countOf, objectsOf, piecesOf, only, both, classed, holding, itemShapes, formShapes, columnShapes, shapeIn, itemShape, formShape, columnShape, shapeOf}
-use Rattle.descriptor_entry.specs.Entries.{keyPieces, objectsDue, fieldPieces, headPieces, asks}
-use Rattle.descriptor_entry.proofs.Laws.{bytes-append, faults-append, fits-left, fits-right, bytes-length}
-use Rattle.descriptor_entry.proofs.Meeting.{Meets, good, bad, meets-then, Reads, reads-then, reads-give, reads-field, reads-skip, reads-judged}
-use Rattle.descriptor_entry.proofs.Fields.{reads-id, reads-bytes, reads-unicode, reads-flag, reads-double, reads-unit-double, reads-column}
+use Rattle.descriptor_entry.specs.Shapes.{Entry, numberIn, wideOf, countOf, objectsOf, piecesOf, only, both, classed, holding, itemShapes, formShapes}
+use Rattle.descriptor_entry.specs.Entries.{fieldPieces}
+use Rattle.descriptor_entry.proofs.Meeting.{good, Reads, reads-then, reads-give, reads-field, reads-skip}
+use Rattle.descriptor_entry.proofs.Fields.{reads-id, reads-bytes, reads-unicode, reads-flag, reads-double, reads-unit-double}
 
 -- ---- two tables with the same tags in the same order
 

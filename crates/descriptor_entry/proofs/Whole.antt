@@ -1,31 +1,30 @@
 -- The file made of entries, as it is read. Assumes nothing.
-use Prim.Native.Nat.{ℕ, zero, suc, _+_, _-_, _*_, _^_, _≤_, _<_}
-use mathlib.Core.Path.{_≡_, refl, sym, ap, ap₂, _∙_, subst, subst₂}
+use Prim.Native.Nat.{ℕ, suc, _+_}
+use mathlib.Core.Path.{_≡_, refl, sym, ap, _∙_, subst, subst₂}
 use mathlib.Core.List.{List, [], _∷_, _++_}
 use mathlib.Core.Bool.{Bool, true, false}
 use lib.Dec.{leb, eqb}
 use lib.ListN.{length, length-append}
-use borrow.Author.Tests.{eq-eqb, le-leb}
+use borrow.Author.Tests.{eq-eqb}
 use native.Mathlib.Omega.{arith}
 use native.Mathlib.Nat.{zero-add}
 use Rattle.algebra.specs.Chars.{chars}
-use Rattle.algebra.specs.Numbers.{be, At, Bytes, joined}
+use Rattle.algebra.specs.Numbers.{At, Bytes, joined}
 use Rattle.algebra.specs.Reader as rd
-use Rattle.algebra.specs.Reader.{Res, ok, refuse, Reader, then, pick, field, judged, many, limit}
+use Rattle.algebra.specs.Reader.{Res, ok, refuse, then, pick, field, judged, many, limit}
 use Rattle.algebra.specs.Faults.{firstOf, faults}
 use Rattle.algebra.proofs.Places.{at-left, at-right, at-whole}
 use Rattle.algebra.proofs.Tells.{first-zero}
 use Rattle.descriptor.specs.Reading.{object, class, version}
-use Rattle.descriptor_heads.specs.Heads as h
-use Rattle.descriptor_heads.specs.Heads.{Due, pairs, Opened, Stack, over, nextHead, settled, after, opens, rootHead, wholeHeads, fileHeads}
+use Rattle.descriptor_heads.specs.Heads.{Due, pairs, Opened, over, nextHead, settled, after, opens, rootHead, wholeHeads, fileHeads}
 use Rattle.descriptor_entry.specs.Pieces.{Piece, number, size, bytes, fault, faultOf, Fits}
 use Rattle.descriptor_entry.specs.Shapes as sh
-use Rattle.descriptor_entry.specs.Shapes.{Entry, kindOf, countOf, objectsOf}
+use Rattle.descriptor_entry.specs.Shapes.{Entry, kindOf, countOf}
 use Rattle.descriptor_entry.specs.Entries.{fieldPieces, rootPieces, asks, memberPieces, ending, asked, rootStack, pieces, askedHeads, ended, buildFault, made, Rooted}
-use Rattle.descriptor_entry.proofs.Laws.{first-assoc, bytes-append, faults-append, size-append, fits-left, fits-right, bytes-length}
-use Rattle.descriptor_entry.proofs.Meeting.{Meets, good, bad, meets-then, reads-judged}
+use Rattle.descriptor_entry.proofs.Laws.{first-assoc, bytes-append, faults-append, fits-left, fits-right, bytes-length}
+use Rattle.descriptor_entry.proofs.Meeting.{Meets, good, bad, meets-then, begins}
 use Rattle.descriptor_entry.proofs.Suited.{object-suits}
-use Rattle.descriptor_entry.proofs.Headed.{meets-made, begins}
+use Rattle.descriptor_entry.proofs.Headed.{meets-made}
 use Rattle.descriptor_entry.proofs.Members.{members-meet}
 
 module _ (s text : List ℕ) (b : Bytes text) where

@@ -2,8 +2,8 @@
 -- 0 the kind; 1, 2 the key's ID; 3, 4 the class's Unicode string; 5, 6 the class's ID; 7, 8 the first part; 9, 10 the second; of each two the length or count
 -- field, and the place of its bytes in the text; 11 the unit; 12, 13 a number's high and low 32 bits; 14 the count of members; 15 the number of objects.
 use Prim.Native.Nat.{ℕ, _+_, _*_}
-use mathlib.Core.List.{List, [], _∷_, _++_}
-use mathlib.Core.Bool.{Bool, true, false}
+use mathlib.Core.List.{List, [], _∷_}
+use mathlib.Core.Bool.{true, false}
 use lib.Dec.{leb, eqb}
 use lib.ListN.{getD}
 use lib.Ieee.{binary64, ofBits}
