@@ -1,5 +1,8 @@
 //! Two palettes compared by position.
 
+use std::error::Error;
+use std::fmt::{self, Display, Formatter};
+
 use crate::{raw, Refusal};
 
 /// A palette's bytes, with what the caller says that they are.
@@ -37,6 +40,19 @@ pub struct Refused {
     pub refusal: Refusal,
 }
 
+impl Display for Refused {
+    fn fmt(&self, f: &mut Formatter<'_>) -> fmt::Result {
+        let which = if self.file == 1 { "first" } else { "second" };
+        write!(f, "{which} file: {}", self.refusal)
+    }
+}
+
+impl Error for Refused {
+    fn source(&self) -> Option<&(dyn Error + 'static)> {
+        Some(&self.refusal)
+    }
+}
+
 impl<'a> Palette<'a> {
     /// Its kind for the library, its bytes, and how many colours it has, none where
     /// it is refused.
@@ -72,6 +88,8 @@ impl Difference {
 /// assert_eq!(rows, [Difference::Colour]);
 /// let refused = compare(Palette::Aco(&black), Palette::Ase(&white)).unwrap_err();
 /// assert_eq!((refused.file, refused.refusal.number), (2, 3));
+/// let words = "second file: refused 3 at 0: wrong signature, version or closing tag";
+/// assert_eq!(refused.to_string(), words);
 /// ```
 pub fn compare(first: Palette<'_>, second: Palette<'_>) -> Result<Vec<Difference>, Refused> {
     let (first_kind, first, here) = first.parts();

@@ -51,10 +51,13 @@ pub enum Value {
 /// The columns of an accepted file's rows, each with a number for every row.
 #[derive(Clone, Debug)]
 pub struct Columns {
+    /// The place of the row's first byte.
     pub first: Vec<u32>,
+    /// How many bytes the row has, its children's too.
     pub length: Vec<u32>,
     /// The next sibling's number; the number of rows for a last child and the root.
     pub next: Vec<u32>,
+    /// How deep the row stands; the root has 0.
     pub depth: Vec<u32>,
     /// The kind's four characters as one number.
     pub kind: Vec<u32>,
