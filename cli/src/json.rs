@@ -88,6 +88,11 @@ impl<'a> Array<'a> {
         write!(self.out, "{value}")
     }
 
+    pub fn text(&mut self, text: &str) -> io::Result<()> {
+        self.next()?;
+        string(self.out, text)
+    }
+
     pub fn object(&mut self) -> io::Result<Object<'_>> {
         self.next()?;
         Object::begin(self.out)

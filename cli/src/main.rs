@@ -4,7 +4,8 @@
 //! All judgement is the library's. A subcommand is a module with a function `run`, and
 //! a text under `usage`; what they share: `arguments`, `files`, `each` (one file after the
 //! other), `held` (what a file holds), `shown`, `exact` and `objects` (three forms of a
-//! listing), `colours`, `values`, `text`, `json`, `refusals`, `places`, `progress`,
+//! listing), `colours`, `values`, `text`, `json`, `refusals`, `places`, `rows`,
+//! `progress`,
 //! `whole_file` and `status`.
 
 #![forbid(unsafe_code)]
@@ -26,6 +27,7 @@ mod places;
 mod progress;
 mod refusals;
 mod report;
+mod rows;
 mod shown;
 mod status;
 mod text;

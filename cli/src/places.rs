@@ -4,6 +4,7 @@
 //! place, so that people find it. Nothing is accepted or refused here.
 
 use crate::files::{Kind, Taken};
+use crate::rows;
 use khuyurek::{aco, ase, raw, Refusal};
 
 /// The two lists of an ACO file disagree.
@@ -22,6 +23,8 @@ pub enum Where {
     Field(usize, usize),
     /// A block, from 0.
     Block(usize),
+    /// A row of a descriptor, and the keys that lead to it.
+    Row(usize, Vec<String>),
     /// A part that is no record.
     Part(&'static str),
 }
@@ -34,6 +37,8 @@ impl Where {
             Where::Record(record, Some(list)) => format!("record {record} of list {list}"),
             Where::Field(record, field) => format!("record {record}, field {field}"),
             Where::Block(block) => format!("block {block}"),
+            Where::Row(row, path) if path.is_empty() => format!("row {row}"),
+            Where::Row(row, path) => format!("row {row}, {}", path.join(" > ")),
             Where::Part(part) => part.to_string(),
         }
     }
@@ -50,7 +55,10 @@ pub fn find(file: &Taken, refusal: &Refusal) -> Option<Where> {
         (Kind::Ase, number) => Some(ase(bytes, place, number)),
         (Kind::Acb, _) => acb(bytes, place),
         (Kind::Resource, _) => resource(bytes, place),
-        (Kind::Descriptor, _) => None,
+        (Kind::Descriptor, _) => Some(match rows::find(bytes, place) {
+            Some((row, path)) => Where::Row(row, path),
+            None => Where::Part("behind the root"),
+        }),
     }
 }
 

@@ -60,6 +60,12 @@ pub fn object(file: &Taken, refusal: &Refusal, mut object: Object<'_>) -> io::Re
             object.plain("field", field)?;
         }
         Some(Where::Block(block)) => object.plain("block", block)?,
+        Some(Where::Row(row, path)) => {
+            object.plain("row", row)?;
+            let mut array = object.array("path")?;
+            path.iter().try_for_each(|key| array.text(key))?;
+            array.end()?;
+        }
     }
     if let Some(within) = within {
         object.text("where", &within.words())?;
