@@ -371,6 +371,9 @@ class Unclosed(str):
     def __new__(cls) -> "Unclosed":
         return super().__new__(cls)
 
+    def __getnewargs__(self) -> Tuple[()]:
+        return ()
+
     def __repr__(self) -> str:
         return "Unclosed()"
 

@@ -921,6 +921,45 @@ class Buffers(Case):
         self.assertEqual(file, still)
 
 
+class Handed(Case):
+    def test_between_processes(self):
+        """What is read can be handed to another process, and merged there."""
+        season = report.Report()
+        season.add(Kind.ACO, P3)
+        for value in (
+            aco.read(P3),
+            ase.read(P6),
+            acb.read(example("book.acb")),
+            descriptor.read(P12),
+            Descriptors.TREE,
+            resource.read(BLOCK),
+            palettes.compare(Kind.ACO, P3, Kind.ACO, P3),
+            season,
+            season.totals,
+        ):
+            again = pickle.loads(pickle.dumps(value))
+            self.assertEqual(again, value)
+            self.assertIs(type(again), type(value))
+            self.assertEqual(copy.deepcopy(value), value)
+        book = pickle.loads(pickle.dumps(acb.read(example("book.acb"))))
+        self.assertEqual(list(book.samples()), [0, 3])
+        merged = pickle.loads(pickle.dumps(season))
+        merged.merge(season)
+        self.assertEqual(merged.totals.accepted, 2)
+
+    def test_records_stay_as_they_are(self):
+        palette = aco.read(P3)
+        with self.assertRaises(TypeError):
+            palette[0] = palette[0]
+        with self.assertRaises(AttributeError):
+            palette[0].name = "B"
+        self.assertEqual(hash(palette), hash(aco.read(P3)))
+        self.assertNotEqual(palette, list(palette))
+        self.assertEqual(palette[0:1], (palette[0],))
+        self.assertIn(palette[0], palette)
+        self.assertEqual(palette.index(palette[0]), 0)
+
+
 class Names(Case):
     def test_every_unit_comes_back(self):
         lone = ["\ud800", "\udc00", "\udc00\ud800", "a\ud800b", "\ud800\ud800\udc00", "\U0001F3A8"]

@@ -160,36 +160,43 @@ extern "C" {
 // Each pointer below comes with the length of the slice it was taken from, is
 // aligned and not null even for an empty slice, and is not kept by the library.
 
+/// `khuyurek_acb_judge`: judges a book.
 pub fn judge(file: &[u8]) -> Answer {
     // SAFETY: see above.
     unsafe { khuyurek_acb_judge(file.as_ptr(), file.len()) }
 }
 
+/// `khuyurek_acb_read`: thirteen numbers of the table a record.
 pub fn read(file: &[u8], table: &mut [u32]) -> Answer {
     // SAFETY: see above; the table is borrowed for writing.
     unsafe { khuyurek_acb_read(file.as_ptr(), file.len(), table.as_mut_ptr(), table.len()) }
 }
 
+/// `khuyurek_acb_record_at`: a record by its number, from 0; the whole file is judged first.
 pub fn record(file: &[u8], index: usize) -> Record {
     // SAFETY: see above.
     unsafe { khuyurek_acb_record_at(file.as_ptr(), file.len(), index) }
 }
 
+/// `khuyurek_acb_shown_at`: what the components of a record show; the whole file is judged first.
 pub fn shown(file: &[u8], index: usize) -> Shown {
     // SAFETY: see above.
     unsafe { khuyurek_acb_shown_at(file.as_ptr(), file.len(), index) }
 }
 
+/// `khuyurek_acb_shown_start`: the byte at which a string's shown text begins.
 pub fn shown_start(string: &[u8]) -> usize {
     // SAFETY: see above.
     unsafe { khuyurek_acb_shown_start(string.as_ptr(), string.len()) }
 }
 
+/// `khuyurek_acb_full_length`: the bytes of a full name; the whole file is judged first.
 pub fn full_length(file: &[u8], index: usize) -> Full {
     // SAFETY: see above.
     unsafe { khuyurek_acb_full_length(file.as_ptr(), file.len(), index) }
 }
 
+/// `khuyurek_acb_full_name`: a full name, into lent bytes; the whole file is judged first.
 pub fn full_name(file: &[u8], index: usize, out: &mut [u8]) -> Full {
     // SAFETY: see above; the output is borrowed for writing.
     unsafe {
@@ -203,11 +210,13 @@ pub fn full_name(file: &[u8], index: usize, out: &mut [u8]) -> Full {
     }
 }
 
+/// `khuyurek_acb_page_at`: the record that a page shows; the whole file is judged first.
 pub fn page(file: &[u8], page: usize) -> Page {
     // SAFETY: see above.
     unsafe { khuyurek_acb_page_at(file.as_ptr(), file.len(), page) }
 }
 
+/// `khuyurek_acb_shown_component`: what the byte of one component shows.
 #[inline]
 pub fn shown_component(space: u16, position: usize, byte: u8) -> i32 {
     // SAFETY: numbers are all that is handed over.
@@ -229,11 +238,13 @@ pub fn page_in(table: &[u32], count: usize, page_size: u16, page_offset: u16, pa
     }
 }
 
+/// `khuyurek_acb_index`: the numbers of the shown records by their names, in a lent run.
 pub fn index(file: &[u8], index: &mut [u32]) -> Indexed {
     // SAFETY: see above; the index is borrowed for writing.
     unsafe { khuyurek_acb_index(file.as_ptr(), file.len(), index.as_mut_ptr(), index.len()) }
 }
 
+/// `khuyurek_acb_find`: the lowest shown record of a name, a run of units.
 pub fn find(file: &[u8], index: &[u32], name: &[u16]) -> Found {
     // SAFETY: see above.
     unsafe {
@@ -248,6 +259,7 @@ pub fn find(file: &[u8], index: &[u32], name: &[u16]) -> Found {
     }
 }
 
+/// `khuyurek_acb_length`: how many bytes writing takes.
 pub fn length(header: Header, records: &[u32], text: &[u8]) -> Written {
     // SAFETY: see above.
     unsafe {
@@ -261,6 +273,7 @@ pub fn length(header: Header, records: &[u32], text: &[u8]) -> Written {
     }
 }
 
+/// `khuyurek_acb_write`: the book, into lent bytes.
 pub fn write(header: Header, records: &[u32], text: &[u8], out: &mut [u8]) -> Written {
     // SAFETY: see above; the output is borrowed for writing.
     unsafe {

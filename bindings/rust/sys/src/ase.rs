@@ -85,26 +85,31 @@ extern "C" {
 // Each pointer below comes with the length of the slice it was taken from, is
 // aligned and not null even for an empty slice, and is not kept by the library.
 
+/// `khuyurek_ase_judge`: judges an ASE file.
 pub fn judge(file: &[u8]) -> Answer {
     // SAFETY: see above.
     unsafe { khuyurek_ase_judge(file.as_ptr(), file.len()) }
 }
 
+/// `khuyurek_ase_read`: nine numbers of the table a block.
 pub fn read(file: &[u8], table: &mut [u32]) -> Answer {
     // SAFETY: see above; the table is borrowed for writing.
     unsafe { khuyurek_ase_read(file.as_ptr(), file.len(), table.as_mut_ptr(), table.len()) }
 }
 
+/// `khuyurek_ase_record_at`: a block by its number, from 0; the whole file is judged first.
 pub fn record(file: &[u8], index: usize) -> Record {
     // SAFETY: see above.
     unsafe { khuyurek_ase_record_at(file.as_ptr(), file.len(), index) }
 }
 
+/// `khuyurek_ase_length`: how many bytes writing takes.
 pub fn length(records: &[u32], text: &[u8]) -> Written {
     // SAFETY: see above.
     unsafe { khuyurek_ase_length(records.as_ptr(), records.len(), text.as_ptr(), text.len()) }
 }
 
+/// `khuyurek_ase_write`: the file, into lent bytes.
 pub fn write(records: &[u32], text: &[u8], out: &mut [u8]) -> Written {
     // SAFETY: see above; the output is borrowed for writing.
     unsafe {
@@ -119,16 +124,19 @@ pub fn write(records: &[u32], text: &[u8], out: &mut [u8]) -> Written {
     }
 }
 
+/// `khuyurek_ase_walk_start`: judges the file, and gives the place of the first step.
 pub fn walk_start(file: &[u8]) -> Start {
     // SAFETY: see above.
     unsafe { khuyurek_ase_walk_start(file.as_ptr(), file.len()) }
 }
 
+/// `khuyurek_ase_walk`: the first colour from a place on, groups passed over, and the next place.
 pub fn walk(file: &[u8], at: usize) -> Step {
     // SAFETY: see above; the place is any number.
     unsafe { khuyurek_ase_walk(file.as_ptr(), file.len(), at) }
 }
 
+/// `khuyurek_ase_walk_block`: the block at a place, any place, and the next one.
 pub fn walk_block(file: &[u8], at: usize) -> Step {
     // SAFETY: see above; the place is any number.
     unsafe { khuyurek_ase_walk_block(file.as_ptr(), file.len(), at) }

@@ -27,6 +27,7 @@ extern "C" {
     ) -> Compared;
 }
 
+/// `khuyurek_compare`: two palettes by position, two numbers of the table a position.
 pub fn compare(
     first_kind: u32,
     first: &[u8],

@@ -169,11 +169,13 @@ extern "C" {
 // Each pointer below comes with the length of the slice it was taken from, is
 // aligned and not null even for an empty slice, and is not kept by the library.
 
+/// `khuyurek_descriptor_judge`: judges a descriptor, and counts its rows.
 pub fn judge(file: &[u8]) -> Answer {
     // SAFETY: see above.
     unsafe { khuyurek_descriptor_judge(file.as_ptr(), file.len()) }
 }
 
+/// `khuyurek_descriptor_read`: all rows in five lent runs.
 pub fn read(file: &[u8], columns: Columns<'_>) -> Answer {
     // SAFETY: see above; the runs are borrowed for writing, and apart.
     unsafe {
@@ -194,6 +196,7 @@ pub fn read(file: &[u8], columns: Columns<'_>) -> Answer {
     }
 }
 
+/// `khuyurek_descriptor_values`: where each row's value begins.
 pub fn values(file: &[u8], values: &mut [u32]) -> Answer {
     // SAFETY: see above; the run is borrowed for writing.
     unsafe {
@@ -201,6 +204,7 @@ pub fn values(file: &[u8], values: &mut [u32]) -> Answer {
     }
 }
 
+/// `khuyurek_descriptor_parents`: each row's parent, from any depths.
 pub fn parents(depth: &[u32], parents: &mut [u32]) -> Parents {
     // SAFETY: see above; the run is borrowed for writing.
     unsafe {
@@ -213,6 +217,7 @@ pub fn parents(depth: &[u32], parents: &mut [u32]) -> Parents {
     }
 }
 
+/// `khuyurek_descriptor_find`: which row has each of some keys, as a pair of the root.
 pub fn find(file: &[u8], table: Table<'_>, keys: &[u8], answers: &mut [u32]) -> Found {
     // SAFETY: see above; the answers are borrowed for writing.
     unsafe {
@@ -237,6 +242,7 @@ pub fn find(file: &[u8], table: Table<'_>, keys: &[u8], answers: &mut [u32]) -> 
     }
 }
 
+/// `khuyurek_descriptor_replace`: the file with one value replaced, into lent bytes.
 pub fn replace(
     file: &[u8],
     table: Table<'_>,
@@ -292,11 +298,13 @@ pub fn build(entries: &[u32], text: &[u8], out: &mut [u8]) -> Written {
     }
 }
 
+/// `khuyurek_descriptor_value_at`: where a row's value lies; the whole file is judged first.
 pub fn value(file: &[u8], row: usize) -> Value {
     // SAFETY: see above.
     unsafe { khuyurek_descriptor_value_at(file.as_ptr(), file.len(), row) }
 }
 
+/// `khuyurek_descriptor_typed_at`: a value by its kind; the whole file is judged first.
 pub fn typed(file: &[u8], row: usize) -> Typed {
     // SAFETY: see above.
     unsafe { khuyurek_descriptor_typed_at(file.as_ptr(), file.len(), row) }

@@ -143,26 +143,31 @@ extern "C" {
 // Each pointer below comes with the length of the slice it was taken from, is
 // aligned and not null even for an empty slice, and is not kept by the library.
 
+/// `khuyurek_aco_judge`: judges an ACO file.
 pub fn judge(file: &[u8]) -> Answer {
     // SAFETY: see above.
     unsafe { khuyurek_aco_judge(file.as_ptr(), file.len()) }
 }
 
+/// `khuyurek_aco_read`: eight numbers of the table a colour.
 pub fn read(file: &[u8], table: &mut [u32]) -> Answer {
     // SAFETY: see above; the table is borrowed for writing.
     unsafe { khuyurek_aco_read(file.as_ptr(), file.len(), table.as_mut_ptr(), table.len()) }
 }
 
+/// `khuyurek_aco_record_at`: a record by its number, from 0; the whole file is judged first.
 pub fn record(file: &[u8], index: usize) -> Record {
     // SAFETY: see above.
     unsafe { khuyurek_aco_record_at(file.as_ptr(), file.len(), index) }
 }
 
+/// `khuyurek_aco_length`: how many bytes writing takes.
 pub fn length(records: &[u32], text: &[u8]) -> Written {
     // SAFETY: see above.
     unsafe { khuyurek_aco_length(records.as_ptr(), records.len(), text.as_ptr(), text.len()) }
 }
 
+/// `khuyurek_aco_write`: both lists, into lent bytes.
 pub fn write(records: &[u32], text: &[u8], out: &mut [u8]) -> Written {
     // SAFETY: see above; the output is borrowed for writing.
     unsafe {
@@ -177,11 +182,13 @@ pub fn write(records: &[u32], text: &[u8], out: &mut [u8]) -> Written {
     }
 }
 
+/// `khuyurek_aco_walk_start`: judges the file, and gives the place of the first step.
 pub fn walk_start(file: &[u8]) -> Start {
     // SAFETY: see above.
     unsafe { khuyurek_aco_walk_start(file.as_ptr(), file.len()) }
 }
 
+/// `khuyurek_aco_walk`: the colour at a place, any place, and the next one.
 pub fn walk(file: &[u8], at: usize) -> Step {
     // SAFETY: see above; the place is any number.
     unsafe { khuyurek_aco_walk(file.as_ptr(), file.len(), at) }
@@ -189,12 +196,14 @@ pub fn walk(file: &[u8], at: usize) -> Step {
 
 // Inlined, so that a conversion is one call and is timed as one.
 
+/// `khuyurek_to_channel`: the bits of the channel of a sample.
 #[inline]
 pub fn to_channel(space: u16, sample: u16) -> Channel {
     // SAFETY: numbers are all that is handed over.
     unsafe { khuyurek_to_channel(space, sample) }
 }
 
+/// `khuyurek_to_sample`: the sample nearest to a channel, by its bits.
 #[inline]
 pub fn to_sample(model: u32, bits: u32) -> Sample {
     // SAFETY: numbers are all that is handed over.

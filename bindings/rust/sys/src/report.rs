@@ -32,11 +32,13 @@ extern "C" {
     fn khuyurek_report_merge(first: Report, second: Report) -> Merged;
 }
 
+/// `khuyurek_report_add`: a report with a file's totals added.
 pub fn add(report: Report, kind: u32, file: &[u8]) -> Reported {
     // SAFETY: as the crate says.
     unsafe { khuyurek_report_add(report, kind, file.as_ptr(), file.len()) }
 }
 
+/// `khuyurek_report_merge`: the sum of two reports.
 pub fn merge(first: Report, second: Report) -> Merged {
     // SAFETY: as the crate says; only numbers are passed.
     unsafe { khuyurek_report_merge(first, second) }

@@ -74,11 +74,13 @@ extern "C" {
 // Each pointer below comes with the length of the slice it was taken from, is
 // aligned and not null even for an empty slice, and is not kept by the library.
 
+/// `khuyurek_resource_judge`: judges a section, and counts its blocks.
 pub fn judge(section: &[u8]) -> Answer {
     // SAFETY: see above.
     unsafe { khuyurek_resource_judge(section.as_ptr(), section.len()) }
 }
 
+/// `khuyurek_resource_read`: five numbers of the table a block.
 pub fn read(section: &[u8], table: &mut [u32]) -> Answer {
     // SAFETY: see above; the table is borrowed for writing.
     unsafe {
@@ -91,21 +93,25 @@ pub fn read(section: &[u8], table: &mut [u32]) -> Answer {
     }
 }
 
+/// `khuyurek_resource_record_at`: a block by its number, from 0; the whole section is judged first.
 pub fn record(section: &[u8], index: usize) -> Record {
     // SAFETY: see above.
     unsafe { khuyurek_resource_record_at(section.as_ptr(), section.len(), index) }
 }
 
+/// `khuyurek_resource_find`: the number of the first block with an ID.
 pub fn find(section: &[u8], id: u16) -> Found {
     // SAFETY: see above.
     unsafe { khuyurek_resource_find(section.as_ptr(), section.len(), id) }
 }
 
+/// `khuyurek_resource_length`: how many bytes writing takes.
 pub fn length(records: &[u32], text: &[u8]) -> Written {
     // SAFETY: see above.
     unsafe { khuyurek_resource_length(records.as_ptr(), records.len(), text.as_ptr(), text.len()) }
 }
 
+/// `khuyurek_resource_write`: the section, into lent bytes.
 pub fn write(records: &[u32], text: &[u8], out: &mut [u8]) -> Written {
     // SAFETY: see above; the output is borrowed for writing.
     unsafe {
@@ -120,6 +126,7 @@ pub fn write(records: &[u32], text: &[u8], out: &mut [u8]) -> Written {
     }
 }
 
+/// `khuyurek_document_resources`: where the section of a document lies, from its first bytes.
 pub fn section_of(document: &[u8]) -> Section {
     // SAFETY: see above.
     unsafe { khuyurek_document_resources(document.as_ptr(), document.len()) }

@@ -53,11 +53,13 @@ extern "C" {
 // Each pointer below comes with the length of the slice it was taken from, is
 // aligned and not null even for an empty slice, and is not kept by the library.
 
+/// `khuyurek_aco_stream_start`: the stream before the first chunk.
 pub fn start(store: &[u8]) -> Fed {
     // SAFETY: see above.
     unsafe { khuyurek_aco_stream_start(store.as_ptr(), store.len()) }
 }
 
+/// `khuyurek_aco_stream_feed`: the stream behind a chunk, whatever stands in it.
 pub fn feed(stream: Stream, store: &mut [u8], chunk: &[u8]) -> Fed {
     // SAFETY: see above; the store is borrowed for writing.
     unsafe {
@@ -71,6 +73,7 @@ pub fn feed(stream: Stream, store: &mut [u8], chunk: &[u8]) -> Fed {
     }
 }
 
+/// `khuyurek_aco_stream_finish`: what judging all chunks joined answers, and the stream, ended.
 pub fn finish(stream: Stream, store: &[u8]) -> Finished {
     // SAFETY: see above.
     unsafe { khuyurek_aco_stream_finish(stream, store.as_ptr(), store.len()) }

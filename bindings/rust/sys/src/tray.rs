@@ -26,6 +26,7 @@ extern "C" {
     ) -> Answer;
 }
 
+/// `khuyurek_to_channels`: the channels of a run of samples, by their bits.
 pub fn to_channels(space: u16, samples: &[u16], bits: &mut [u32]) -> Answer {
     // SAFETY: as the crate says; the bits are borrowed for writing.
     unsafe {
@@ -39,6 +40,7 @@ pub fn to_channels(space: u16, samples: &[u16], bits: &mut [u32]) -> Answer {
     }
 }
 
+/// `khuyurek_to_samples`: the samples of a run of channels, by their bits.
 pub fn to_samples(model: u32, bits: &[u32], samples: &mut [u16]) -> Answer {
     // SAFETY: as the crate says; the samples are borrowed for writing.
     unsafe {
