@@ -39,6 +39,7 @@ use arguments::Misuse;
 use status::Status;
 use std::ffi::OsString;
 use std::io::{self, BufWriter, ErrorKind, Write};
+use std::path::Path;
 use std::process::ExitCode;
 
 /// A subcommand: its name, what it says of its usage, and what it does.
@@ -142,5 +143,16 @@ fn unnamed(words: &[OsString], out: &mut dyn Write) -> Result<Status, Stopped> {
         writeln!(out, "khuyurek {}", env!("CARGO_PKG_VERSION"))?;
         return Ok(Status::Fine);
     }
+    // A word without a dot or a folder is meant for a subcommand, unless it is a file.
+    if let Some(word) = words.first().filter(|word| is_word(word)) {
+        let word = text::shown_name(word);
+        return Err(Misuse(format!("neither a subcommand nor a file: {word}")).into());
+    }
     list::run_headed(words, out)
+}
+
+fn is_word(word: &OsString) -> bool {
+    let letters = word.as_encoded_bytes();
+    let plain = !letters.is_empty() && letters.iter().all(u8::is_ascii_lowercase);
+    plain && !Path::new(word).exists()
 }
