@@ -66,8 +66,8 @@ class Case(unittest.TestCase):
 
 class Refusals(Case):
     def test_sentences_are_the_tables(self):
-        readme = (ROOT / "README.md").read_text()
-        table = readme.split("\n## Refusals\n")[1]
+        rules = (ROOT / "docs/RULES.md").read_text()
+        table = rules.split("\n### Refusals\n")[1]
         rows = re.findall(r"^\| (\d+) \| (.*) \|$", table, flags=re.M)[: len(khuyurek.SENTENCES)]
         self.assertEqual([int(number) for number, _ in rows], list(range(15)))
         self.assertEqual(tuple(sentence for _, sentence in rows), khuyurek.SENTENCES)

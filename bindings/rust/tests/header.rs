@@ -106,7 +106,7 @@ fn stream_is_small() {
     assert!(size_of::<khuyurek::raw::stream::Stream>() <= 128);
 }
 
-/// The header and docs/INTERFACE.md name the refusals of README's table, in its words.
+/// The header and docs/INTERFACE.md name the refusals of docs/RULES.md's table, in its words.
 #[test]
 fn refusals_are_the_tables() {
     let header = source("include/khuyurek.h");
@@ -127,11 +127,11 @@ fn refusals_are_the_tables() {
     }
 }
 
-/// The numbers of README's table with their sentences, 0 left out.
+/// The numbers of docs/RULES.md's table with their sentences, 0 left out.
 fn refusals() -> Vec<(usize, String)> {
-    let readme = source("README.md");
-    let (_, table) = readme
-        .split_once("\n## Refusals\n")
+    let rules = source("docs/RULES.md");
+    let (_, table) = rules
+        .split_once("\n### Refusals\n")
         .expect("a table of refusals");
     let rows = table
         .lines()

@@ -3,14 +3,14 @@
 use reference::Refusal;
 
 /// The table of refusals stands in it.
-const README: &str = include_str!("../../../../README.md");
+const RULES: &str = include_str!("../../../../docs/RULES.md");
 
 pub fn sentence(number: u32) -> &'static str {
     let first = format!("| {number} | ");
-    let mut lines = README.lines();
+    let mut lines = RULES.lines();
     let line = lines.find_map(|line| line.strip_prefix(&first));
     line.and_then(|line| line.strip_suffix(" |"))
-        .expect("the table of README.md has every number")
+        .expect("the table of docs/RULES.md has every number")
 }
 
 pub fn refused(name: &str, kind: &str, refusal: &Refusal) -> String {
