@@ -9,7 +9,7 @@ _khuyurek() {
         return
     fi
     # In the repository the command also installs.
-    [[ ! -d $(dirname -- "${COMP_WORDS[0]}")/packaging ]] || subcommands+=" install uninstall release"
+    [[ ! -d $(dirname -- "${COMP_WORDS[0]}")/packaging ]] || subcommands+=" build install uninstall release"
     if ((COMP_CWORD == 1)) && [[ $word != -* ]]; then
         mapfile -t COMPREPLY < <(compgen -W "$subcommands" -- "$word")
     fi
@@ -20,7 +20,7 @@ _khuyurek() {
         report) options="--json --merge --kind --progress --help" ;;
         compare | find) options="--json --kind --help" ;;
         convert) options="--force --json --kind --help" ;;
-        install | uninstall | release) options="--help" ;;
+        build | install | uninstall | release) options="--help" ;;
         *) options="--kind --help --version" ;;
     esac
     if [[ $word == -* ]]; then
