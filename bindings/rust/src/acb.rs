@@ -1,4 +1,24 @@
 //! ACB colour books.
+//!
+//! ```
+//! use khuyurek::{acb, Units};
+//!
+//! # fn main() -> Result<(), khuyurek::Refusal> {
+//! # let path = concat!(env!("CARGO_MANIFEST_DIR"), "/../../examples/files/book.acb");
+//! let file = std::fs::read(path).expect("the file is there");
+//! let book = acb::read(&file)?;
+//! for swatch in book.iter().filter(|swatch| !swatch.is_dummy()) {
+//!     let name = book.full_name(&swatch);
+//!     println!("{} {:?}", Units::new(&name), book.shown(&swatch).values());
+//! }
+//! // A colour by its name, through an index that may be kept.
+//! let index = acb::index(&file)?;
+//! let name: Vec<u16> = "Warm 2".encode_utf16().collect();
+//! assert_eq!(acb::find(&file, &index, &name)?, 1);
+//! assert_eq!(acb::find(&file, &index, &name[1..]).unwrap_err().number, 12);
+//! # Ok(())
+//! # }
+//! ```
 
 use crate::raw::acb as raw;
 use crate::text::{exact, length, Text};

@@ -1,4 +1,27 @@
 //! ACO swatches.
+//!
+//! ```
+//! use khuyurek::aco;
+//!
+//! # fn main() -> Result<(), khuyurek::Refusal> {
+//! # let path = concat!(env!("CARGO_MANIFEST_DIR"), "/../../examples/files/swatches.aco");
+//! let file = std::fs::read(path).expect("the file is there");
+//! let palette = aco::read(&file)?;
+//! for swatch in palette.iter() {
+//!     println!("{:?} {:?} {}", swatch.space, swatch.samples, swatch.name);
+//! }
+//! assert_eq!(palette.get(0).unwrap().name.to_string(), "Orange");
+//! // Its records, written, are the same bytes.
+//! let swatches: Vec<_> = palette.iter().collect();
+//! assert_eq!(aco::write(&swatches)?, file);
+//! // A file whose lists disagree says where.
+//! let mut damaged = file.clone();
+//! damaged[6] ^= 1;
+//! let refusal = aco::read(&damaged).unwrap_err();
+//! assert_eq!((refusal.number, refusal.record, refusal.field), (7, 0, 1));
+//! # Ok(())
+//! # }
+//! ```
 
 use crate::text::{exact, length, Text};
 use crate::{raw, Ink, Refusal, Space, Units};

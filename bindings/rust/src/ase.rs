@@ -1,4 +1,26 @@
 //! ASE palettes.
+//!
+//! ```
+//! use khuyurek::ase::{self, Block, Channels, Colour};
+//! use khuyurek::{Ink, Units};
+//!
+//! # fn main() -> Result<(), khuyurek::Refusal> {
+//! let (group, name) = (Units::encode("Inks"), Units::encode("Cyan"));
+//! let cyan = Colour {
+//!     name: Units::new(&name),
+//!     channels: Channels::Cmyk([1.0, 0.0, 0.0, 0.0]),
+//!     ink: Ink::Spot,
+//! };
+//! let blocks = [Block::Start(Units::new(&group)), Block::Colour(cyan), Block::Stop];
+//! let file = ase::write(&blocks)?;
+//! assert!(ase::read(&file)?.iter().eq(blocks));
+//! // A walk of colours passes over groups.
+//! assert!(ase::walk(&file)?.eq([cyan]));
+//! // A group that is left open is refused.
+//! assert_eq!(ase::write(&blocks[..2]).unwrap_err().number, 9);
+//! # Ok(())
+//! # }
+//! ```
 
 use crate::raw::ase as raw;
 use crate::text::{exact, length, Text};
@@ -263,13 +285,7 @@ fn stepped(file: &[u8], step: raw::Step) -> Result<Option<(Block<'_>, usize)>, R
         return Ok(None);
     }
     let name = Units::lying(file, step.name, step.units);
-    let block = block(
-        step.block,
-        name,
-        step.model,
-        step.channels,
-        step.ink,
-    );
+    let block = block(step.block, name, step.model, step.channels, step.ink);
     Ok(Some((block, step.next)))
 }
 

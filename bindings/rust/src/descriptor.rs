@@ -1,4 +1,24 @@
 //! Serialized descriptors.
+//!
+//! ```
+//! use khuyurek::descriptor::{self, Value};
+//!
+//! # fn main() -> Result<(), khuyurek::Refusal> {
+//! # let path = concat!(env!("CARGO_MANIFEST_DIR"), "/../../examples/files/swatch.desc");
+//! let file = std::fs::read(path).expect("the file is there");
+//! let rows = descriptor::read(&file)?;
+//! for row in rows.iter() {
+//!     println!("{:indent$}{} at {}", "", row.kind, row.first, indent = 2 * row.depth);
+//! }
+//! // A key of the root, by its length and its bytes, and its value replaced.
+//! let found = rows.find(b"\0\0\0\x07enabled")?;
+//! let row = found[0].expect("there is one");
+//! assert_eq!(descriptor::typed_at(&file, row)?, Value::Bool(true));
+//! let changed = rows.replace(row, Value::Bool(false))?;
+//! assert_eq!(descriptor::typed_at(&changed, row)?, Value::Bool(false));
+//! # Ok(())
+//! # }
+//! ```
 
 use std::fmt::{self, Debug, Display, Formatter, Write};
 

@@ -1,4 +1,16 @@
 //! Image resource blocks, and where they lie in a Photoshop document.
+//!
+//! ```
+//! use khuyurek::resource::{self, Block};
+//!
+//! # fn main() -> Result<(), khuyurek::Refusal> {
+//! let blocks = [1005, 1036].map(|id| Block { id, name: b"small", data: b"dots" });
+//! let section = resource::write(&blocks)?;
+//! assert!(resource::read(&section)?.iter().eq(blocks));
+//! assert_eq!(resource::find(&section, 1036)?, 1);
+//! # Ok(())
+//! # }
+//! ```
 
 use crate::raw::resource as raw;
 use crate::text::{exact, held, length};
