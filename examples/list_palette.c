@@ -10,54 +10,36 @@
 
 #include "khuyurek.h"
 
-static const char *const REFUSALS[] = {
-    "accepted",
-    "the file read, or the output to be written, is longer than the limit",
-    "a field needs more bytes than remain",
-    "wrong signature, version or closing tag",
-    "unknown colour space, block type, model, item type, form or unit",
-    "a field outside its stated range",
-    "bytes left over after the end",
-    "the two ACO lists disagree",
-    "a name badly closed",
-    "groups unbalanced",
-    "nested too deep",
-    "the lent output is shorter than the exact need",
-    "no record or page of that number",
-    "ASE block length disagrees with its content",
-    "colour has no counterpart in the other format",
-};
-
 static int refused(uint32_t number, size_t place) {
-    fprintf(stderr, "refused %u at %zu: %s\n", (unsigned)number, place, REFUSALS[number]);
+    uint8_t sentence[KHUYUREK_SENTENCE];
+    khuyurek_length said = khuyurek_refusal_sentence(number, sentence, sizeof sentence);
+    fprintf(stderr, "refused %u at %zu: %.*s\n", (unsigned)number, place, (int)said.length,
+            (const char *)sentence);
     return 1;
 }
 
-static void put_utf8(uint32_t c) {
-    static const uint32_t LEAD[] = {0, 0xC0, 0xE0, 0xF0};
-    int more = c < 0x80 ? 0 : c < 0x800 ? 1 : c < 0x10000 ? 2 : 3;
-    putchar((int)(LEAD[more] | c >> 6 * more));
-    while (more-- > 0) {
-        putchar((int)(0x80 | (c >> 6 * more & 0x3F)));
+/* A name lies in the file, by the place of its first unit and its units. The library shows an
+ * unpaired surrogate as U+FFFD, and this a control character, which a terminal would obey. */
+static void put_name(const uint8_t *file, size_t length, size_t place, size_t units) {
+    /* Three bytes a unit are always enough. One more: a pointer is not null even where there are none. */
+    uint8_t *text = malloc(3 * units + 1);
+    if (text == NULL) {
+        perror("name");
+        exit(2);
     }
-}
-
-/* A name's units are 16 bits each, big-endian, and lie in the file. An unpaired surrogate shows as
- * U+FFFD, and so does a control character, which a terminal would obey. */
-static void put_name(const uint8_t *name, uint32_t units) {
+    khuyurek_length name = khuyurek_name_utf8(file, length, place, units, text, 3 * units);
     putchar('"');
-    for (uint32_t i = 0; i < units; i++) {
-        uint32_t c = (uint32_t)name[2 * i] << 8 | name[2 * i + 1];
-        if (c >= 0xD800 && c <= 0xDBFF && i + 1 < units && name[2 * i + 2] >> 2 == 0xDC >> 2) {
-            uint32_t low = (uint32_t)name[2 * i + 2] << 8 | name[2 * i + 3];
-            c = 0x10000 + ((c - 0xD800) << 10) + (low - 0xDC00);
-            i++;
-        } else if ((c >= 0xD800 && c <= 0xDFFF) || c < 0x20 || (c >= 0x7F && c < 0xA0)) {
-            c = 0xFFFD;
+    for (size_t i = 0; i < name.length; i++) {
+        int wide = text[i] == 0xC2 && text[i + 1] < 0xA0; /* U+0080 to U+009F */
+        if (text[i] < 0x20 || text[i] == 0x7F || wide) {
+            fputs("\xEF\xBF\xBD", stdout);
+            i += (size_t)wide;
+        } else {
+            putchar(text[i]);
         }
-        put_utf8(c);
     }
     putchar('"');
+    free(text);
 }
 
 /* A table for so many numbers. It has one more: a pointer is not null even where there are none. */
@@ -81,7 +63,7 @@ static int list_aco(const uint8_t *file, size_t length) {
     khuyurek_aco_read(file, length, table, numbers);
     printf("ACO: %zu colours in %zu list(s)\n", palette.colours, palette.lists);
     for (const uint32_t *row = table; row < table + numbers; row += KHUYUREK_ACO_WIDTH) {
-        put_name(file + row[5], row[6]);
+        put_name(file, length, row[5], row[6]);
         printf(" space %u: %u %u %u %u\n", (unsigned)row[0], (unsigned)row[1], (unsigned)row[2],
                (unsigned)row[3], (unsigned)row[4]);
     }
@@ -117,7 +99,7 @@ static int list_ase(const uint8_t *file, size_t length) {
             continue;
         }
         printf("%*s%s", 2 * depth, "", row[0] == KHUYUREK_ASE_START ? "group " : "");
-        put_name(file + row[1], row[2]);
+        put_name(file, length, row[1], row[2]);
         if (row[0] == KHUYUREK_ASE_START) {
             depth++;
         } else {

@@ -709,6 +709,33 @@ khuyurek_tray khuyurek_to_channels(uint16_t space, const uint16_t *samples, size
 khuyurek_tray khuyurek_to_samples(uint32_t model, const uint32_t *bits, size_t bits_len,
                                   uint16_t *samples, size_t samples_len);
 
+/* ---- text for people */
+
+/* A name in UTF-8: so many units of a file from the place of the first, as every record,
+ * header and step gives them, which leave the closing zero out. A surrogate that is not
+ * one of a pair becomes U+FFFD, so that what is written is always well-formed UTF-8; no
+ * zero is put behind it. 1 where the file is longer than the limit, 2 where it does not
+ * have the units, then 11; all at place 0. 3 * units bytes are always room enough, and
+ * then the units are read once. Past its bytes out keeps its contents. The bytes that
+ * khuyurek_acb_full_name writes are such a file too, at place 0 with half as many units. */
+khuyurek_length khuyurek_name_utf8_length(const uint8_t *file, size_t file_len, size_t place,
+                                          size_t units);
+khuyurek_length khuyurek_name_utf8(const uint8_t *file, size_t file_len, size_t place,
+                                   size_t units, uint8_t *out, size_t out_len);
+
+/* The same of units that are numbers, as khuyurek_acb_find takes them: 1 for more than
+ * 8,388,608 of them, then 11. */
+khuyurek_length khuyurek_utf8_length(const uint16_t *units, size_t units_len);
+khuyurek_length khuyurek_utf8(const uint16_t *units, size_t units_len, uint8_t *out,
+                              size_t out_len);
+
+/* The longest sentence of a refusal, in bytes. */
+#define KHUYUREK_SENTENCE 68
+
+/* What a number of the table says, "accepted" for 0, in printable ASCII with no zero
+ * behind it: 12 for a number that the table does not have, then 11. */
+khuyurek_length khuyurek_refusal_sentence(uint32_t number, uint8_t *out, size_t out_len);
+
 /* ---- kinds of files, for the calls that take any of several */
 
 #define KHUYUREK_ACO 0

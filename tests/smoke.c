@@ -467,8 +467,36 @@ static int seasons(void) {
     return 0;
 }
 
+static int text(void) {
+    /* A, an umlaut, a euro sign, a pair, a high surrogate alone, a low one alone */
+    static const uint16_t units[] = {'A', 0xFC, 0x20AC, 0xD83C, 0xDFA8, 0xD800, 'B', 0xDC00};
+    static const uint8_t file[] = {9, 0, 'A', 0, 0xFC, 0x20, 0xAC, 0xD8, 0x3C, 0xDF, 0xA8, 0xD8, 0, 0, 'B', 0xDC, 0};
+    static const char want[] = "A\xC3\xBC\xE2\x82\xAC\xF0\x9F\x8E\xA8\xEF\xBF\xBD" "B\xEF\xBF\xBD";
+    uint8_t out[32];
+    memset(out, 7, sizeof out);
+    CHECK(khuyurek_utf8_length(units, 8).length == 17);
+    CHECK(khuyurek_name_utf8_length(file, sizeof file, 1, 8).length == 17);
+    khuyurek_length wrote = khuyurek_name_utf8(file, sizeof file, 1, 8, out, 16);
+    CHECK(wrote.number == KHUYUREK_NO_ROOM && wrote.length == 0 && out[0] == 7);
+    wrote = khuyurek_name_utf8(file, sizeof file, 2, 8, out, 32);
+    CHECK(wrote.number == KHUYUREK_CUT && out[0] == 7);
+    wrote = khuyurek_name_utf8(file, sizeof file, 1, 8, out, 17);
+    CHECK(wrote.number == 0 && wrote.length == 17 && memcmp(out, want, 17) == 0 && out[17] == 7);
+    memset(out, 7, sizeof out);
+    wrote = khuyurek_utf8(units, 8, out, 32);
+    CHECK(wrote.number == 0 && wrote.length == 17 && memcmp(out, want, 17) == 0 && out[17] == 7);
+    CHECK(khuyurek_name_utf8(file, sizeof file, 99, 0, out, 0).number == 0);
+    uint8_t sentence[KHUYUREK_SENTENCE];
+    CHECK(khuyurek_refusal_sentence(1, sentence, sizeof sentence).length == KHUYUREK_SENTENCE);
+    CHECK(khuyurek_refusal_sentence(1, sentence, sizeof sentence - 1).number == KHUYUREK_NO_ROOM);
+    wrote = khuyurek_refusal_sentence(0, sentence, sizeof sentence);
+    CHECK(wrote.number == 0 && wrote.length == 8 && memcmp(sentence, "accepted", 8) == 0);
+    CHECK(khuyurek_refusal_sentence(15, sentence, 0).number == KHUYUREK_NO_RECORD);
+    return 0;
+}
+
 int main(void) {
-    if (aco() || chunks() || ase() || acb() || descriptor() || resources() || walks() || conversions() || trays() || seasons()) {
+    if (text() || aco() || chunks() || ase() || acb() || descriptor() || resources() || walks() || conversions() || trays() || seasons()) {
         return 1;
     }
     puts("C agrees");

@@ -71,6 +71,8 @@ KHUYUREK_CMYK = 0x434D_594B
 KHUYUREK_LAB = 0x4C41_4220
 KHUYUREK_GRAY = 0x4772_6179
 
+KHUYUREK_SENTENCE = 68
+
 KHUYUREK_ACO = 0
 KHUYUREK_ASE = 1
 KHUYUREK_ACB = 2
@@ -498,6 +500,11 @@ FUNCTIONS: Dict[str, Tuple[type, Tuple[type, ...]]] = {
     "khuyurek_to_sample": (khuyurek_sample, (c_uint32, c_uint32)),
     "khuyurek_to_channels": (khuyurek_tray, (c_uint16,) + _UNITS + _RUN_OUT),
     "khuyurek_to_samples": (khuyurek_tray, (c_uint32,) + _RUN + _UNITS_OUT),
+    "khuyurek_name_utf8_length": (khuyurek_length, _BYTES + (c_size_t, c_size_t)),
+    "khuyurek_name_utf8": (khuyurek_length, _BYTES + (c_size_t, c_size_t) + _BYTES_OUT),
+    "khuyurek_utf8_length": (khuyurek_length, _UNITS),
+    "khuyurek_utf8": (khuyurek_length, _UNITS + _BYTES_OUT),
+    "khuyurek_refusal_sentence": (khuyurek_length, (c_uint32,) + _BYTES_OUT),
     "khuyurek_compare": (
         khuyurek_compared,
         (c_uint32,) + _BYTES + (c_uint32,) + _BYTES + _RUN_OUT,

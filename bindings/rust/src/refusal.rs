@@ -2,6 +2,9 @@
 
 use std::error::Error;
 use std::fmt::{self, Display, Formatter};
+use std::sync::OnceLock;
+
+use crate::raw;
 
 /// Why a call was refused. `place` is that of the offending field's first byte;
 /// it is 0 for 1, 11, 12 and 14, of a writer and of a conversion. `record` and
@@ -19,31 +22,25 @@ pub struct Refusal {
     pub field: usize,
 }
 
-const SENTENCES: [&str; 15] = [
-    "accepted",
-    "the file read, or the output to be written, is longer than the limit",
-    "a field needs more bytes than remain",
-    "wrong signature, version or closing tag",
-    "unknown colour space, block type, model, item type, form or unit",
-    "a field outside its stated range",
-    "bytes left over after the end",
-    "the two ACO lists disagree",
-    "a name badly closed",
-    "groups unbalanced",
-    "nested too deep",
-    "the lent output is shorter than the exact need",
-    "no record or page of that number",
-    "ASE block length disagrees with its content",
-    "colour has no counterpart in the other format",
-];
+/// The sentences of the table, from that of 0, asked of the library once.
+fn sentences() -> &'static [String] {
+    static SENTENCES: OnceLock<Vec<String>> = OnceLock::new();
+    SENTENCES.get_or_init(|| (0..).map_while(said).collect())
+}
+
+/// What the library says of a number, or nothing where the table does not have it.
+fn said(number: u32) -> Option<String> {
+    let mut room = [0; raw::text::SENTENCE];
+    let answer = raw::text::refusal_sentence(number, &mut room);
+    let said = String::from_utf8_lossy(&room[..answer.length]);
+    (answer.number == 0).then(|| said.into_owned())
+}
 
 impl Refusal {
     /// What the table of refusals says of the number.
     pub fn sentence(&self) -> &'static str {
-        SENTENCES
-            .get(self.number as usize)
-            .copied()
-            .unwrap_or("no number of the table")
+        let sentence = sentences().get(self.number as usize);
+        sentence.map_or("no number of the table", String::as_str)
     }
 
     /// Whether an answer's number is 0, or its refusal.

@@ -2,6 +2,10 @@
 
 use std::fmt::{self, Debug, Display, Formatter, Write};
 
+use crate::raw::text;
+use crate::text::exact;
+use crate::Refusal;
+
 /// A name or string: UTF-16 code units, big-endian, as they lie in a file. It is
 /// shown as text with U+FFFD for each surrogate that is not one of a pair.
 #[derive(Clone, Copy, Default, PartialEq, Eq, Hash)]
@@ -44,6 +48,15 @@ impl<'a> Units<'a> {
         pairs.map(|pair| u16::from_be_bytes([pair[0], pair[1]]))
     }
 
+    /// The text, with U+FFFD for each unpaired surrogate. Units of more bytes
+    /// than the limit are refused by 1; a file's never are.
+    pub fn to_utf8(self) -> Result<String, Refusal> {
+        let units = self.len();
+        let needed = text::name_utf8_length(self.0, 0, units);
+        let bytes = exact(needed, |out| text::name_utf8(self.0, 0, units, out))?;
+        Ok(String::from_utf8(bytes).expect("what the library writes is UTF-8"))
+    }
+
     /// The characters, with U+FFFD for each unpaired surrogate.
     pub fn chars(self) -> impl Iterator<Item = char> + 'a {
         char::decode_utf16(self.iter()).map(|c| c.unwrap_or(char::REPLACEMENT_CHARACTER))
@@ -52,7 +65,11 @@ impl<'a> Units<'a> {
 
 impl Display for Units<'_> {
     fn fmt(&self, f: &mut Formatter<'_>) -> fmt::Result {
-        self.chars().try_for_each(|c| f.write_char(c))
+        match self.to_utf8() {
+            Ok(text) => f.write_str(&text),
+            // More than the limit, and so of no file.
+            Err(_) => self.chars().try_for_each(|c| f.write_char(c)),
+        }
     }
 }
 

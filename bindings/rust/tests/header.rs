@@ -46,6 +46,17 @@ fn rust_declares_what_is_exported() {
 }
 
 #[test]
+fn longest_sentence_is_the_librarys() {
+    let most = khuyurek::raw::text::SENTENCE;
+    for (path, line) in [
+        ("include/khuyurek.h", format!("#define KHUYUREK_SENTENCE {most}")),
+        ("crates/refusal/specs/Sentences.antt", format!("most = {most}")),
+    ] {
+        assert!(source(path).lines().any(|found| found == line), "{line}");
+    }
+}
+
+#[test]
 fn widths_and_limit_are_the_librarys() {
     let header = source("include/khuyurek.h");
     let library = |name: &str| source(&format!("crates/{name}/src/lib.rt"));

@@ -151,7 +151,7 @@ sequence-of c s = go (ltb c 0x80) (ltb c 0x800) (ltb c 0x10000) refl refl refl s
 
     go : (x y z : Bool) → ltb c 0x80 ≡ x → ltb c 0x800 ≡ y → ltb c 0x10000 ≡ z → Scalar c → Sequence (scalarBytes c)
     go true y z e f g s = let h = ltb-true c 0x80 e in subst Sequence (sym (ascii-bytes c h)) (let q : From 0x00 0x7F c = (omega arith, omega arith) in ascii q)
-    go false true z e f g s = let h = ltb-false c 0x80 e in let k = ltb-true c 0x800 f in subst Sequence (sym (bytes-two c h k)) (let q : From 0xC2 0xDF (0xC0 + c / 64) = (omega arith, omega arith) in two q (tail-of c))
+    go false true z e f g s = let h = ltb-false c 0x80 e in let k = ltb-true c 0x800 f in subst Sequence (sym (bytes-two c h k)) (two {a = 0xC0 + c / 64} {b = 0x80 + c % 64} (omega arith, omega arith) (tail-of c))
     go false false true e f g s = let h = ltb-false c 0x800 f in let k = ltb-true c 0x10000 g in subst Sequence (sym (bytes-three c h k)) (threes h k s)
     go false false false e f g s = let h = ltb-false c 0x10000 g in subst Sequence (sym (bytes-four c h)) (fours h (scalar-lt s) (ltb c 0x40000) (ltb c 0x100000) refl refl)
 

@@ -17,6 +17,7 @@ mod resource;
 mod season;
 mod size;
 mod stack;
+mod text;
 mod timing;
 mod totals;
 mod tray;
@@ -47,6 +48,7 @@ enum Part {
     Reports,
     Indexes,
     Conversions,
+    Text,
 }
 
 fn main() -> ExitCode {
@@ -66,6 +68,7 @@ fn main() -> ExitCode {
         Some("index") => (Some(Part::Indexes), &args[1..]),
         Some("stack-of") => return stack::try_one(&args[1..]),
         Some("convert") => (Some(Part::Conversions), &args[1..]),
+        Some("text") => (Some(Part::Text), &args[1..]),
         _ => (None, &args[..]),
     };
     let rounds = match rest.first().map(|word| word.parse()) {
@@ -73,7 +76,7 @@ fn main() -> ExitCode {
         Some(Ok(rounds)) if rounds > 0 => rounds,
         Some(_) => {
             eprintln!(
-                "usage: bench [aco|chunks|ase|acb|names|descriptor|keys|entries|resource|season|report|index|convert] [ROUNDS]"
+                "usage: bench [aco|chunks|ase|acb|names|descriptor|keys|entries|resource|season|report|index|convert|text] [ROUNDS]"
             );
             return ExitCode::FAILURE;
         }
@@ -125,6 +128,9 @@ fn main() -> ExitCode {
     if wanted(Part::Conversions) {
         conversion::compare(&mut report, rounds);
         tray::compare(&mut report, rounds);
+    }
+    if wanted(Part::Text) {
+        text::compare(&mut report, rounds);
     }
     report.print_summary();
     ExitCode::SUCCESS

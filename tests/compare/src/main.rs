@@ -23,6 +23,7 @@ mod resource;
 mod seasons;
 mod tables;
 mod tally;
+mod text;
 mod trays;
 mod walk;
 mod writing;
@@ -45,6 +46,7 @@ const USAGE: &str = "usage: compare [SEED [FILES]]
        compare seasons [SEED [FILES]]
        compare reports [SEED [FILES]]
        compare index [SEED [FILES]]
+       compare text [SEED [RUNS]]
        compare convert [SEED [PATTERNS]]
        compare list [PROGRAM [FILES [SEED]]]
        compare list-ase [PROGRAM [FILES [SEED]]]
@@ -124,6 +126,7 @@ fn main() -> ExitCode {
             index::campaign::run,
             index::Tally::all_reached,
         ),
+        Some("text") => compare_library("text", rest, text::run, text::Tally::all_reached),
         Some("convert") => compare_conversions(rest),
         Some("list") => compare_listings(rest, "aco_list", listing::run),
         Some("list-ase") => compare_listings(rest, "ase_list", ase::listing::run),

@@ -28,6 +28,7 @@ pub mod report;
 pub mod resource;
 pub mod season;
 mod step;
+pub mod text;
 mod tray;
 mod walk;
 mod writer;

@@ -1,6 +1,6 @@
 //! The proved library's calls, through its C interface. Those for ACB, ASE,
-//! descriptors, resources, runs of samples, ACO files in chunks, two palettes
-//! and reports are in their own modules.
+//! descriptors, resources, runs of samples, ACO files in chunks, text, two
+//! palettes and reports are in their own modules.
 //!
 //! This crate has the only declarations of the C functions in Rust, and all
 //! `unsafe` code over them. What makes it sound:
@@ -22,6 +22,7 @@ pub mod descriptor;
 pub mod report;
 pub mod resource;
 pub mod stream;
+pub mod text;
 pub mod tray;
 
 use std::fmt::{self, Debug, Formatter};
