@@ -4,7 +4,7 @@ use crate::arguments::{parse, Misuse};
 use crate::compare::palette;
 use crate::each::{begun, refused, Form};
 use crate::files::{by_name, complain, take, Kind, Taken};
-use crate::refusals::line;
+use crate::refusals::{self, line};
 use crate::status::Status;
 use crate::text::{many, shown_name};
 use crate::whole_file::WholeFile;
@@ -24,10 +24,19 @@ struct Converted {
     inks: usize,
 }
 
-/// A refusal, and the position of the colour that has no counterpart.
+/// A refusal, and what of the palette it is of.
 struct Unconverted {
     refusal: Refusal,
-    position: Option<usize>,
+    of: Of,
+}
+
+enum Of {
+    /// The file itself.
+    File,
+    /// The colour at a position, which has no counterpart.
+    Colour(usize),
+    /// So many colours, which the other format does not hold.
+    Colours(usize),
 }
 
 pub fn run(words: &[OsString], out: &mut dyn Write) -> Result<Status, Stopped> {
@@ -92,7 +101,15 @@ fn at(position: usize) -> impl Fn(Refusal) -> Unconverted {
             place: 0,
             ..refusal
         },
-        position: Some(position),
+        of: Of::Colour(position),
+    }
+}
+
+/// The refusal of a writer of so many colours.
+fn writing(colours: usize) -> impl Fn(Refusal) -> Unconverted {
+    move |refusal| Unconverted {
+        refusal,
+        of: Of::Colours(colours),
     }
 }
 
@@ -100,7 +117,7 @@ impl From<Refusal> for Unconverted {
     fn from(refusal: Refusal) -> Self {
         Unconverted {
             refusal,
-            position: None,
+            of: Of::File,
         }
     }
 }
@@ -125,7 +142,7 @@ fn to_ase(bytes: &[u8]) -> Result<Converted, Unconverted> {
         }));
     }
     Ok(Converted {
-        bytes: ase::write(&blocks)?,
+        bytes: ase::write(&blocks).map_err(writing(blocks.len()))?,
         kind: Kind::Ase,
         colours: blocks.len(),
         groups: 0,
@@ -163,7 +180,7 @@ fn to_aco(bytes: &[u8]) -> Result<Converted, Unconverted> {
         });
     }
     Ok(Converted {
-        bytes: aco::write(&swatches)?,
+        bytes: aco::write(&swatches).map_err(writing(swatches.len()))?,
         kind: Kind::Aco,
         colours: swatches.len(),
         groups,
@@ -247,15 +264,26 @@ fn write_refused(
     form: Form,
     out: &mut dyn Write,
 ) -> Result<Status, Stopped> {
-    let Unconverted { refusal, position } = unconverted;
-    match (form, position) {
-        (Form::Words, None) => writeln!(out, "{}", line(file, refusal))?,
-        (Form::Words, Some(at)) => writeln!(out, "{} (colour {at})", line(file, refusal))?,
-        (Form::Json, None) => refused(file, refusal, out)?,
-        (Form::Json, Some(position)) => {
+    let Unconverted { refusal, of } = unconverted;
+    if form == Form::Words {
+        let line = line(file, refusal);
+        match of {
+            Of::File => writeln!(out, "{line}")?,
+            Of::Colour(position) => writeln!(out, "{line} (colour {position})")?,
+            Of::Colours(count) => {
+                let colours = many(*count, "colour");
+                writeln!(out, "{line} (the other format does not hold {colours})")?;
+            }
+        }
+        return Ok(Status::Refused);
+    }
+    match of {
+        Of::File => refused(file, refusal, out)?,
+        Of::Colour(number) | Of::Colours(number) => {
             let mut object = begun(file, false, out)?;
-            object.plain("position", position)?;
-            crate::refusals::object(file, refusal, object.object("refusal")?)?;
+            let is_one = matches!(of, Of::Colour(_));
+            object.plain(if is_one { "position" } else { "colours" }, number)?;
+            refusals::object(file, refusal, object.object("refusal")?)?;
             object.end()?;
             writeln!(out)?;
         }
