@@ -21,6 +21,7 @@ from .convert import to_channel, to_channels, to_sample, to_samples
 from .numbers import Ink, Kind, Model, Space
 from .raw import KHUYUREK_LIMIT as LIMIT
 from .refusal import SENTENCES, Refusal
+from .text import name_at, printable
 
 __all__ = [
     "Ink",
@@ -34,6 +35,7 @@ __all__ = [
     "aco",
     "ase",
     "descriptor",
+    "name_at",
     "palettes",
     "printable",
     "report",
@@ -43,8 +45,3 @@ __all__ = [
     "to_sample",
     "to_samples",
 ]
-
-
-def printable(name: str) -> str:
-    """A name with U+FFFD for each surrogate that is not one of a pair."""
-    return name.encode("utf-16-be", "surrogatepass").decode("utf-16-be", "replace")

@@ -54,7 +54,8 @@ class Lent:
     __slots__ = ("at", "length", "calls", "_data", "_view", "_bytes")
 
     def __init__(self, data: Buffer) -> None:
-        if isinstance(data, bytes):
+        # Not a class made from it, which may say another length.
+        if type(data) is bytes:
             self.at, self.length, self.calls = data, len(data), raw.calls
             self._data = self._bytes = data
             self._view = None
@@ -108,7 +109,8 @@ def encoded(name: str) -> bytes:
     """The UTF-16 units of a text, big-endian: of every text that ``decoded`` gives its own."""
     if not isinstance(name, str):
         raise TypeError(f"a name is a str, not {type(name).__name__}")
-    return name.encode("utf-16-be", "surrogatepass")
+    # Not the method of a class made from it, which may give anything.
+    return str.encode(name, "utf-16-be", "surrogatepass")
 
 
 def run(count: int) -> array:

@@ -98,10 +98,11 @@ class Book(Records[Swatch]):
     #: What stands before the records, and the closing tag.
     header: Header
 
-    def __init__(self, header: Header, swatches: Iterable[Swatch], table: array) -> None:
+    def __init__(self, header: Header, swatches: Iterable[Swatch], table: Sequence[int]) -> None:
         super().__init__(swatches)
         self.header = header
-        self._table = table
+        # A copy, which is one of numbers of 32 bits and which nobody else has.
+        self._table = array("I", table)
         self._around = (shown_text(header.prefix), shown_text(header.suffix))
 
     @property

@@ -106,6 +106,8 @@ class Rows(Records[Row]):
     __slots__ = ("_columns",)
 
     def __init__(self, columns: Columns) -> None:
+        # Copies, which are of numbers of 32 bits and which nobody else has.
+        columns = Columns(*(array("I", column) for column in columns))
         self._columns = columns
         count = len(columns.first)
         rows = zip(*columns, parents(columns.depth))
@@ -388,7 +390,7 @@ def _tag(characters: str) -> int:
         raise TypeError(f"four characters are a str, not {type(characters).__name__}")
     if len(characters) != 4:
         raise ValueError(f"four characters are asked for, not {characters!r}")
-    return int.from_bytes(characters.encode("latin-1"), "big")
+    return int.from_bytes(str.encode(characters, "latin-1"), "big")
 
 
 def _id(id: str) -> Tuple[int, bytes]:
@@ -397,7 +399,7 @@ def _id(id: str) -> Tuple[int, bytes]:
         raise TypeError(f"an ID is a str, not {type(id).__name__}")
     if not id:
         raise ValueError("an ID has a character at least")
-    encoded_id = id.encode("latin-1")
+    encoded_id = str.encode(id, "latin-1")
     short = len(encoded_id) == 4 and not isinstance(id, StringID)
     return (0 if short else len(encoded_id)), encoded_id
 

@@ -2,24 +2,19 @@
 
 from __future__ import annotations
 
-#: What the table of refusals says of each number, 0 to 14.
-SENTENCES = (
-    "accepted",
-    "the file read, or the output to be written, is longer than the limit",
-    "a field needs more bytes than remain",
-    "wrong signature, version or closing tag",
-    "unknown colour space, block type, model, item type, form or unit",
-    "a field outside its stated range",
-    "bytes left over after the end",
-    "the two ACO lists disagree",
-    "a name badly closed",
-    "groups unbalanced",
-    "nested too deep",
-    "the lent output is shorter than the exact need",
-    "no record or page of that number",
-    "ASE block length disagrees with its content",
-    "colour has no counterpart in the other format",
-)
+from . import raw
+from ._lent import lend, room
+
+def _sentence(number: int) -> str:
+    out = room(raw.KHUYUREK_SENTENCE)
+    written = raw.calls.khuyurek_refusal_sentence(number, *lend(out))
+    if written.number:
+        raise ImportError(f"the library has no sentence for the refusal {number}")
+    return out[: written.length].tobytes().decode("ascii")
+
+
+#: What the table of refusals says of each number, 0 to 14: the library's own sentences.
+SENTENCES = tuple(map(_sentence, range(15)))
 
 
 class Refusal(Exception):

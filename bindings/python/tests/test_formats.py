@@ -812,6 +812,34 @@ class Buffers(Case):
         with self.assertRaises(BufferError):
             aco.read(memoryview(file)[::2])
 
+    def test_classes_that_say_otherwise(self):
+        """A length that a class made from bytes or str says is not believed."""
+
+        class Bytes(bytes):
+            def __len__(self):
+                return 2**40
+
+        class Name(str):
+            def encode(self, *_):
+                return Bytes(b"x")
+
+            def __len__(self):
+                return 2**40
+
+        self.assertEqual(aco.read(Bytes(P3)), aco.read(P3))
+        self.refused(2, 0, aco.judge, Bytes())
+        swatch = aco.Swatch(Space.RGB, (0, 0, 0, 0), Name("A"))
+        self.assertEqual(aco.read(aco.write([swatch]))[0].name, "A")
+        self.assertEqual(acb.shown_text(Name("$$$/a=b")), "b")
+        self.assertEqual(khuyurek.printable(Name("A")), "A")
+        self.assertEqual(descriptor.find(P12, [Name("a")]), [1])
+        # Tables are made of numbers of 32 bits, whatever they were.
+        short = descriptor.Columns(*(array("B", [0]) for _ in range(5)))
+        self.assertEqual(len(descriptor.Rows(short)), 1)
+        self.refused(5, 0, descriptor.find, P12, ["a"], descriptor.Rows(short))
+        book = acb.Book(acb.Header(1, 1, 0, 0), [], array("B", bytes(13)))
+        self.assertEqual(book.sample(0), None)
+
     def test_empty_buffers(self):
         for empty in (bytearray(), memoryview(b""), array("B"), array("I")):
             for judge in JUDGES[:4]:
@@ -973,6 +1001,29 @@ class Names(Case):
         self.assertEqual(khuyurek.printable("a\ud800b"), "a\ufffdb")
         # Two halves are a pair in a file.
         self.assertEqual(aco.read(aco.write([(0, (0,) * 4, "\ud83c\udfa8", 4)]))[0].name, "\U0001F3A8")
+
+    def test_printable(self):
+        for name in ("", "a", "Grün", "\ud800", "\udc00a", "a\ud800", "\udc00\ud800\ud800\udc00"):
+            units = name.encode("utf-16-be", "surrogatepass")
+            shown = units.decode("utf-16-be", "replace")
+            self.assertEqual(khuyurek.printable(name), shown)
+            self.assertEqual(khuyurek.name_at(b"\0" + units, 1, len(units) // 2), shown)
+            self.refused(2, 0, khuyurek.name_at, units, 0, len(units) // 2 + 1)
+        everything = "".join(map(chr, range(0x10000)))
+        units = everything.encode("utf-16-be", "surrogatepass")
+        self.assertEqual(khuyurek.printable(everything), units.decode("utf-16-be", "replace"))
+        self.refused(1, 0, khuyurek.name_at, bytes(khuyurek.LIMIT + 1), 0, 1)
+        self.refused(1, 0, khuyurek.printable, "a" * (khuyurek.LIMIT // 2 + 1))
+        for error, arguments in [
+            (OverflowError, (P3, -1, 1)),
+            (OverflowError, (P3, 0, 2**64)),
+            (TypeError, (P3, 0.0, 1)),
+            (TypeError, ("file", 0, 1)),
+        ]:
+            with self.assertRaises(error):
+                khuyurek.name_at(*arguments)
+        with self.assertRaises(TypeError):
+            khuyurek.printable(b"name")
 
     def test_every_single_unit(self):
         units = [chr(unit) for unit in range(1, 65536)]
