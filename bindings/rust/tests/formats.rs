@@ -668,6 +668,20 @@ fn units_are_shown_as_text() {
 }
 
 #[test]
+fn names_in_utf8() {
+    let bytes = Units::encode("Cyan 🎨 ü€");
+    assert_eq!(Units::new(&bytes).to_utf8().unwrap(), "Cyan 🎨 ü€");
+    assert_eq!(Units::default().to_utf8().unwrap(), "");
+    // As many units as a file can have, and one more, which is still shown.
+    let zeros = vec![0; khuyurek::LIMIT + 2];
+    let most = Units::new(&zeros[..khuyurek::LIMIT]);
+    assert_eq!(most.to_utf8().unwrap().len(), khuyurek::LIMIT / 2);
+    let more = Units::new(&zeros);
+    assert_eq!(more.to_utf8(), Err(refusal(1, 0)));
+    assert_eq!(more.to_string().len(), khuyurek::LIMIT / 2 + 1);
+}
+
+#[test]
 fn sentences_are_those_of_the_rules() {
     let rules = Path::new(env!("CARGO_MANIFEST_DIR")).join("../../docs/RULES.md");
     let rules = fs::read_to_string(rules).expect("the rules are there");
