@@ -8,7 +8,21 @@ use std::fmt::Write;
 /// be mistaken for something else is escaped: `\"`, `\\`, and by its number in hex, as
 /// `\u{A}`, each control or invisible character and each surrogate without its other half.
 pub fn quoted(name: Units<'_>) -> String {
-    quote(char::decode_utf16(name.iter()).map(|c| c.map_err(|e| e.unpaired_surrogate())))
+    quote(characters_of(name).into_iter())
+}
+
+/// The characters that the library gives for a name, and in the place of each U+FFFD that
+/// stands for a surrogate without its other half that unit.
+fn characters_of(name: Units<'_>) -> Vec<Result<char, u16>> {
+    let mut units = name.iter();
+    let character = |c: char| {
+        let unit = units.nth(c.len_utf16() - 1);
+        match unit.filter(|unit| (0xD800..0xE000).contains(unit)) {
+            Some(unit) if c == char::REPLACEMENT_CHARACTER => Err(unit),
+            _ => Ok(c),
+        }
+    };
+    name.to_string().chars().map(character).collect()
 }
 
 /// The same of a text.
@@ -34,7 +48,7 @@ pub fn unit_digits(name: Units<'_>) -> String {
 
 /// Whether a name has a surrogate without its other half, which no text has.
 pub fn is_torn(name: Units<'_>) -> bool {
-    char::decode_utf16(name.iter()).any(|c| c.is_err())
+    characters_of(name).iter().any(Result::is_err)
 }
 
 /// A file's name, in quotes where it is empty or would break the line or steer a
