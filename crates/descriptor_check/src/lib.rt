@@ -122,7 +122,7 @@ fn compare(
             return false;
         }
         left -= 1;
-        let head = descriptor_raw::head_at(file, what, objects, at);
+        let head = descriptor_raw::head_to_compare(file, what, objects, at);
         let end = head.end;
         if same_head(first, depth, kind, k, at, d + 1, head.kind) {
             if head.count == 0 {

@@ -120,7 +120,7 @@ fn fill(
             continue;
         }
         left -= 1;
-        let head = descriptor_raw::head_once(file, what, objects, at);
+        let head = descriptor_raw::head_to_fill(file, what, objects, at);
         let end = head.end;
         put_head(first, depth, kind, k, at, d + 1, head.kind);
         if head.count == 0 {
@@ -245,7 +245,7 @@ fn fill_values(
             continue;
         }
         left -= 1;
-        let head = descriptor_raw::head_at(file, what, objects, at);
+        let head = descriptor_raw::head_to_value(file, what, objects, at);
         values[k] = head.value as u32;
         if head.count == 0 {
             at = head.end;

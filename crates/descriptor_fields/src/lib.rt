@@ -175,7 +175,7 @@ pub fn flag_at(file: &[u8], at: usize) -> FieldEnd
 }
 
 // Whether the double with these bits is finite.
-fn is_finite(bits: u64) -> bool
+pub fn is_finite(bits: u64) -> bool
     ensures { λ r. ⌜ r ≡ finite (ofBits binary64 bits) ⌝ }
 {
     bits % MINUS_ZERO < INFINITY

@@ -9,10 +9,10 @@ ghost use lib.Dec.{eqb};
 ghost use Rattle.algebra.specs.Reader.{field, orZero};
 ghost use Rattle.descriptor.specs.Reading.{id, unicode, class, enumerated, rawBytes};
 ghost use Rattle.descriptor_fields.specs.scaffold.Answer.{readerOf};
-ghost use Rattle.descriptor_heads.specs.Heads.{forms, columns, itemHead, memberHead, rootHead};
+ghost use Rattle.descriptor_heads.specs.Heads.{forms, columns, memberHead, rootHead};
 ghost use Rattle.descriptor_judge.specs.scaffold.Cycle.{optional};
 ghost use Rattle.descriptor_raw.specs.Raw.{dueOf, Sees};
-ghost use Rattle.descriptor_raw.specs.scaffold.Raw.{Ends, Values, Items};
+ghost use Rattle.descriptor_raw.specs.scaffold.Raw.{Ends, Values, Leaf, Object, Array};
 use descriptor::ALIAS;
 use descriptor::ARRAY;
 use descriptor::BOOL;
@@ -125,42 +125,70 @@ fn opens(file: &[u8], kind: u32, what: u32, objects: u32, value: usize, at: usiz
     }
 }
 
-// An item's head, of this type, whose value begins at `v`.
-fn value_head(file: &[u8], kind: u32, v: usize) -> RawHead
-    requires { ⌜ v < 288230376151711744 ⌝ }
-    ensures { λ r. ⌜ Values (now (file .entry)) kind v r ⌝ }
+// ---- items, by what follows their type; `v` is where that begins
+
+// So many bytes.
+fn fixed(kind: u32, v: usize, size: usize) -> RawHead
+    requires { ⌜ (v < 288230376151711744) × (size ≤ 12) ⌝ }
+    ensures { λ r. ⌜ r ≡ record { kind = kind; what = 0; objects = 0; count = 0; value = v; end = v + size } ⌝ }
 {
-    match kind {
-        BOOL => leaf(kind, v, v + 1),
-        CLASS | GLOBAL_CLASS => leaf(kind, v, class_end(file, v)),
-        DOUBLE => leaf(kind, v, v + 8),
-        ENUMERATED => leaf(kind, v, enumerated_end(file, v)),
-        ALIAS | PATH | RAW => leaf(kind, v, run_end(file, v)),
-        LONG => leaf(kind, v, v + 4),
-        COMP => leaf(kind, v, v + 8),
-        TEXT => leaf(kind, v, text_end(file, v)),
-        UNIT_DOUBLE => leaf(kind, v, v + 12),
-        LIST => opens(file, kind, 0, 0, v, v),
-        OBJECT | GLOBAL_OBJECT => opens(file, kind, 1, 0, v, class_end(file, v)),
-        REFERENCE => opens(file, kind, 2, 0, v, v),
-        ARRAY => opens(
-            file,
-            kind,
-            3,
-            fields::u32_or_zero(file, v),
-            v,
-            class_end(file, v + 4),
-        ),
-        _ => leaf(kind, v, v),
-    }
+    leaf(kind, v, v + size)
 }
 
-// The same from its type on.
-fn item_head(file: &[u8], at: usize) -> RawHead
-    requires { ⌜ at < 144115188075855872 ⌝ }
-    ensures { λ r. ⌜ Items (now (file .entry)) at r ⌝ }
+// A length and that many bytes.
+fn run_head(file: &[u8], kind: u32, v: usize) -> RawHead
+    requires { ⌜ v < 288230376151711744 ⌝ }
+    ensures { λ r. ⌜ Leaf rawBytes (now (file .entry)) kind v r ⌝ }
 {
-    value_head(file, fields::u32_or_zero(file, at), at + 4)
+    leaf(kind, v, run_end(file, v))
+}
+
+// A Unicode string.
+fn text_head(file: &[u8], kind: u32, v: usize) -> RawHead
+    requires { ⌜ v < 288230376151711744 ⌝ }
+    ensures { λ r. ⌜ Leaf unicode (now (file .entry)) kind v r ⌝ }
+{
+    leaf(kind, v, text_end(file, v))
+}
+
+// Two IDs.
+fn enumerated_head(file: &[u8], kind: u32, v: usize) -> RawHead
+    requires { ⌜ v < 288230376151711744 ⌝ }
+    ensures { λ r. ⌜ Leaf enumerated (now (file .entry)) kind v r ⌝ }
+{
+    leaf(kind, v, enumerated_end(file, v))
+}
+
+// A class.
+fn class_head(file: &[u8], kind: u32, v: usize) -> RawHead
+    requires { ⌜ v < 288230376151711744 ⌝ }
+    ensures { λ r. ⌜ Leaf class (now (file .entry)) kind v r ⌝ }
+{
+    leaf(kind, v, class_end(file, v))
+}
+
+// A count, of items or of reference items.
+fn list_head(file: &[u8], kind: u32, what: u32, v: usize) -> RawHead
+    requires { ⌜ v < 288230376151711744 ⌝ }
+    ensures { λ r. ⌜ r ≡ record { kind = kind; what = what; objects = 0; count = orZero (field 4 (now (file .entry)) v); value = v; end = v + 4 } ⌝ }
+{
+    opens(file, kind, what, 0, v, v)
+}
+
+// A class and the count of the pairs.
+fn object_head(file: &[u8], kind: u32, v: usize) -> RawHead
+    requires { ⌜ v < 288230376151711744 ⌝ }
+    ensures { λ r. ⌜ Object (now (file .entry)) kind v r ⌝ }
+{
+    opens(file, kind, 1, 0, v, class_end(file, v))
+}
+
+// The number of objects, a class and the count of the pairs.
+fn array_head(file: &[u8], kind: u32, objects: u32, v: usize) -> RawHead
+    requires { ⌜ v < 288230376151711744 ⌝ }
+    ensures { λ r. ⌜ Array objects (now (file .entry)) kind v r ⌝ }
+{
+    opens(file, kind, 3, objects, v, class_end(file, v + 4))
 }
 
 // Behind what follows a reference item's class.
@@ -214,22 +242,6 @@ fn key_end(file: &[u8], there: bool, at: usize) -> usize
     at
 }
 
-// The head at a place, where such members are due.
-pub fn head_at(file: &[u8], what: u32, objects: u32, at: usize) -> RawHead
-    ensures { λ r. ⌜ (at ≤ 16777216 → Sees (λ d. memberHead d (dueOf what objects) (now (file .entry)) at) r) ⌝ }
-{
-    if LIMIT < at {
-        return leaf(0, at, at);
-    }
-    if what < 2 {
-        return item_head(file, key_end(file, what == 1, at));
-    }
-    if what == 2 {
-        return form_head(file, at);
-    }
-    column_head(file, objects, at)
-}
-
 // The root's head.
 pub fn root_head(file: &[u8]) -> RawHead
     ensures { λ r. ⌜ Sees (λ d. rootHead (now (file .entry)) 0) r ⌝ }
@@ -237,53 +249,159 @@ pub fn root_head(file: &[u8]) -> RawHead
     opens(file, OBJECT, 1, 0, 4, class_end(file, 4))
 }
 
-// ---- the same again, for one loop. Called from one place, they are no calls: the compiler makes one
-// function of them and the loop that fills columns, which so takes less time (docs/DECISIONS.md)
+// ---- heads, for four loops. Each loop has a reader of its own, called from it alone, which so becomes a
+// part of it; what they share is above, and small enough to become a part of each (docs/DECISIONS.md)
 
-fn value_once(file: &[u8], kind: u32, v: usize) -> RawHead
+// For the loop that looks for one row: an item of this type, whose value begins at `v`; and the head at a
+// place where such members are due.
+fn item_at(file: &[u8], kind: u32, v: usize) -> RawHead
     requires { ⌜ v < 288230376151711744 ⌝ }
     ensures { λ r. ⌜ Values (now (file .entry)) kind v r ⌝ }
 {
     match kind {
-        BOOL => leaf(kind, v, v + 1),
-        CLASS | GLOBAL_CLASS => leaf(kind, v, class_end(file, v)),
-        DOUBLE => leaf(kind, v, v + 8),
-        ENUMERATED => leaf(kind, v, enumerated_end(file, v)),
-        ALIAS | PATH | RAW => leaf(kind, v, run_end(file, v)),
-        LONG => leaf(kind, v, v + 4),
-        COMP => leaf(kind, v, v + 8),
-        TEXT => leaf(kind, v, text_end(file, v)),
-        UNIT_DOUBLE => leaf(kind, v, v + 12),
-        LIST => opens(file, kind, 0, 0, v, v),
-        OBJECT | GLOBAL_OBJECT => opens(file, kind, 1, 0, v, class_end(file, v)),
-        REFERENCE => opens(file, kind, 2, 0, v, v),
-        ARRAY => opens(
-            file,
-            kind,
-            3,
-            fields::u32_or_zero(file, v),
-            v,
-            class_end(file, v + 4),
-        ),
-        _ => leaf(kind, v, v),
+        BOOL => fixed(kind, v, 1),
+        LONG => fixed(kind, v, 4),
+        COMP => fixed(kind, v, 8),
+        DOUBLE => fixed(kind, v, 8),
+        UNIT_DOUBLE => fixed(kind, v, 12),
+        ALIAS | PATH | RAW => run_head(file, kind, v),
+        TEXT => text_head(file, kind, v),
+        ENUMERATED => enumerated_head(file, kind, v),
+        CLASS | GLOBAL_CLASS => class_head(file, kind, v),
+        LIST => list_head(file, kind, 0, v),
+        REFERENCE => list_head(file, kind, 2, v),
+        OBJECT | GLOBAL_OBJECT => object_head(file, kind, v),
+        ARRAY => array_head(file, kind, fields::u32_or_zero(file, v), v),
+        _ => fixed(kind, v, 0),
     }
 }
 
-fn item_once(file: &[u8], at: usize) -> RawHead
-    requires { ⌜ at < 144115188075855872 ⌝ }
-    ensures { λ r. ⌜ Items (now (file .entry)) at r ⌝ }
-{
-    value_once(file, fields::u32_or_zero(file, at), at + 4)
-}
-
-pub fn head_once(file: &[u8], what: u32, objects: u32, at: usize) -> RawHead
+pub fn head_at(file: &[u8], what: u32, objects: u32, at: usize) -> RawHead
     ensures { λ r. ⌜ (at ≤ 16777216 → Sees (λ d. memberHead d (dueOf what objects) (now (file .entry)) at) r) ⌝ }
 {
     if LIMIT < at {
         return leaf(0, at, at);
     }
     if what < 2 {
-        return item_once(file, key_end(file, what == 1, at));
+        let start = key_end(file, what == 1, at);
+        return item_at(file, fields::u32_or_zero(file, start), start + 4);
+    }
+    if what == 2 {
+        return form_head(file, at);
+    }
+    column_head(file, objects, at)
+}
+
+// For the loop that fills columns.
+fn item_to_fill(file: &[u8], kind: u32, v: usize) -> RawHead
+    requires { ⌜ v < 288230376151711744 ⌝ }
+    ensures { λ r. ⌜ Values (now (file .entry)) kind v r ⌝ }
+{
+    match kind {
+        BOOL => fixed(kind, v, 1),
+        LONG => fixed(kind, v, 4),
+        COMP => fixed(kind, v, 8),
+        DOUBLE => fixed(kind, v, 8),
+        UNIT_DOUBLE => fixed(kind, v, 12),
+        ALIAS | PATH | RAW => run_head(file, kind, v),
+        TEXT => text_head(file, kind, v),
+        ENUMERATED => enumerated_head(file, kind, v),
+        CLASS | GLOBAL_CLASS => class_head(file, kind, v),
+        LIST => list_head(file, kind, 0, v),
+        REFERENCE => list_head(file, kind, 2, v),
+        OBJECT | GLOBAL_OBJECT => object_head(file, kind, v),
+        ARRAY => array_head(file, kind, fields::u32_or_zero(file, v), v),
+        _ => fixed(kind, v, 0),
+    }
+}
+
+pub fn head_to_fill(file: &[u8], what: u32, objects: u32, at: usize) -> RawHead
+    ensures { λ r. ⌜ (at ≤ 16777216 → Sees (λ d. memberHead d (dueOf what objects) (now (file .entry)) at) r) ⌝ }
+{
+    if LIMIT < at {
+        return leaf(0, at, at);
+    }
+    if what < 2 {
+        let start = key_end(file, what == 1, at);
+        return item_to_fill(file, fields::u32_or_zero(file, start), start + 4);
+    }
+    if what == 2 {
+        return form_head(file, at);
+    }
+    column_head(file, objects, at)
+}
+
+// For the loop that stores where values begin.
+fn item_to_value(file: &[u8], kind: u32, v: usize) -> RawHead
+    requires { ⌜ v < 288230376151711744 ⌝ }
+    ensures { λ r. ⌜ Values (now (file .entry)) kind v r ⌝ }
+{
+    match kind {
+        BOOL => fixed(kind, v, 1),
+        LONG => fixed(kind, v, 4),
+        COMP => fixed(kind, v, 8),
+        DOUBLE => fixed(kind, v, 8),
+        UNIT_DOUBLE => fixed(kind, v, 12),
+        ALIAS | PATH | RAW => run_head(file, kind, v),
+        TEXT => text_head(file, kind, v),
+        ENUMERATED => enumerated_head(file, kind, v),
+        CLASS | GLOBAL_CLASS => class_head(file, kind, v),
+        LIST => list_head(file, kind, 0, v),
+        REFERENCE => list_head(file, kind, 2, v),
+        OBJECT | GLOBAL_OBJECT => object_head(file, kind, v),
+        ARRAY => array_head(file, kind, fields::u32_or_zero(file, v), v),
+        _ => fixed(kind, v, 0),
+    }
+}
+
+pub fn head_to_value(file: &[u8], what: u32, objects: u32, at: usize) -> RawHead
+    ensures { λ r. ⌜ (at ≤ 16777216 → Sees (λ d. memberHead d (dueOf what objects) (now (file .entry)) at) r) ⌝ }
+{
+    if LIMIT < at {
+        return leaf(0, at, at);
+    }
+    if what < 2 {
+        let start = key_end(file, what == 1, at);
+        return item_to_value(file, fields::u32_or_zero(file, start), start + 4);
+    }
+    if what == 2 {
+        return form_head(file, at);
+    }
+    column_head(file, objects, at)
+}
+
+// For the loop that compares a table.
+fn item_to_compare(file: &[u8], kind: u32, v: usize) -> RawHead
+    requires { ⌜ v < 288230376151711744 ⌝ }
+    ensures { λ r. ⌜ Values (now (file .entry)) kind v r ⌝ }
+{
+    match kind {
+        BOOL => fixed(kind, v, 1),
+        LONG => fixed(kind, v, 4),
+        COMP => fixed(kind, v, 8),
+        DOUBLE => fixed(kind, v, 8),
+        UNIT_DOUBLE => fixed(kind, v, 12),
+        ALIAS | PATH | RAW => run_head(file, kind, v),
+        TEXT => text_head(file, kind, v),
+        ENUMERATED => enumerated_head(file, kind, v),
+        CLASS | GLOBAL_CLASS => class_head(file, kind, v),
+        LIST => list_head(file, kind, 0, v),
+        REFERENCE => list_head(file, kind, 2, v),
+        OBJECT | GLOBAL_OBJECT => object_head(file, kind, v),
+        ARRAY => array_head(file, kind, fields::u32_or_zero(file, v), v),
+        _ => fixed(kind, v, 0),
+    }
+}
+
+pub fn head_to_compare(file: &[u8], what: u32, objects: u32, at: usize) -> RawHead
+    ensures { λ r. ⌜ (at ≤ 16777216 → Sees (λ d. memberHead d (dueOf what objects) (now (file .entry)) at) r) ⌝ }
+{
+    if LIMIT < at {
+        return leaf(0, at, at);
+    }
+    if what < 2 {
+        let start = key_end(file, what == 1, at);
+        return item_to_compare(file, fields::u32_or_zero(file, start), start + 4);
     }
     if what == 2 {
         return form_head(file, at);

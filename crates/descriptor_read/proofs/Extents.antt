@@ -94,6 +94,12 @@ module _ {row k d at : ℕ} (m : Met) {h : Head} {more : List Head} {e : ℕ} {x
       subst (λ (y : Met). Standing row (k + 1) d y (r .end) more e x) (sym (not-here k row ne m d r))
       (inside (omega (arith, l)) (omega (arith, n, dd)) first (omega (arith, u, low)) (omega (arith, v, low)) (w ∙ ap (ending (m .kind) first (m .value)) (end-deeper (m .depth) h more e (omega (arith, n, dd, de)))))
 
+  -- it is another row's, and has no children
+  skips : (d₀ : ℕ) → d ≡ suc d₀ → (k ≡ row → ⊥) → Standing row k d₀ m at (h ∷ more) e x → Standing row (k + 1) d₀ m (r .end) more e x
+  skips d₀ dd ne (ahead l n w) = ahead (omega (arith, l, ne)) n (w ∙ extent-next (row - k) (row - (k + 1)) h more e (omega (arith, l, ne)))
+  skips d₀ dd ne (inside l n first u v w) =
+      inside (omega (arith, l)) n first (omega (arith, u, low)) (omega (arith, v, low)) (w ∙ ap (ending (m .kind) first (m .value)) (end-deeper (m .depth) h more e (omega (arith, n, dd, de))))
+
 -- ---- turns
 
 module _ (s : List ℕ) (row : ℕ) (x : Extent′) where
@@ -177,6 +183,25 @@ module _ (s : List ℕ) (row : ℕ) (x : Extent′) where
             standing = subst (λ (y : Met). Standing row (k + 1) (d + 1) y (r .end) (t .more) (length s) x) (sym mq) (passes m r low (t .first) at-depth (t .kind) (t .value) (t .valued) d dd (subst (λ (y : List Head). Standing row k d m at y (length s) x) (t .is) (g .standing)));
             room = length-set saved d old ∙ g .room;
           }
+
+      -- with no children
+      pub turn-leaf : r .count ≡ 0 → (k ≡ row → ⊥) → Loop s row x saved d (due (l .what) (l .objects) (l .left - 1)) m (k + 1) (r .end)
+      turn-leaf zr ne =
+          let t = front in
+          let dd : suc d ≡ suc d = refl in
+          let at-depth : t .h .depth ≡ suc d = t .depth ∙ ap suc many in
+          record {
+            rows = g .rows;
+            hs = t .more;
+            walking = walk-close zr (t .next);
+            standing = skips m r (omega (arith, t .low)) (t .first) at-depth (t .kind) (t .value) (t .valued) d dd ne (subst (λ (y : List Head). Standing row k d m at y (length s) x) (t .is) (g .standing));
+            room = g .room;
+          }
+
+  -- the row that is asked for, with no children
+  pub leaf-found : {saved : List Level} {d k at : ℕ} {m : Met} (l : Level) (g : Loop s row x saved d l m k at) (r : RawHead) → (l .left ≡ 0 → ⊥)
+      → (at ≤ 16777216 → Sees (λ d. memberHead d (dueOf (l .what) (l .objects)) s at) r) → r .count ≡ 0 → k ≡ row → (r .value ≤ r .end) × (is (r .kind) (r .value) (r .end - r .value) ≡ x)
+  leaf-found {saved} {d} {k} {at} {m} l g r z h zr q = turn-found (due (r .what) (r .objects) (r .count)) (turn-head l g r z h (sym (here-is k row q m (d + 1) r))) zr refl
 
 -- ---- the root, and all rows
 

@@ -55,7 +55,7 @@ flag-room s v q e =
     let i = done-inv (judged 1 boolean s v) e in
     judged-inv 1 s v boolean (i .1) .0
 
-skip-room : (n : ℕ) (s : List ℕ) (v q : ℕ) → skip n s v ≡ ok tt q → n ≤ length s - v
+pub skip-room : (n : ℕ) (s : List ℕ) (v q : ℕ) → skip n s v ≡ ok tt q → n ≤ length s - v
 skip-room n s v q e =
     let i = done-inv (body 1 n s v) e in
     let b = body-inv 1 s v n (i .1) in

@@ -124,11 +124,20 @@ fn extent_in(file: &[u8], row: usize) -> Extent
             left = level.left;
             continue;
         }
+        left -= 1;
         let head = descriptor_raw::head_at(file, what, objects, at);
+        if head.count == 0 {
+            if k == row {
+                return Extent::Is(head.kind, head.value, head.end - head.value);
+            }
+            at = head.end;
+            k += 1;
+            continue;
+        }
         saved[d] = Level {
             what,
             objects,
-            left: left - 1,
+            left,
             row: 0,
             first: 0,
         };

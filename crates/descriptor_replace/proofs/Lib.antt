@@ -3,3 +3,4 @@ pub mod Values
 pub mod Rows
 pub mod Calls
 pub mod Replaced
+pub mod Said

@@ -86,7 +86,7 @@ fresh-read kind at end u p t vr.Other k f g h n l = let z : _≡_ {A = ℕ} 0 1 
 -- ---- the file
 
 module _ (s : List ℕ) (rs : List Row) (q : ℕ) (e : descriptor s ≡ ok rs q) (r : Row) (o : OneOf r rs) (v : Replacement) (k : isKind (r .kind) v ≡ true) where
-  size : r .value + length (bytesOf v) ≡ r .first + r .size
+  pub size : r .value + length (bytesOf v) ≡ r .first + r .size
   size = let i = kind-scalar (r .kind) v k in one-single (length s) rs (singles s rs q e) o (i .0) ∙′ i .1
     where
       infixl 5 _∙′_
@@ -103,7 +103,7 @@ module _ (s : List ℕ) (rs : List Row) (q : ℕ) (e : descriptor s ≡ ok rs q)
   same-length =
       omega (arith, front, size, inside, length-append (take (r .value) s) (bytesOf v ++ drop (r .value + length (bytesOf v)) s), length-append (bytesOf v) (drop (r .value + length (bytesOf v)) s), length-drop (r .value + length (bytesOf v)) s)
 
-  stands : At (newFile s (found r) v) (r .value) (bytesOf v)
+  pub stands : At (newFile s (found r) v) (r .value) (bytesOf v)
   stands =
       let new : List ℕ = newFile s (found r) v in
       let z : 0 + length (take (r .value) s) ≡ r .value = omega (arith, front) in
@@ -131,13 +131,13 @@ module _ (s : List ℕ) (rs : List Row) (q : ℕ) (e : descriptor s ≡ ok rs q)
       left (x ∷ xs) ys zero l = refl
       left (x ∷ xs) ys (suc j) l = left xs ys j (omega arith)
 
-  -- the row's value is the one given
+  -- the row's bytes are those of the value given; what they say is descriptor_replace/Said
   pub value-given : valueIn (newFile s (found r) v) (found r) ≡ bytesOf v
   value-given =
       let n : valueSize r ≡ length (bytesOf v) = omega (arith, size) in
       ap (λ (m : ℕ). part (newFile s (found r) v) (r .value) m) n ∙ at-take (newFile s (found r) v) (r .value) (bytesOf v) stands
 
-  -- replacing a value by itself gives the same bytes
+  -- a replacement whose bytes are the row's gives the same file
   pub itself : bytesOf v ≡ valueIn s (found r) → newFile s (found r) v ≡ s
   itself h =
       let n : valueSize r ≡ length (bytesOf v) = omega (arith, size) in

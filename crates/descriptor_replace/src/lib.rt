@@ -7,8 +7,6 @@ ghost use mathlib.Core.Path.{_≡_};
 ghost use Prim.Native.Nat.{_+_, _≤_, _<_};
 ghost use lib.ListN.{length};
 ghost use lib.Seq.{sets};
-ghost use lib.Ieee.{binary64, ofBits};
-ghost use lib.Ieee.Scale.{finite};
 ghost use Rattle.algebra.specs.Numbers.{be};
 ghost use Rattle.algebra.specs.Writing.{writes};
 ghost use Rattle.fields.specs.Answer.{toldWritten};
@@ -64,14 +62,14 @@ fn fault_of(value: Replacement) -> u32
         }
         Replacement::Comp(_) => 0,
         Replacement::Double(n) => {
-            if is_finite(n) {
+            if descriptor_fields::is_finite(n) {
                 return 0;
             }
             5
         }
         Replacement::UnitDouble(unit, n) => {
             if descriptor_fields::is_unit(unit) {
-                if is_finite(n) {
+                if descriptor_fields::is_finite(n) {
                     return 0;
                 }
                 return 5;
@@ -94,13 +92,6 @@ fn size_of(value: Replacement) -> usize
         Replacement::UnitDouble(_, _) => 12,
         Replacement::Other => 0,
     }
-}
-
-// Whether the double with these bits is finite.
-fn is_finite(bits: u64) -> bool
-    ensures { λ r. ⌜ r ≡ finite (ofBits binary64 bits) ⌝ }
-{
-    bits % 0x8000_0000_0000_0000 < 0x7ff0_0000_0000_0000
 }
 
 // ---- stores

@@ -17,7 +17,7 @@ use Rattle.descriptor_check.proofs.compare.Lts as lts
 use Rattle.descriptor_check.proofs.same_end.Reads as same-end-reads
 use Rattle.descriptor_check.proofs.same_head.Reads as same-head-reads
 use Rattle.descriptor_columns.proofs.sibling.Reads as sibling-reads
-use Rattle.descriptor_raw.proofs.head_at.Reads as head-at-reads
+use Rattle.descriptor_raw.proofs.head_to_compare.Reads as head-to-compare-reads
 
 abbrev Inv-loop : tie.InvT-loop
 Inv-loop file first size next depth kind rows due arity count start saved₀ d₀ what₀ objects₀ left₀ row₀ from₀ at₀ k₀ saved d what objects left row from at k =
@@ -140,8 +140,8 @@ sub-left c =
     search needs
 
 -- src/lib.rt:119:13
-head-at-requires : tie.Need-head-at-requires Inv-loop μ-loop
-head-at-requires c κs =
+head-to-compare-requires : tie.Need-head-to-compare-requires Inv-loop μ-loop
+head-to-compare-requires c κs =
     search needs
 
 -- src/lib.rt:121:49
@@ -162,7 +162,7 @@ same-head-requires c κs =
     let o = c .before .before .loop in
     let l = level (o .what) (o .objects) (o .left) (o .row) (o .from) in
     let f = T.facts l (o .inv) in
-    let w = T.seen l (o .inv) _ (c .before .if1 .left) (c .head-at .ensures) in
+    let w = T.seen l (o .inv) _ (c .before .if1 .left) (c .head-to-compare .ensures) in
     (omega (arith, w .0, p .1), omega (arith, w .0, p .4), omega (arith, w .0, p .5))
 
 -- src/lib.rt:123:63
@@ -188,7 +188,7 @@ sub-same-end c =
     let o = c .before .before .before .before .before .before .before .loop in
     let l = level (o .what) (o .objects) (o .left) (o .row) (o .from) in
     let f = T.facts l (o .inv) in
-    let w = T.seen l (o .inv) _ (c .before .before .before .before .before .before .if1 .left) (c .before .before .before .before .before .head-at .ensures) in
+    let w = T.seen l (o .inv) _ (c .before .before .before .before .before .before .if1 .left) (c .before .before .before .before .before .head-to-compare .ensures) in
     omega (arith, w .1)
 
 -- src/lib.rt:124:20
@@ -199,7 +199,7 @@ same-end-requires-3 c κs =
     let o = c .before .before .before .before .before .before .before .loop in
     let l = level (o .what) (o .objects) (o .left) (o .row) (o .from) in
     let f = T.facts l (o .inv) in
-    let w = T.seen l (o .inv) _ (c .before .before .before .before .before .before .if1 .left) (c .before .before .before .before .before .head-at .ensures) in
+    let w = T.seen l (o .inv) _ (c .before .before .before .before .before .before .if1 .left) (c .before .before .before .before .before .head-to-compare .ensures) in
     (omega (arith, w .0, p .2), omega (arith, w .0, p .3))
 
 -- src/lib.rt:126:21
@@ -220,7 +220,7 @@ loop-less-2 c =
     let o = c .before .before .before .before .before .before .before .before .before .loop in
     let l = level (o .what) (o .objects) (o .left) (o .row) (o .from) in
     let f = T.facts l (o .inv) in
-    let w = T.seen l (o .inv) _ (c .before .before .before .before .before .before .before .before .if1 .left) (c .before .before .before .before .before .before .before .head-at .ensures) in
+    let w = T.seen l (o .inv) _ (c .before .before .before .before .before .before .before .before .if1 .left) (c .before .before .before .before .before .before .before .head-to-compare .ensures) in
     omega (arith, w .1, w .4, f .6)
 
 -- src/lib.rt:99:5
@@ -231,7 +231,7 @@ loop-again-2 c =
     let o = c .before .before .before .before .before .before .before .before .before .loop in
     let l = level (o .what) (o .objects) (o .left) (o .row) (o .from) in
     let f = T.facts l (o .inv) in
-    T.turn-leaf l (o .inv) _ (c .before .before .before .before .before .before .before .before .if1 .left) (c .before .before .before .before .before .before .before .head-at .ensures) (c .before .before .before .before .before .before .same-head .ensures .yes (c .before .before .before .before .before .if4 .taken)) (c .before .before .before .if5 .taken) (c .before .before .sibling2 .ensures) (c .before .same-end3 .ensures .yes (c .if6 .taken))
+    T.turn-leaf l (o .inv) _ (c .before .before .before .before .before .before .before .before .if1 .left) (c .before .before .before .before .before .before .before .head-to-compare .ensures) (c .before .before .before .before .before .before .same-head .ensures .yes (c .before .before .before .before .before .if4 .taken)) (c .before .before .before .if5 .taken) (c .before .before .sibling2 .ensures) (c .before .same-end3 .ensures .yes (c .if6 .taken))
 
 -- src/lib.rt:129:17
 returns-3 : tie.Need-returns-3 Inv-loop μ-loop
@@ -241,8 +241,8 @@ returns-3 c =
     let o = c .before .before .before .before .before .before .before .before .before .loop in
     let l = level (o .what) (o .objects) (o .left) (o .row) (o .from) in
     let f = T.facts l (o .inv) in
-    let w = T.seen l (o .inv) _ (c .before .before .before .before .before .before .before .before .if1 .left) (c .before .before .before .before .before .before .before .head-at .ensures) in
-    denied (c .before .same-end3 .ensures) (c .if6 .left) (T.told-leaf l (o .inv) _ (c .before .before .before .before .before .before .before .before .if1 .left) (c .before .before .before .before .before .before .before .head-at .ensures) (c .before .before .before .before .before .before .same-head .ensures .yes (c .before .before .before .before .before .if4 .taken)) (c .before .before .before .if5 .taken) (c .before .before .sibling2 .ensures) (omega (arith, w .0, p .2)) (omega (arith, w .0, p .3)))
+    let w = T.seen l (o .inv) _ (c .before .before .before .before .before .before .before .before .if1 .left) (c .before .before .before .before .before .before .before .head-to-compare .ensures) in
+    denied (c .before .same-end3 .ensures) (c .if6 .left) (T.told-leaf l (o .inv) _ (c .before .before .before .before .before .before .before .before .if1 .left) (c .before .before .before .before .before .before .before .head-to-compare .ensures) (c .before .before .before .before .before .before .same-head .ensures .yes (c .before .before .before .before .before .if4 .taken)) (c .before .before .before .if5 .taken) (c .before .before .sibling2 .ensures) (omega (arith, w .0, p .2)) (omega (arith, w .0, p .3)))
 
 -- src/lib.rt:131:13
 mul-saved : tie.Need-mul-saved Inv-loop μ-loop
@@ -292,7 +292,7 @@ loop-less-3 c =
     let o = c .before .before .before .before .before .before .loop in
     let l = level (o .what) (o .objects) (o .left) (o .row) (o .from) in
     let f = T.facts l (o .inv) in
-    let w = T.seen l (o .inv) _ (c .before .before .before .before .before .if1 .left) (c .before .before .before .before .head-at .ensures) in
+    let w = T.seen l (o .inv) _ (c .before .before .before .before .before .if1 .left) (c .before .before .before .before .head-to-compare .ensures) in
     omega (arith, w .1, w .4, f .6)
 
 -- src/lib.rt:99:5
@@ -303,7 +303,7 @@ loop-again-3 c =
     let o = c .before .before .before .before .before .before .loop in
     let l = level (o .what) (o .objects) (o .left) (o .row) (o .from) in
     let f = T.facts l (o .inv) in
-    T.turn-open l (o .inv) _ (c .before .before .before .before .before .if1 .left) (c .before .before .before .before .head-at .ensures) (c .before .before .before .same-head .ensures .yes (c .before .before .if4 .taken))
+    T.turn-open l (o .inv) _ (c .before .before .before .before .before .if1 .left) (c .before .before .before .before .head-to-compare .ensures) (c .before .before .before .same-head .ensures .yes (c .before .before .if4 .taken))
 
 -- src/lib.rt:148:9
 returns-4 : tie.Need-returns-4 Inv-loop μ-loop
@@ -313,8 +313,8 @@ returns-4 c =
     let o = c .before .before .before .before .loop in
     let l = level (o .what) (o .objects) (o .left) (o .row) (o .from) in
     let f = T.facts l (o .inv) in
-    let w = T.seen l (o .inv) _ (c .before .before .before .if1 .left) (c .before .before .head-at .ensures) in
-    denied (c .before .same-head .ensures) (c .if4 .left) (T.told-head l (o .inv) _ (c .before .before .before .if1 .left) (c .before .before .head-at .ensures) (omega (arith, w .0, p .1)) (omega (arith, w .0, p .4)) (omega (arith, w .0, p .5)))
+    let w = T.seen l (o .inv) _ (c .before .before .before .if1 .left) (c .before .before .head-to-compare .ensures) in
+    denied (c .before .same-head .ensures) (c .if4 .left) (T.told-head l (o .inv) _ (c .before .before .before .if1 .left) (c .before .before .head-to-compare .ensures) (omega (arith, w .0, p .1)) (omega (arith, w .0, p .4)) (omega (arith, w .0, p .5)))
 
 pub compare-spec : {M : Type 1} → statement M
 compare-spec =
@@ -335,7 +335,7 @@ compare-spec =
     loop-again
     returns-2
     sub-left
-    head-at-requires
+    head-to-compare-requires
     add-same-head
     same-head-requires
     add-sibling

@@ -16,7 +16,7 @@ use Rattle.descriptor_columns.proofs.fill.Lts as lts
 use Rattle.descriptor_columns.proofs.put_end.Reads as put-end-reads
 use Rattle.descriptor_columns.proofs.put_head.Reads as put-head-reads
 use Rattle.descriptor_columns.proofs.sibling.Reads as sibling-reads
-use Rattle.descriptor_raw.proofs.head_once.Reads as head-once-reads
+use Rattle.descriptor_raw.proofs.head_to_fill.Reads as head-to-fill-reads
 
 abbrev Inv-loop : tie.InvT-loop
 Inv-loop file first₀ size₀ next₀ depth₀ kind₀ rows due arity count start saved₀ d₀ what₀ objects₀ left₀ row₀ from₀ at₀ k₀ first size next depth kind saved d what objects left row from at k =
@@ -193,8 +193,8 @@ sub-left c =
     search needs
 
 -- src/lib.rt:115:13
-head-once-requires : tie.Need-head-once-requires Inv-loop μ-loop
-head-once-requires c κs =
+head-to-fill-requires : tie.Need-head-to-fill-requires Inv-loop μ-loop
+head-to-fill-requires c κs =
     search needs
 
 -- src/lib.rt:117:45
@@ -217,7 +217,7 @@ put-head-requires c κs =
     let g = o .inv in
     let l = level (o .what) (o .objects) (o .left) (o .row) (o .from) in
     let f = T.facts (a .file .now) (a .rows) (rest (a .file .now) (a .due) (a .arity) (a .count) (a .start)) (a .first .now) (a .size .now) (a .next .now) (a .depth .now) (a .kind .now) l g in
-    let w = T.seen (a .file .now) (a .rows) (rest (a .file .now) (a .due) (a .arity) (a .count) (a .start)) (a .first .now) (a .size .now) (a .next .now) (a .depth .now) (a .kind .now) l g _ (c .before .before .before .before .if1 .left) (c .before .before .before .head-once .ensures) in
+    let w = T.seen (a .file .now) (a .rows) (rest (a .file .now) (a .due) (a .arity) (a .count) (a .start)) (a .first .now) (a .size .now) (a .next .now) (a .depth .now) (a .kind .now) l g _ (c .before .before .before .before .if1 .left) (c .before .before .before .head-to-fill .ensures) in
     omega (arith, w .0, w .1, w .2, w .3, f .3, g .la, g .ld, g .le, p .1, p .4, p .5)
 
 -- src/lib.rt:119:36
@@ -229,7 +229,7 @@ sub-put-end c =
     let g = o .inv in
     let l = level (o .what) (o .objects) (o .left) (o .row) (o .from) in
     let f = T.facts (a .file .now) (a .rows) (rest (a .file .now) (a .due) (a .arity) (a .count) (a .start)) (a .first .now) (a .size .now) (a .next .now) (a .depth .now) (a .kind .now) l g in
-    let w = T.seen (a .file .now) (a .rows) (rest (a .file .now) (a .due) (a .arity) (a .count) (a .start)) (a .first .now) (a .size .now) (a .next .now) (a .depth .now) (a .kind .now) l g _ (c .before .before .before .before .before .before .before .before .before .before .before .before .before .before .before .if1 .left) (c .before .before .before .before .before .before .before .before .before .before .before .before .before .before .head-once .ensures) in
+    let w = T.seen (a .file .now) (a .rows) (rest (a .file .now) (a .due) (a .arity) (a .count) (a .start)) (a .first .now) (a .size .now) (a .next .now) (a .depth .now) (a .kind .now) l g _ (c .before .before .before .before .before .before .before .before .before .before .before .before .before .before .before .if1 .left) (c .before .before .before .before .before .before .before .before .before .before .before .before .before .before .head-to-fill .ensures) in
     omega (arith, w .1)
 
 -- src/lib.rt:119:60
@@ -257,7 +257,7 @@ put-end-requires-3 c κs =
     let g = o .inv in
     let l = level (o .what) (o .objects) (o .left) (o .row) (o .from) in
     let f = T.facts (a .file .now) (a .rows) (rest (a .file .now) (a .due) (a .arity) (a .count) (a .start)) (a .first .now) (a .size .now) (a .next .now) (a .depth .now) (a .kind .now) l g in
-    let w = T.seen (a .file .now) (a .rows) (rest (a .file .now) (a .due) (a .arity) (a .count) (a .start)) (a .first .now) (a .size .now) (a .next .now) (a .depth .now) (a .kind .now) l g _ (c .before .before .before .before .before .before .before .before .before .before .before .before .before .before .before .before .if1 .left) (c .before .before .before .before .before .before .before .before .before .before .before .before .before .before .before .head-once .ensures) in
+    let w = T.seen (a .file .now) (a .rows) (rest (a .file .now) (a .due) (a .arity) (a .count) (a .start)) (a .first .now) (a .size .now) (a .next .now) (a .depth .now) (a .kind .now) l g _ (c .before .before .before .before .before .before .before .before .before .before .before .before .before .before .before .before .if1 .left) (c .before .before .before .before .before .before .before .before .before .before .before .before .before .before .before .head-to-fill .ensures) in
     let v : pick (eqb (o .left - 1) 0) (a .rows) (o .k + 1) ≤ 16777216 = T.pick-most (eqb (o .left - 1) 0) (a .rows) (o .k + 1) 16777216 (f .4) (omega (arith, w .0, f .4)) in
     omega (arith, w .0, w .1, w .2, f .3, g .lb, g .lc, p .2, p .3, c .sibling2 .ensures, v)
 
@@ -281,7 +281,7 @@ loop-less-2 c =
     let g = o .inv in
     let l = level (o .what) (o .objects) (o .left) (o .row) (o .from) in
     let f = T.facts (a .file .now) (a .rows) (rest (a .file .now) (a .due) (a .arity) (a .count) (a .start)) (a .first .now) (a .size .now) (a .next .now) (a .depth .now) (a .kind .now) l g in
-    let w = T.seen (a .file .now) (a .rows) (rest (a .file .now) (a .due) (a .arity) (a .count) (a .start)) (a .first .now) (a .size .now) (a .next .now) (a .depth .now) (a .kind .now) l g _ (c .before .before .before .before .before .before .before .before .before .before .before .before .before .before .before .before .before .before .before .before .before .if1 .left) (c .before .before .before .before .before .before .before .before .before .before .before .before .before .before .before .before .before .before .before .before .head-once .ensures) in
+    let w = T.seen (a .file .now) (a .rows) (rest (a .file .now) (a .due) (a .arity) (a .count) (a .start)) (a .first .now) (a .size .now) (a .next .now) (a .depth .now) (a .kind .now) l g _ (c .before .before .before .before .before .before .before .before .before .before .before .before .before .before .before .before .before .before .before .before .before .if1 .left) (c .before .before .before .before .before .before .before .before .before .before .before .before .before .before .before .before .before .before .before .before .head-to-fill .ensures) in
     omega (arith, w .1, w .4, f .6)
 
 -- src/lib.rt:96:5
@@ -293,7 +293,7 @@ loop-again-2 c =
     let g = o .inv in
     let l = level (o .what) (o .objects) (o .left) (o .row) (o .from) in
     let f = T.facts (a .file .now) (a .rows) (rest (a .file .now) (a .due) (a .arity) (a .count) (a .start)) (a .first .now) (a .size .now) (a .next .now) (a .depth .now) (a .kind .now) l g in
-    T.turn-leaf (a .file .now) (a .rows) (rest (a .file .now) (a .due) (a .arity) (a .count) (a .start)) (a .first .now) (a .size .now) (a .next .now) (a .depth .now) (a .kind .now) l g _ (c .before .before .before .before .before .before .before .before .before .before .before .before .before .before .before .before .before .before .before .before .before .if1 .left) (c .before .before .before .before .before .before .before .before .before .before .before .before .before .before .before .before .before .before .before .before .head-once .ensures) (c .before .before .before .before .before .before .before .before .if3 .taken) (c .before .before .before .before .before .before .before .before .before .before .before .before .before .before .before .before .put-head .ensures .0) (c .before .before .before .before .put-end3 .ensures .0) (c .before .before .before .before .put-end3 .ensures .1) (c .before .before .before .before .before .sibling2 .ensures) (c .before .before .before .before .before .before .before .before .before .before .before .before .before .before .before .before .put-head .ensures .1) (c .before .before .before .before .before .before .before .before .before .before .before .before .before .before .before .before .put-head .ensures .2)
+    T.turn-leaf (a .file .now) (a .rows) (rest (a .file .now) (a .due) (a .arity) (a .count) (a .start)) (a .first .now) (a .size .now) (a .next .now) (a .depth .now) (a .kind .now) l g _ (c .before .before .before .before .before .before .before .before .before .before .before .before .before .before .before .before .before .before .before .before .before .if1 .left) (c .before .before .before .before .before .before .before .before .before .before .before .before .before .before .before .before .before .before .before .before .head-to-fill .ensures) (c .before .before .before .before .before .before .before .before .if3 .taken) (c .before .before .before .before .before .before .before .before .before .before .before .before .before .before .before .before .put-head .ensures .0) (c .before .before .before .before .put-end3 .ensures .0) (c .before .before .before .before .put-end3 .ensures .1) (c .before .before .before .before .before .sibling2 .ensures) (c .before .before .before .before .before .before .before .before .before .before .before .before .before .before .before .before .put-head .ensures .1) (c .before .before .before .before .before .before .before .before .before .before .before .before .before .before .before .before .put-head .ensures .2)
 
 -- src/lib.rt:124:9
 mul-saved : tie.Need-mul-saved Inv-loop μ-loop
@@ -348,7 +348,7 @@ loop-less-3 c =
     let g = o .inv in
     let l = level (o .what) (o .objects) (o .left) (o .row) (o .from) in
     let f = T.facts (a .file .now) (a .rows) (rest (a .file .now) (a .due) (a .arity) (a .count) (a .start)) (a .first .now) (a .size .now) (a .next .now) (a .depth .now) (a .kind .now) l g in
-    let w = T.seen (a .file .now) (a .rows) (rest (a .file .now) (a .due) (a .arity) (a .count) (a .start)) (a .first .now) (a .size .now) (a .next .now) (a .depth .now) (a .kind .now) l g _ (c .before .before .before .before .before .before .before .before .before .before .before .before .before .if1 .left) (c .before .before .before .before .before .before .before .before .before .before .before .before .head-once .ensures) in
+    let w = T.seen (a .file .now) (a .rows) (rest (a .file .now) (a .due) (a .arity) (a .count) (a .start)) (a .first .now) (a .size .now) (a .next .now) (a .depth .now) (a .kind .now) l g _ (c .before .before .before .before .before .before .before .before .before .before .before .before .before .if1 .left) (c .before .before .before .before .before .before .before .before .before .before .before .before .head-to-fill .ensures) in
     omega (arith, w .1, w .4, f .6)
 
 -- src/lib.rt:96:5
@@ -360,7 +360,7 @@ loop-again-3 c =
     let g = o .inv in
     let l = level (o .what) (o .objects) (o .left) (o .row) (o .from) in
     let f = T.facts (a .file .now) (a .rows) (rest (a .file .now) (a .due) (a .arity) (a .count) (a .start)) (a .first .now) (a .size .now) (a .next .now) (a .depth .now) (a .kind .now) l g in
-    T.turn-open (a .file .now) (a .rows) (rest (a .file .now) (a .due) (a .arity) (a .count) (a .start)) (a .first .now) (a .size .now) (a .next .now) (a .depth .now) (a .kind .now) l g _ (c .before .before .before .before .before .before .before .before .before .before .before .before .before .if1 .left) (c .before .before .before .before .before .before .before .before .before .before .before .before .head-once .ensures) (c .before .before .before .before .before .before .before .before .put-head .ensures .0) (c .before .before .before .before .before .before .before .before .put-head .ensures .1) (c .before .before .before .before .before .before .before .before .put-head .ensures .2)
+    T.turn-open (a .file .now) (a .rows) (rest (a .file .now) (a .due) (a .arity) (a .count) (a .start)) (a .first .now) (a .size .now) (a .next .now) (a .depth .now) (a .kind .now) l g _ (c .before .before .before .before .before .before .before .before .before .before .before .before .before .if1 .left) (c .before .before .before .before .before .before .before .before .before .before .before .before .head-to-fill .ensures) (c .before .before .before .before .before .before .before .before .put-head .ensures .0) (c .before .before .before .before .before .before .before .before .put-head .ensures .1) (c .before .before .before .before .before .before .before .before .put-head .ensures .2)
 
 pub fill-spec : {M : Type 1} → statement M
 fill-spec =
@@ -385,7 +385,7 @@ fill-spec =
     loop-less
     loop-again
     sub-left
-    head-once-requires
+    head-to-fill-requires
     add-put-head
     put-head-requires
     sub-put-end

@@ -9,7 +9,7 @@ use Rattle.descriptor_columns.proofs.fill_values.Statement.{statement}
 use Rattle.descriptor_columns.proofs.fill_values.Tie as tie
 use Rattle.descriptor_columns.proofs.fill_values.Reads as reads
 use Rattle.descriptor_columns.proofs.fill_values.Lts as lts
-use Rattle.descriptor_raw.proofs.head_at.Reads as head-at-reads
+use Rattle.descriptor_raw.proofs.head_to_value.Reads as head-to-value-reads
 
 abbrev Inv-loop : tie.InvT-loop
 Inv-loop file values₀ rows due arity count start saved₀ d₀ what₀ objects₀ left₀ at₀ k₀ values saved d what objects left at k =
@@ -103,8 +103,8 @@ sub-left c =
     search needs
 
 -- src/lib.rt:248:13
-head-at-requires : tie.Need-head-at-requires Inv-loop μ-loop
-head-at-requires c κs =
+head-to-value-requires : tie.Need-head-to-value-requires Inv-loop μ-loop
+head-to-value-requires c κs =
     search needs
 
 -- src/lib.rt:249:21
@@ -116,7 +116,7 @@ cast-values c =
     let g = o .inv in
     let l = W.due (o .what) (o .objects) (o .left) in
     let f = W.facts (a .file .now) (a .rows) (rest (a .file .now) (a .due) (a .arity) (a .count) (a .start)) (a .values .now) l g in
-    let w = W.seen (a .file .now) (a .rows) (rest (a .file .now) (a .due) (a .arity) (a .count) (a .start)) (a .values .now) l g _ (c .before .before .if1 .left) (c .before .head-at .ensures) in
+    let w = W.seen (a .file .now) (a .rows) (rest (a .file .now) (a .due) (a .arity) (a .count) (a .start)) (a .values .now) l g _ (c .before .before .if1 .left) (c .before .head-to-value .ensures) in
     omega (arith, w .2, w .3, g .walking .size)
 
 -- src/lib.rt:249:9
@@ -128,7 +128,7 @@ mul-values c =
     let g = o .inv in
     let l = W.due (o .what) (o .objects) (o .left) in
     let f = W.facts (a .file .now) (a .rows) (rest (a .file .now) (a .due) (a .arity) (a .count) (a .start)) (a .values .now) l g in
-    let w = W.seen (a .file .now) (a .rows) (rest (a .file .now) (a .due) (a .arity) (a .count) (a .start)) (a .values .now) l g _ (c .before .before .if1 .left) (c .before .head-at .ensures) in
+    let w = W.seen (a .file .now) (a .rows) (rest (a .file .now) (a .due) (a .arity) (a .count) (a .start)) (a .values .now) l g _ (c .before .before .if1 .left) (c .before .head-to-value .ensures) in
     omega (arith, w .0, f .2)
 
 -- src/lib.rt:249:9
@@ -140,7 +140,7 @@ slice-write-values c =
     let g = o .inv in
     let l = W.due (o .what) (o .objects) (o .left) in
     let f = W.facts (a .file .now) (a .rows) (rest (a .file .now) (a .due) (a .arity) (a .count) (a .start)) (a .values .now) l g in
-    let w = W.seen (a .file .now) (a .rows) (rest (a .file .now) (a .due) (a .arity) (a .count) (a .start)) (a .values .now) l g _ (c .before .before .if1 .left) (c .before .head-at .ensures) in
+    let w = W.seen (a .file .now) (a .rows) (rest (a .file .now) (a .due) (a .arity) (a .count) (a .start)) (a .values .now) l g _ (c .before .before .if1 .left) (c .before .head-to-value .ensures) in
     omega (arith, w .0, p .1, g .size)
 
 -- src/lib.rt:252:13
@@ -163,7 +163,7 @@ loop-less-2 c =
     let g = o .inv in
     let l = W.due (o .what) (o .objects) (o .left) in
     let f = W.facts (a .file .now) (a .rows) (rest (a .file .now) (a .due) (a .arity) (a .count) (a .start)) (a .values .now) l g in
-    let w = W.seen (a .file .now) (a .rows) (rest (a .file .now) (a .due) (a .arity) (a .count) (a .start)) (a .values .now) l g _ (c .before .before .before .before .if1 .left) (c .before .before .before .head-at .ensures) in
+    let w = W.seen (a .file .now) (a .rows) (rest (a .file .now) (a .due) (a .arity) (a .count) (a .start)) (a .values .now) l g _ (c .before .before .before .before .if1 .left) (c .before .before .before .head-to-value .ensures) in
     omega (arith, w .1, w .2, f .4)
 
 -- src/lib.rt:235:5
@@ -175,7 +175,7 @@ loop-again-2 c =
     let g = o .inv in
     let l = W.due (o .what) (o .objects) (o .left) in
     let f = W.facts (a .file .now) (a .rows) (rest (a .file .now) (a .due) (a .arity) (a .count) (a .start)) (a .values .now) l g in
-    W.turn-leaf (a .file .now) (a .rows) (rest (a .file .now) (a .due) (a .arity) (a .count) (a .start)) (a .values .now) l g _ (c .before .before .before .before .if1 .left) (c .before .before .before .head-at .ensures) (c .if3 .taken) refl
+    W.turn-leaf (a .file .now) (a .rows) (rest (a .file .now) (a .due) (a .arity) (a .count) (a .start)) (a .values .now) l g _ (c .before .before .before .before .if1 .left) (c .before .before .before .head-to-value .ensures) (c .if3 .taken) refl
 
 -- src/lib.rt:255:9
 mul-saved : tie.Need-mul-saved Inv-loop μ-loop
@@ -230,7 +230,7 @@ loop-less-3 c =
     let g = o .inv in
     let l = W.due (o .what) (o .objects) (o .left) in
     let f = W.facts (a .file .now) (a .rows) (rest (a .file .now) (a .due) (a .arity) (a .count) (a .start)) (a .values .now) l g in
-    let w = W.seen (a .file .now) (a .rows) (rest (a .file .now) (a .due) (a .arity) (a .count) (a .start)) (a .values .now) l g _ (c .before .before .before .before .if1 .left) (c .before .before .before .head-at .ensures) in
+    let w = W.seen (a .file .now) (a .rows) (rest (a .file .now) (a .due) (a .arity) (a .count) (a .start)) (a .values .now) l g _ (c .before .before .before .before .if1 .left) (c .before .before .before .head-to-value .ensures) in
     omega (arith, w .1, w .2, f .4)
 
 -- src/lib.rt:235:5
@@ -242,7 +242,7 @@ loop-again-3 c =
     let g = o .inv in
     let l = W.due (o .what) (o .objects) (o .left) in
     let f = W.facts (a .file .now) (a .rows) (rest (a .file .now) (a .due) (a .arity) (a .count) (a .start)) (a .values .now) l g in
-    W.turn-head (a .file .now) (a .rows) (rest (a .file .now) (a .due) (a .arity) (a .count) (a .start)) (a .values .now) l g _ (c .before .before .before .before .if1 .left) (c .before .before .before .head-at .ensures) refl
+    W.turn-head (a .file .now) (a .rows) (rest (a .file .now) (a .due) (a .arity) (a .count) (a .start)) (a .values .now) l g _ (c .before .before .before .before .if1 .left) (c .before .before .before .head-to-value .ensures) refl
 
 pub fill-values-spec : {M : Type 1} → statement M
 fill-values-spec =
@@ -259,7 +259,7 @@ fill-values-spec =
     loop-less
     loop-again
     sub-left
-    head-at-requires
+    head-to-value-requires
     cast-values
     mul-values
     slice-write-values

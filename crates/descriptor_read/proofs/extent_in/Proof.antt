@@ -120,56 +120,41 @@ loop-again c =
     let f = E.facts s (a .row) x l (o .inv) in
     E.turn-close s (a .row) x l (o .inv) (c .before .before .before .before .if1 .taken) (c .before .before .if2 .left) (c .before .if3 .left)
 
--- src/lib.rt:127:13
+-- src/lib.rt:127:9
+sub-left : tie.Need-sub-left Inv-loop μ-loop
+sub-left c = search needs
+
+-- src/lib.rt:128:13
 head-at-requires : tie.Need-head-at-requires Inv-loop μ-loop
 head-at-requires c κs = search needs
 
--- src/lib.rt:131:19
-sub-t23 : tie.Need-sub-t23 Inv-loop μ-loop
-sub-t23 c = search needs
-
--- src/lib.rt:128:9
-mul-saved : tie.Need-mul-saved Inv-loop μ-loop
-mul-saved c =
-    let a = c .before .before .before .before .before .before .args in
-    let o = c .before .before .loop in
+-- src/lib.rt:131:58
+sub-t24 : tie.Need-sub-t24 Inv-loop μ-loop
+sub-t24 c =
+    let a = c .before .before .before .before .before .before .before .before .before .before .args in
+    let o = c .before .before .before .before .before .before .loop in
     let s = a .file .now in
     let x = extentIn (a .row) (fileHeads s) in
     let l = E.due (o .what) (o .objects) (o .left) in
     let f = E.facts s (a .row) x l (o .inv) in
-    omega (arith, f .3)
+    E.leaf-found s (a .row) x l (o .inv) _ (c .before .before .before .before .before .if1 .left) (c .before .before .before .before .head-at .ensures) (c .before .before .if4 .taken) (c .before .if5 .taken) .0
 
--- src/lib.rt:128:9
-array-set-from-saved : tie.Need-array-set-from-saved Inv-loop μ-loop
-array-set-from-saved c =
-    let a = c .before .before .before .before .before .before .args in
-    let o = c .before .before .loop in
+-- src/lib.rt:131:17
+returns-3 : tie.Need-returns-3 Inv-loop μ-loop
+returns-3 c =
+    let a = c .before .before .before .before .before .before .before .before .before .before .args in
+    let o = c .before .before .before .before .before .before .loop in
     let s = a .file .now in
     let x = extentIn (a .row) (fileHeads s) in
     let l = E.due (o .what) (o .objects) (o .left) in
     let f = E.facts s (a .row) x l (o .inv) in
-    omega (arith, f .3)
+    E.leaf-found s (a .row) x l (o .inv) _ (c .before .before .before .before .before .if1 .left) (c .before .before .before .before .head-at .ensures) (c .before .before .if4 .taken) (c .before .if5 .taken) .1
 
--- src/lib.rt:135:9
-add-d : tie.Need-add-d Inv-loop μ-loop
-add-d c =
-    let a = c .before .before .before .before .before .before .args in
-    let o = c .before .before .loop in
-    let s = a .file .now in
-    let x = extentIn (a .row) (fileHeads s) in
-    let l = E.due (o .what) (o .objects) (o .left) in
-    let f = E.facts s (a .row) x l (o .inv) in
-    omega (arith, f .3)
-
--- src/lib.rt:136:9
-met-by-requires-2 : tie.Need-met-by-requires-2 Inv-loop μ-loop
-met-by-requires-2 c κs = search needs
-
--- src/lib.rt:141:9
+-- src/lib.rt:134:13
 add-k : tie.Need-add-k Inv-loop μ-loop
 add-k c =
-    let a = c .before .before .before .before .before .before .before .args in
-    let o = c .before .before .before .loop in
+    let a = c .before .before .before .before .before .before .before .before .before .args in
+    let o = c .before .before .before .before .before .loop in
     let s = a .file .now in
     let x = extentIn (a .row) (fileHeads s) in
     let l = E.due (o .what) (o .objects) (o .left) in
@@ -179,25 +164,96 @@ add-k c =
 -- src/lib.rt:112:5
 loop-less-2 : tie.Need-loop-less-2 Inv-loop μ-loop
 loop-less-2 c =
-    let a = c .before .before .before .before .before .before .before .args in
-    let o = c .before .before .before .loop in
+    let a = c .before .before .before .before .before .before .before .before .before .args in
+    let o = c .before .before .before .before .before .loop in
     let s = a .file .now in
     let x = extentIn (a .row) (fileHeads s) in
     let l = E.due (o .what) (o .objects) (o .left) in
     let f = E.facts s (a .row) x l (o .inv) in
-    let w = E.seen s (a .row) x l (o .inv) _ (c .before .before .if1 .left) (c .before .head-at .ensures) in
+    let w = E.seen s (a .row) x l (o .inv) _ (c .before .before .before .before .if1 .left) (c .before .before .before .head-at .ensures) in
     omega (arith, w .1, w .2, f .4)
 
 -- src/lib.rt:112:5
 loop-again-2 : tie.Need-loop-again-2 Inv-loop μ-loop
 loop-again-2 c =
-    let a = c .before .before .before .before .before .before .before .args in
-    let o = c .before .before .before .loop in
+    let a = c .before .before .before .before .before .before .before .before .before .args in
+    let o = c .before .before .before .before .before .loop in
     let s = a .file .now in
     let x = extentIn (a .row) (fileHeads s) in
     let l = E.due (o .what) (o .objects) (o .left) in
     let f = E.facts s (a .row) x l (o .inv) in
-    E.turn-head s (a .row) x l (o .inv) _ (c .before .before .if1 .left) (c .before .head-at .ensures) (c .met-by2 .ensures)
+    E.turn-leaf s (a .row) x l (o .inv) _ (c .before .before .before .before .if1 .left) (c .before .before .before .head-at .ensures) (c .before .if4 .taken) (c .if5 .left)
+
+-- src/lib.rt:137:9
+mul-saved : tie.Need-mul-saved Inv-loop μ-loop
+mul-saved c =
+    let a = c .before .before .before .before .before .before .before .before .args in
+    let o = c .before .before .before .before .loop in
+    let s = a .file .now in
+    let x = extentIn (a .row) (fileHeads s) in
+    let l = E.due (o .what) (o .objects) (o .left) in
+    let f = E.facts s (a .row) x l (o .inv) in
+    omega (arith, f .3)
+
+-- src/lib.rt:137:9
+array-set-from-saved : tie.Need-array-set-from-saved Inv-loop μ-loop
+array-set-from-saved c =
+    let a = c .before .before .before .before .before .before .before .before .args in
+    let o = c .before .before .before .before .loop in
+    let s = a .file .now in
+    let x = extentIn (a .row) (fileHeads s) in
+    let l = E.due (o .what) (o .objects) (o .left) in
+    let f = E.facts s (a .row) x l (o .inv) in
+    omega (arith, f .3)
+
+-- src/lib.rt:144:9
+add-d : tie.Need-add-d Inv-loop μ-loop
+add-d c =
+    let a = c .before .before .before .before .before .before .before .before .args in
+    let o = c .before .before .before .before .loop in
+    let s = a .file .now in
+    let x = extentIn (a .row) (fileHeads s) in
+    let l = E.due (o .what) (o .objects) (o .left) in
+    let f = E.facts s (a .row) x l (o .inv) in
+    omega (arith, f .3)
+
+-- src/lib.rt:145:9
+met-by-requires-2 : tie.Need-met-by-requires-2 Inv-loop μ-loop
+met-by-requires-2 c κs = search needs
+
+-- src/lib.rt:150:9
+add-k-2 : tie.Need-add-k-2 Inv-loop μ-loop
+add-k-2 c =
+    let a = c .before .before .before .before .before .before .before .before .before .args in
+    let o = c .before .before .before .before .before .loop in
+    let s = a .file .now in
+    let x = extentIn (a .row) (fileHeads s) in
+    let l = E.due (o .what) (o .objects) (o .left) in
+    let f = E.facts s (a .row) x l (o .inv) in
+    omega (arith, f .0, f .2)
+
+-- src/lib.rt:112:5
+loop-less-3 : tie.Need-loop-less-3 Inv-loop μ-loop
+loop-less-3 c =
+    let a = c .before .before .before .before .before .before .before .before .before .args in
+    let o = c .before .before .before .before .before .loop in
+    let s = a .file .now in
+    let x = extentIn (a .row) (fileHeads s) in
+    let l = E.due (o .what) (o .objects) (o .left) in
+    let f = E.facts s (a .row) x l (o .inv) in
+    let w = E.seen s (a .row) x l (o .inv) _ (c .before .before .before .before .if1 .left) (c .before .before .before .head-at .ensures) in
+    omega (arith, w .1, w .2, f .4)
+
+-- src/lib.rt:112:5
+loop-again-3 : tie.Need-loop-again-3 Inv-loop μ-loop
+loop-again-3 c =
+    let a = c .before .before .before .before .before .before .before .before .before .args in
+    let o = c .before .before .before .before .before .loop in
+    let s = a .file .now in
+    let x = extentIn (a .row) (fileHeads s) in
+    let l = E.due (o .what) (o .objects) (o .left) in
+    let f = E.facts s (a .row) x l (o .inv) in
+    E.turn-head s (a .row) x l (o .inv) _ (c .before .before .before .before .if1 .left) (c .before .before .before .head-at .ensures) (c .met-by2 .ensures)
 
 pub extent-in-spec : {M : Type 1} → statement M
 extent-in-spec =
@@ -216,12 +272,17 @@ extent-in-spec =
     array-copy-out-level
     loop-less
     loop-again
+    sub-left
     head-at-requires
-    sub-t23
+    sub-t24
+    returns-3
+    add-k
+    loop-less-2
+    loop-again-2
     mul-saved
     array-set-from-saved
     add-d
     met-by-requires-2
-    add-k
-    loop-less-2
-    loop-again-2)
+    add-k-2
+    loop-less-3
+    loop-again-3)

@@ -12,7 +12,7 @@ use Rattle.descriptor_replace.proofs.fault_of.Tie as tie
 use Rattle.descriptor_replace.proofs.fault_of.Reads as reads
 use Rattle.descriptor_replace.proofs.fault_of.Lts as lts
 use Rattle.descriptor_fields.proofs.is_unit.Reads as is-unit-reads
-use Rattle.descriptor_replace.proofs.is_finite.Reads as is-finite-reads
+use Rattle.descriptor_fields.proofs.is_finite.Reads as is-finite-reads
 
 -- src/lib.rt:53:27
 enum-known-value : tie.Need-enum-known-value
