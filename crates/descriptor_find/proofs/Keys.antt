@@ -8,7 +8,7 @@ use lib.ListN.{length, getD, set, drop, length-set}
 use lib.Seq.{sets, sets-eq}
 use borrow.Author.Tests.{eqb-true, eqb-false, eq-eqb, ne-eqb, le-leb, lt-leb}
 use native.Mathlib.Omega.{arith}
-use Rattle.algebra.specs.Numbers.{num, nums}
+use Rattle.algebra.specs.Numbers.{num, nums, Bytes}
 use Rattle.algebra.specs.Reader.{Res, ok, refuse, then, pick, field, body, done, orZero, atEnd, until, many}
 use Rattle.algebra.proofs.Inverse.{clash, then-inv, field-inv, body-inv, ok-value, ok-place}
 use Rattle.algebra.proofs.Laws.{num-1, field-in, field-short, body-in, body-short}
@@ -117,6 +117,91 @@ bytes-start f k a b n =
 pub bytes-end : (f k : List ℕ) (a b n i : ℕ) → n ≤ i → sameBytes (nums 1 (n - i) f a) (nums 1 (n - i) k b) ≡ true
 unfolding sameBytes nums
 bytes-end f k a b n i l = let e : n - i ≡ 0 = omega (arith, l) in ap (λ (m : ℕ). sameBytes (nums 1 m f a) (nums 1 m k b)) e
+
+-- ---- eight bytes at a time
+
+pick-assoc : (c x y : Bool) → pick c (pick x y false) false ≡ pick (pick c x false) y false
+pick-assoc true x y = refl
+pick-assoc false x y = refl
+
+-- some bytes and those behind them
+bytes-split : (f k : List ℕ) (m n a b : ℕ) → sameBytes (nums 1 (m + n) f a) (nums 1 (m + n) k b) ≡ pick (sameBytes (nums 1 m f a) (nums 1 m k b)) (sameBytes (nums 1 n f (a + m)) (nums 1 n k (b + m))) false
+unfolding sameBytes nums
+bytes-split f k zero n a b =
+    let e : zero + n ≡ n = omega arith in
+    let x : a ≡ a + 0 = omega arith in
+    let y : b ≡ b + 0 = omega arith in
+    ap (λ (m : ℕ). sameBytes (nums 1 m f a) (nums 1 m k b)) e ∙ ap₂ (λ (p q : ℕ). sameBytes (nums 1 n f p) (nums 1 n k q)) x y
+bytes-split f k (suc m) n a b =
+    let e : suc m + n ≡ suc (m + n) = omega arith in
+    let x : a + 1 + m ≡ a + suc m = omega arith in
+    let y : b + 1 + m ≡ b + suc m = omega arith in
+    let c : Bool = eqb (num 1 f a) (num 1 k b) in
+    ap (λ (j : ℕ). sameBytes (nums 1 j f a) (nums 1 j k b)) e
+    ∙ ap (λ (z : Bool). pick c z false) (bytes-split f k m n (a + 1) (b + 1))
+    ∙ ap₂ (λ (p q : ℕ). pick c (pick (sameBytes (nums 1 m f (a + 1)) (nums 1 m k (b + 1))) (sameBytes (nums 1 n f p) (nums 1 n k q)) false) false) x y
+    ∙ pick-assoc c (sameBytes (nums 1 m f (a + 1)) (nums 1 m k (b + 1))) (sameBytes (nums 1 n f (a + suc m)) (nums 1 n k (b + suc m)))
+
+one-byte : (f k : List ℕ) (a b : ℕ) → sameBytes (nums 1 1 f a) (nums 1 1 k b) ≡ eqb (getD f a 0) (getD k b 0)
+unfolding sameBytes nums
+one-byte f k a b = alone (eqb (num 1 f a) (num 1 k b)) ∙ ap₂ (λ (p q : ℕ). eqb p q) (num-1 f a) (num-1 k b)
+  where
+    alone : (c : Bool) → pick c true false ≡ c
+    alone true = refl
+    alone false = refl
+
+glued : (x y c d : ℕ) → c < 256 → d < 256 → pick (eqb x y) (eqb c d) false ≡ eqb (x * 256 + c) (y * 256 + d)
+glued x y c d l m = go (eqb x y) refl (eqb c d) refl
+  where
+    go : (p : Bool) → eqb x y ≡ p → (q : Bool) → eqb c d ≡ q → pick p q false ≡ eqb (x * 256 + c) (y * 256 + d)
+    go true e true g = sym (eq-eqb (x * 256 + c) (y * 256 + d) (omega (arith, eqb-true x y e, eqb-true c d g)))
+    go true e false g = let n = eqb-false c d g in sym (ne-eqb (x * 256 + c) (y * 256 + d) (λ z. n (omega (arith, z, l, m))))
+    go false e q g = let n = eqb-false x y e in sym (ne-eqb (x * 256 + c) (y * 256 + d) (λ z. n (omega (arith, z, l, m))))
+
+-- bytes are the same where the number that they make is
+word-same : (f k : List ℕ) → Bytes f → Bytes k → (w a b : ℕ) → sameBytes (nums 1 w f a) (nums 1 w k b) ≡ eqb (num w f a) (num w k b)
+unfolding sameBytes nums num
+word-same f k x y zero a b = refl
+word-same f k x y (suc w) a b =
+    let e : suc w ≡ w + 1 = omega arith in
+    ap (λ (m : ℕ). sameBytes (nums 1 m f a) (nums 1 m k b)) e
+    ∙ bytes-split f k w 1 a b
+    ∙ ap₂ (λ (p q : Bool). pick p q false) (word-same f k x y w a b) (one-byte f k (a + w) (b + w))
+    ∙ glued (num w f a) (num w k b) (getD f (a + w) 0) (getD k (b + w) 0) (x (a + w)) (y (b + w))
+
+module _ (f k : List ℕ) (a b n : ℕ) where
+  pub words-start : sameBytes (nums 1 (8 * n) f a) (nums 1 (8 * n) k b) ≡ sameBytes (nums 1 (8 * (n - 0)) f (a + 8 * 0)) (nums 1 (8 * (n - 0)) k (b + 8 * 0))
+  words-start =
+      let e : 8 * n ≡ 8 * (n - 0) = omega arith in
+      let x : a ≡ a + 8 * 0 = omega arith in
+      let y : b ≡ b + 8 * 0 = omega arith in
+      ap (λ (m : ℕ). sameBytes (nums 1 m f a) (nums 1 m k b)) e ∙ ap₂ (λ (p q : ℕ). sameBytes (nums 1 (8 * (n - 0)) f p) (nums 1 (8 * (n - 0)) k q)) x y
+
+  pub words-turn : Bytes f → Bytes k → (i : ℕ) → i < n
+      → sameBytes (nums 1 (8 * (n - i)) f (a + 8 * i)) (nums 1 (8 * (n - i)) k (b + 8 * i))
+      ≡ pick (eqb (num 8 f (a + 8 * i)) (num 8 k (b + 8 * i))) (sameBytes (nums 1 (8 * (n - (i + 1))) f (a + 8 * (i + 1))) (nums 1 (8 * (n - (i + 1))) k (b + 8 * (i + 1)))) false
+  words-turn u v i l =
+      let e : 8 * (n - i) ≡ 8 + 8 * (n - (i + 1)) = omega (arith, l) in
+      let x : a + 8 * i + 8 ≡ a + 8 * (i + 1) = omega arith in
+      let y : b + 8 * i + 8 ≡ b + 8 * (i + 1) = omega arith in
+      ap (λ (m : ℕ). sameBytes (nums 1 m f (a + 8 * i)) (nums 1 m k (b + 8 * i))) e
+      ∙ bytes-split f k 8 (8 * (n - (i + 1))) (a + 8 * i) (b + 8 * i)
+      ∙ ap (λ (c : Bool). pick c (sameBytes (nums 1 (8 * (n - (i + 1))) f (a + 8 * i + 8)) (nums 1 (8 * (n - (i + 1))) k (b + 8 * i + 8))) false) (word-same f k u v 8 (a + 8 * i) (b + 8 * i))
+      ∙ ap₂ (λ (p q : ℕ). pick (eqb (num 8 f (a + 8 * i)) (num 8 k (b + 8 * i))) (sameBytes (nums 1 (8 * (n - (i + 1))) f p) (nums 1 (8 * (n - (i + 1))) k q)) false) x y
+
+  pub words-end : (i : ℕ) → n ≤ i → sameBytes (nums 1 (8 * (n - i)) f (a + 8 * i)) (nums 1 (8 * (n - i)) k (b + 8 * i)) ≡ true
+  unfolding sameBytes nums
+  words-end i l = let e : 8 * (n - i) ≡ 0 = omega (arith, l) in ap (λ (m : ℕ). sameBytes (nums 1 m f (a + 8 * i)) (nums 1 m k (b + 8 * i))) e
+
+  -- words, and what is left
+  pub words-first : (w : ℕ) → 8 * w ≤ n → sameBytes (nums 1 n f a) (nums 1 n k b) ≡ pick (sameBytes (nums 1 (8 * w) f a) (nums 1 (8 * w) k b)) (sameBytes (nums 1 (n - 8 * w) f (a + 8 * w)) (nums 1 (n - 8 * w) k (b + 8 * w))) false
+  words-first w l =
+      let e : n ≡ 8 * w + (n - 8 * w) = omega (arith, l) in
+      ap (λ (m : ℕ). sameBytes (nums 1 m f a) (nums 1 m k b)) e ∙ bytes-split f k (8 * w) (n - 8 * w) a b
+
+-- a word at a place
+pub word-at : (s : List ℕ) (at x : ℕ) → at + 8 ≤ length s → x ≡ orZero (field 8 s at) → x ≡ num 8 s at
+word-at s at x l e = e ∙ ap orZero (field-in 8 s at (omega (arith, l)))
 
 -- ---- keys one after another
 

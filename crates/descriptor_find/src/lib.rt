@@ -3,7 +3,7 @@
 // The table is compared with the file once. Then all keys are read, and each goes from one child of the
 // root to the next, by the next sibling, up to the first that has it.
 ghost use mathlib.Core.Path.{_≡_};
-ghost use Prim.Native.Nat.{_+_, _≤_, _<_};
+ghost use Prim.Native.Nat.{_+_, _*_, _≤_, _<_};
 ghost use lib.ListN.{length};
 ghost use Rattle.algebra.specs.Numbers.{nums};
 ghost use Rattle.descriptor.specs.Reading.{descriptor};
@@ -58,8 +58,24 @@ fn count_keys(keys: &[u8]) -> KeyCount
     KeyCount::Keys(n)
 }
 
-// Whether the bytes of a file from `start` are those of a key's body.
-fn same_body(file: &[u8], start: usize, keys: &[u8], body: usize, size: usize) -> bool
+// Whether so many words of a file, eight bytes each, are those of a key's body.
+fn same_words(file: &[u8], start: usize, keys: &[u8], body: usize, words: usize) -> bool
+    requires { ⌜ (start + 8 * words ≤ length (now file)) × (body + 8 * words ≤ length (now keys)) ⌝ }
+    ensures { λ r. ⌜ r ≡ sameBytes (nums 1 (8 * words) (now (file .entry)) start) (nums 1 (8 * words) (now (keys .entry)) body) ⌝ }
+{
+    let mut i: usize = 0;
+    while i < words {
+        let at = 8 * i;
+        if fields::u64_or_zero(file, start + at) != fields::u64_or_zero(keys, body + at) {
+            return false;
+        }
+        i += 1;
+    }
+    true
+}
+
+// Whether the bytes of a file from `start` are those of a key's body, one by one.
+fn same_bytes(file: &[u8], start: usize, keys: &[u8], body: usize, size: usize) -> bool
     requires { ⌜ (start + size ≤ length (now file)) × (body + size ≤ length (now keys)) ⌝ }
     ensures { λ r. ⌜ r ≡ sameBytes (nums 1 size (now (file .entry)) start) (nums 1 size (now (keys .entry)) body) ⌝ }
 {
@@ -71,6 +87,19 @@ fn same_body(file: &[u8], start: usize, keys: &[u8], body: usize, size: usize) -
         i += 1;
     }
     true
+}
+
+// The same, words first and then the few that are left.
+fn same_body(file: &[u8], start: usize, keys: &[u8], body: usize, size: usize) -> bool
+    requires { ⌜ (start + size ≤ length (now file)) × (body + size ≤ length (now keys)) ⌝ }
+    ensures { λ r. ⌜ r ≡ sameBytes (nums 1 size (now (file .entry)) start) (nums 1 size (now (keys .entry)) body) ⌝ }
+{
+    let words = size / 8;
+    if same_words(file, start, keys, body, words) {
+        let whole = 8 * words;
+        return same_bytes(file, start + whole, keys, body + whole, size - whole);
+    }
+    false
 }
 
 // Whether the key at `first` of a file is that with this length field and body.

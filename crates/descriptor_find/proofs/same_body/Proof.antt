@@ -3,101 +3,72 @@ use Rattle.descriptor_find.specs.Find.{sameBytes}
 use Rattle.algebra.specs.Reader.{pick}
 use Rattle.algebra.specs.Numbers.{nums}
 use native.Mathlib.Omega.{arith}
-use borrow.Author.Tests.{eq-eqb, ne-eqb}
-use lib.ListN.{length, getD}
-use lib.Dec.{eqb}
 use mathlib.Core.Bool.{Bool, true, false}
-use mathlib.Core.Path.{_≡_, refl, sym, ap, _∙_}
-use Prim.Native.Nat.{ℕ, _+_, _-_, _≤_, _<_}
+use mathlib.Core.Path.{_≡_, sym, ap, _∙_}
+use Prim.Native.Nat.{ℕ, _+_, _-_, _*_, _/_}
+use borrow.Author.Needs.{needs}
 use Rattle.descriptor_find.proofs.same_body.Statement.{statement}
 use Rattle.descriptor_find.proofs.same_body.Tie as tie
 use Rattle.descriptor_find.proofs.same_body.Reads as reads
 use Rattle.descriptor_find.proofs.same_body.Lts as lts
+use Rattle.descriptor_find.proofs.same_bytes.Reads as same-bytes-reads
+use Rattle.descriptor_find.proofs.same_words.Reads as same-words-reads
 
-abbrev Inv-loop : tie.InvT-loop
-Inv-loop file start keys body size i₀ i =
-    sameBytes (nums 1 size file start) (nums 1 size keys body) ≡ sameBytes (nums 1 (size - i) file (start + i)) (nums 1 (size - i) keys (body + i))
+-- src/lib.rt:98:8
+same-words-requires : tie.Need-same-words-requires
+same-words-requires c κs = search needs
 
-abbrev μ-loop : tie.MeasureT-loop
-μ-loop file start keys body size i₀ i =
-    size - i
+-- src/lib.rt:99:21
+mul-whole : tie.Need-mul-whole
+mul-whole c = search needs
 
--- src/lib.rt:67:5
-loop-holds : tie.Need-loop-holds Inv-loop μ-loop
-loop-holds c =
-    let a = c .args in
-    K.bytes-start (a .file .now) (a .keys .now) (a .start) (a .body) (a .size)
+-- src/lib.rt:100:33
+add-same-bytes : tie.Need-add-same-bytes
+add-same-bytes c = search needs
 
--- src/lib.rt:68:17
-add-if1 : tie.Need-add-if1 Inv-loop μ-loop
-add-if1 c =
-    let p = c .before .before .pre in
-    omega (arith, p .0)
+-- src/lib.rt:100:54
+add-same-bytes-2 : tie.Need-add-same-bytes-2
+add-same-bytes-2 c = search needs
 
--- src/lib.rt:68:12
-shared-slice-read-if1 : tie.Need-shared-slice-read-if1 Inv-loop μ-loop
-shared-slice-read-if1 c =
-    let p = c .before .before .before .pre in
-    omega (arith, p .0)
+-- src/lib.rt:100:68
+sub-same-bytes : tie.Need-sub-same-bytes
+sub-same-bytes c = search needs
 
--- src/lib.rt:68:36
-add-if1-2 : tie.Need-add-if1-2 Inv-loop μ-loop
-add-if1-2 c =
-    let p = c .before .before .before .pre in
-    omega (arith, p .1)
+-- src/lib.rt:100:9
+same-bytes-requires : tie.Need-same-bytes-requires
+same-bytes-requires c κs = search needs
 
--- src/lib.rt:68:31
-shared-slice-read-if1-2 : tie.Need-shared-slice-read-if1-2 Inv-loop μ-loop
-shared-slice-read-if1-2 c =
-    let p = c .before .before .before .before .pre in
-    omega (arith, p .1)
-
--- src/lib.rt:69:13
-returns : tie.Need-returns Inv-loop μ-loop
+-- src/lib.rt:100:9
+returns : tie.Need-returns
 returns c =
     let a = c .before .before .before .before .before .args in
-    let l = c .before .before .before .before .loop in
-    sym (l .inv ∙ K.bytes-turn (a .file .now) (a .keys .now) (a .start) (a .body) (a .size) (l .i) (c .before .before .before .loop-test .taken) ∙ ap (λ (b : Bool). pick b (sameBytes (nums 1 (a .size - (l .i + 1)) (a .file .now) (a .start + (l .i + 1))) (nums 1 (a .size - (l .i + 1)) (a .keys .now) (a .body + (l .i + 1)))) false) (ne-eqb (getD (a .file .now) (a .start + l .i) 0) (getD (a .keys .now) (a .body + l .i) 0) (c .if1 .taken)))
+    let f = a .file .now in
+    let k = a .keys .now in
+    let w : ℕ = a .size / 8 in
+    let rest : Bool = sameBytes (nums 1 (a .size - 8 * w) f (a .start + 8 * w)) (nums 1 (a .size - 8 * w) k (a .body + 8 * w)) in
+    let t = K.words-first f k (a .start) (a .body) (a .size) w (omega arith) in
+    c .same-bytes .ensures ∙ sym (t ∙ ap (λ (b : Bool). pick b rest false) (sym (c .before .before .same-words .ensures) ∙ c .before .if1 .taken))
 
--- src/lib.rt:71:9
-add-i : tie.Need-add-i Inv-loop μ-loop
-add-i c =
-    let l = c .before .before .before .loop-test .taken in
-    omega arith
-
--- src/lib.rt:67:5
-loop-less : tie.Need-loop-less Inv-loop μ-loop
-loop-less c =
-    let l = c .before .before .before .loop-test .taken in
-    omega (arith, l)
-
--- src/lib.rt:67:5
-loop-again : tie.Need-loop-again Inv-loop μ-loop
-loop-again c =
-    let a = c .before .before .before .before .before .args in
-    let l = c .before .before .before .before .loop in
-    l .inv ∙ K.bytes-turn (a .file .now) (a .keys .now) (a .start) (a .body) (a .size) (l .i) (c .before .before .before .loop-test .taken) ∙ ap (λ (b : Bool). pick b (sameBytes (nums 1 (a .size - (l .i + 1)) (a .file .now) (a .start + (l .i + 1))) (nums 1 (a .size - (l .i + 1)) (a .keys .now) (a .body + (l .i + 1)))) false) (eq-eqb (getD (a .file .now) (a .start + l .i) 0) (getD (a .keys .now) (a .body + l .i) 0) (c .if1 .left))
-
--- src/lib.rt:62:1
-returns-2 : tie.Need-returns-2 Inv-loop μ-loop
+-- src/lib.rt:93:1
+returns-2 : tie.Need-returns-2
 returns-2 c =
-    let a = c .before .before .args in
-    let l = c .before .loop in
-    sym (l .inv ∙ K.bytes-end (a .file .now) (a .keys .now) (a .start + l .i) (a .body + l .i) (a .size) (l .i) (c .loop-test .left))
+    let a = c .before .before .before .before .args in
+    let f = a .file .now in
+    let k = a .keys .now in
+    let w : ℕ = a .size / 8 in
+    let rest : Bool = sameBytes (nums 1 (a .size - 8 * w) f (a .start + 8 * w)) (nums 1 (a .size - 8 * w) k (a .body + 8 * w)) in
+    let t = K.words-first f k (a .start) (a .body) (a .size) w (omega arith) in
+    sym (t ∙ ap (λ (b : Bool). pick b rest false) (sym (c .before .same-words .ensures) ∙ c .if1 .left))
 
 pub same-body-spec : {M : Type 1} → statement M
 same-body-spec =
     tie.close
     (tie.spec
-    Inv-loop
-    μ-loop
-    loop-holds
-    add-if1
-    shared-slice-read-if1
-    add-if1-2
-    shared-slice-read-if1-2
+    same-words-requires
+    mul-whole
+    add-same-bytes
+    add-same-bytes-2
+    sub-same-bytes
+    same-bytes-requires
     returns
-    add-i
-    loop-less
-    loop-again
     returns-2)
