@@ -1056,10 +1056,12 @@ class Library(unittest.TestCase):
     def test_another_version(self):
         with tempfile.TemporaryDirectory() as folder:
             source, library = Path(folder, "other.c"), Path(folder, "other.so")
-            source.write_text("const unsigned khuyurek_version = 1;\n")
+            other = raw.KHUYUREK_VERSION + 1
+            source.write_text(f"const unsigned khuyurek_version = {other};\n")
             subprocess.run(["cc", "-shared", "-fPIC", source, "-o", library], check=True)
             said = self.run_with(KHUYUREK_LIBRARY=str(library))
-            self.assertIn("is of version 1 of the interface, and not 2", said.stderr)
+            words = f"is of version {other} of the interface, and not {raw.KHUYUREK_VERSION}:"
+            self.assertIn(words, said.stderr)
 
 
 class Raw(unittest.TestCase):
