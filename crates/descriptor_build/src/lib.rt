@@ -14,13 +14,14 @@ ghost use Rattle.fields.specs.Answer.{toldWritten};
 ghost use Rattle.descriptor_heads.specs.Heads.{pairs, settled};
 ghost use Rattle.descriptor_raw.specs.Raw.{dueOf};
 ghost use Rattle.descriptor_entry.specs.Pieces.{bytes};
-ghost use Rattle.descriptor_entry.specs.Shapes.{width, kindOf, piecesOf, shapeOf, object};
+ghost use Rattle.descriptor_entry.specs.Shapes.{width, numberIn, kindOf, piecesOf, shapeOf, object};
 ghost use Rattle.descriptor_entry.specs.Entries.{keyPieces, fieldPieces, headPieces, rootPieces, asks, memberPieces, given, made, built};
 ghost use Rattle.descriptor_build.specs.scaffold.Putting.{Ready, Stored, PutHead, Begun, Whole};
 use descriptor_columns::Level;
 use descriptor_entry::Field;
 use descriptor_entry::Shape;
 use descriptor_entry::WIDTH;
+use descriptor_entry::id_length;
 use descriptor_entry::number_in;
 use descriptor_entry::place_in;
 use fields::Written;
@@ -84,8 +85,16 @@ fn put_counted(out: &mut [u8], at: usize, v: u32, text: &[u8], first: usize, n: 
     at + 4 + n
 }
 
+// A part by the numbers i and i + 1 of an entry, of n bytes.
+fn put_part(out: &mut [u8], at: usize, text: &[u8], row: &[u32], i: usize, n: usize) -> usize
+    requires { ⌜ (at + (4 + n) ≤ length (now out)) × (length (part (now text) (numberIn (now row) (i + 1)) n) ≡ n) ⌝ }
+    ensures { λ r. ⌜ (now (out .exit) ≡ sets (now (out .entry)) at (be 4 (numberIn (now (row .entry)) i) ++ part (now (text .entry)) (numberIn (now (row .entry)) (i + 1)) n)) × (r ≡ at + (4 + n)) ⌝ }
+{
+    put_counted(out, at, number_in(row, i), text, place_in(row, i), n)
+}
+
 // A field of an entry; the place behind it.
-fn put_field(out: &mut [u8], at: usize, text: &[u8], row: &[u32], field: Field) -> usize
+fn put_some(out: &mut [u8], at: usize, text: &[u8], row: &[u32], field: Field) -> usize
     requires { ⌜ Ready (now text) (piecesOf 0 (now row) field) at (length (now out)) ⌝ }
     ensures { λ r. ⌜ Stored (now (text .entry)) (piecesOf 0 (now (row .entry)) field) (now (out .entry)) at (now (out .exit)) r ⌝ }
 {
@@ -97,38 +106,21 @@ fn put_field(out: &mut [u8], at: usize, text: &[u8], row: &[u32], field: Field) 
         Field::Flag => put_flag(out, at, number_in(row, 13)),
         Field::Wide => put_wide(out, at, number_in(row, 12), number_in(row, 13)),
         Field::Double => put_wide(out, at, number_in(row, 12), number_in(row, 13)),
-        Field::Id(i) => put_counted(
-            out,
-            at,
-            number_in(row, i),
-            text,
-            place_in(row, i),
-            descriptor_entry::id_length(number_in(row, i)),
-        ),
-        Field::Text(i) => put_counted(
-            out,
-            at,
-            number_in(row, i),
-            text,
-            place_in(row, i),
-            2 * fields::wide(number_in(row, i)),
-        ),
-        Field::Run(i) => put_counted(
-            out,
-            at,
-            number_in(row, i),
-            text,
-            place_in(row, i),
-            fields::wide(number_in(row, i)),
-        ),
-        Field::Doubles(i) => put_counted(
-            out,
-            at,
-            number_in(row, i),
-            text,
-            place_in(row, i),
-            8 * fields::wide(number_in(row, i)),
-        ),
+        Field::Id(i) => put_part(out, at, text, row, i, id_length(number_in(row, i))),
+        Field::Text(i) => put_part(out, at, text, row, i, 2 * fields::wide(number_in(row, i))),
+        Field::Run(i) => put_part(out, at, text, row, i, fields::wide(number_in(row, i))),
+        Field::Doubles(i) => put_part(out, at, text, row, i, 8 * fields::wide(number_in(row, i))),
+    }
+}
+
+// The same, with no call where there is no field.
+fn put_field(out: &mut [u8], at: usize, text: &[u8], row: &[u32], field: Field) -> usize
+    requires { ⌜ Ready (now text) (piecesOf 0 (now row) field) at (length (now out)) ⌝ }
+    ensures { λ r. ⌜ Stored (now (text .entry)) (piecesOf 0 (now (row .entry)) field) (now (out .entry)) at (now (out .exit)) r ⌝ }
+{
+    match field {
+        Field::Nothing => at,
+        _ => put_some(out, at, text, row, field),
     }
 }
 

@@ -44,7 +44,7 @@ pub struct Judged {
 // ---- how long a head is
 
 // How many bytes a field takes.
-fn field_size(row: &[u32], field: Field) -> usize
+fn some_size(row: &[u32], field: Field) -> usize
     ensures { λ r. ⌜ Sized (size (piecesOf 0 (now (row .entry)) field)) r ⌝ }
 {
     match field {
@@ -59,6 +59,16 @@ fn field_size(row: &[u32], field: Field) -> usize
         Field::Text(i) => 4 + 2 * fields::wide(number_in(row, i)),
         Field::Run(i) => 4 + fields::wide(number_in(row, i)),
         Field::Doubles(i) => 4 + 8 * fields::wide(number_in(row, i)),
+    }
+}
+
+// The same, with no call where there is no field.
+fn field_size(row: &[u32], field: Field) -> usize
+    ensures { λ r. ⌜ Sized (size (piecesOf 0 (now (row .entry)) field)) r ⌝ }
+{
+    match field {
+        Field::Nothing => 0,
+        _ => some_size(row, field),
     }
 }
 
@@ -198,7 +208,7 @@ fn wide64(x: u32) -> u64
 }
 
 // The fault of a field, in an object array of so many objects.
-fn field_fault(text: &[u8], row: &[u32], objects: u32, field: Field) -> u32
+fn some_fault(text: &[u8], row: &[u32], objects: u32, field: Field) -> u32
     ensures { λ r. ⌜ r ≡ fault (now (text .entry)) (piecesOf objects (now (row .entry)) field) ⌝ }
 {
     match field {
@@ -217,6 +227,16 @@ fn field_fault(text: &[u8], row: &[u32], objects: u32, field: Field) -> u32
         Field::Text(i) => units_fault(text, place_in(row, i), fields::wide(number_in(row, i))),
         Field::Run(i) => run_fault(text, place_in(row, i), fields::wide(number_in(row, i))),
         Field::Doubles(i) => column_fault(text, objects, number_in(row, i), place_in(row, i)),
+    }
+}
+
+// The same, with no call where there is no field.
+fn field_fault(text: &[u8], row: &[u32], objects: u32, field: Field) -> u32
+    ensures { λ r. ⌜ r ≡ fault (now (text .entry)) (piecesOf objects (now (row .entry)) field) ⌝ }
+{
+    match field {
+        Field::Nothing => 0,
+        _ => some_fault(text, row, objects, field),
     }
 }
 
