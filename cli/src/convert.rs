@@ -12,6 +12,7 @@ use crate::Stopped;
 use khuyurek::compare::{compare, Difference, Palette};
 use khuyurek::{aco, ase, to_channels, to_samples, Ink, Refusal, Space};
 use std::ffi::{OsStr, OsString};
+use std::fs;
 use std::io::Write;
 use std::path::Path;
 
@@ -57,6 +58,13 @@ pub fn run(words: &[OsString], out: &mut dyn Write) -> Result<Status, Stopped> {
     if palette(&file).is_none() || !is_named_so(&file, output) {
         return Ok(Status::Failed);
     }
+    if is_same(input, output) {
+        complain(&format!(
+            "{}: is the file to be converted",
+            shown_name(output)
+        ));
+        return Ok(Status::Failed);
+    }
     let made = match file.kind {
         Kind::Aco => to_ase(&file.bytes),
         _ => to_aco(&file.bytes),
@@ -91,6 +99,14 @@ fn is_named_so(file: &Taken, output: &OsStr) -> bool {
             false
         }
         _ => true,
+    }
+}
+
+/// Whether both are names of one file that is there.
+fn is_same(input: &OsStr, output: &OsStr) -> bool {
+    match (fs::canonicalize(input), fs::canonicalize(output)) {
+        (Ok(input), Ok(output)) => input == output,
+        _ => false,
     }
 }
 

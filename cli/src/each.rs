@@ -47,7 +47,6 @@ pub fn each(
         let done = match take(name, arguments.kind) {
             Ok(file) => act(&file, out)?,
             Err(untaken) => {
-                progress.clear();
                 untaken.complain();
                 if Form::of(arguments) == Form::Json {
                     let mut object = Object::begin(out)?;

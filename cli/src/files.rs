@@ -1,6 +1,7 @@
 //! Reading files and telling their kinds, the same way as `khuyurek` lists them.
 
 use crate::places::DOCUMENT;
+use crate::progress;
 use crate::text::shown_name;
 use khuyurek::LIMIT;
 use std::ffi::OsStr;
@@ -64,6 +65,7 @@ pub struct Taken {
 
 /// Says on standard error what is no file's refusal.
 pub fn complain(complaint: &str) {
+    progress::clear();
     eprintln!("khuyurek: {complaint}");
 }
 

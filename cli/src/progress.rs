@@ -1,7 +1,11 @@
 //! How far a call over many files has come, on standard error.
 
 use std::io::{stderr, stdout, IsTerminal, Write};
+use std::sync::atomic::{AtomicBool, Ordering};
 use std::time::{Duration, Instant};
+
+/// Whether a line of progress stands at the terminal.
+static STANDS: AtomicBool = AtomicBool::new(false);
 
 /// How often a terminal's line is written anew.
 const PAUSE: Duration = Duration::from_millis(100);
@@ -10,7 +14,7 @@ pub struct Progress {
     shown: Shown,
     files: Option<usize>,
     done: usize,
-    /// When the line was last written, if it stands there.
+    /// When the line was last written.
     written: Option<Instant>,
 }
 
@@ -60,22 +64,23 @@ impl Progress {
                     eprint!("\r\x1b[Kkhuyurek: {count}");
                     let _ = stderr().flush();
                     self.written = Some(Instant::now());
+                    STANDS.store(true, Ordering::Relaxed);
                 }
             }
         }
     }
+}
 
-    /// Takes the line away, before something else is said or written.
-    pub fn clear(&mut self) {
-        if self.written.take().is_some() {
-            eprint!("\r\x1b[K");
-            let _ = stderr().flush();
-        }
+/// Takes the line away, before something else is said.
+pub fn clear() {
+    if STANDS.swap(false, Ordering::Relaxed) {
+        eprint!("\r\x1b[K");
+        let _ = stderr().flush();
     }
 }
 
 impl Drop for Progress {
     fn drop(&mut self) {
-        self.clear();
+        clear();
     }
 }

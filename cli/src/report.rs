@@ -109,7 +109,6 @@ impl Reporting<'_> {
                 self.status = self.status.max(Status::Refused);
                 let line = line(file, &with_record(file, refusal));
                 if self.json {
-                    self.progress.clear();
                     complain(&line);
                 } else {
                     writeln!(out, "{line}")?;
@@ -125,7 +124,6 @@ impl Reporting<'_> {
     }
 
     fn complain(&mut self, complaint: &str) {
-        self.progress.clear();
         complain(complaint);
         self.status = Status::Failed;
     }
