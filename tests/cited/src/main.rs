@@ -1,4 +1,4 @@
-//! Every definition, theorem, function, must-fail edit, rule and path that README.md,
+//! Every definition, theorem, function, must-fail edit, rule and path that README.md, CONTRIBUTING.md,
 //! tests/README.md and the pages under docs/ cite is there. The forms of citing
 //! are fixed in docs/ARCHITECTURE.md.
 
@@ -34,7 +34,9 @@ fn main() -> ExitCode {
 }
 
 fn pages(root: &Path) -> Vec<String> {
-    let mut pages = vec!["README.md".to_string(), "tests/README.md".to_string()];
+    let mut pages = ["README.md", "CONTRIBUTING.md", "tests/README.md"]
+        .map(String::from)
+        .to_vec();
     for entry in fs::read_dir(root.join("docs")).expect("docs") {
         let name = entry.expect("a page").file_name();
         pages.push(format!("docs/{}", name.to_string_lossy()));
