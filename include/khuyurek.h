@@ -599,6 +599,13 @@ khuyurek_length khuyurek_descriptor_build(const uint32_t *entries, size_t entrie
                                           const uint8_t *text, size_t text_len,
                                           uint8_t *out, size_t out_len);
 
+/* The entries of a file, 16 numbers a row, its own bytes being their text; spare numbers are 0.
+ * Building from them, with the file as the text, gives the file again; so a descriptor can be read,
+ * changed and sent back. 11 where the run is shorter than 16 numbers a row; past them it keeps its
+ * contents. */
+khuyurek_descriptor_answer khuyurek_descriptor_entries(const uint8_t *file, size_t file_len,
+                                                       uint32_t *entries, size_t entries_len);
+
 /* Judges the whole file, then 12 where it has no such row. */
 khuyurek_descriptor_value khuyurek_descriptor_value_at(const uint8_t *file,
                                                        size_t file_len, size_t row);

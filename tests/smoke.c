@@ -1,7 +1,7 @@
 /* The header and the archive from C: P3, P6 and a book of one Lab colour are read, listed by their
  * record and written back; P4 is refused with its record and field, P7 with its place, a group left
  * open and a tag that is none by the writer; the book's colour, full name and page are shown; P12 is
- * read into its rows and built from its entries; a document's resource section is found, read and written back; P3 and P6 are walked, and P3 is taken in chunks; a few samples and channels are converted, one by one and in runs, and those that
+ * read into its rows and its entries and built from them; a document's resource section is found, read and written back; P3 and P6 are walked, and P3 is taken in chunks; a few samples and channels are converted, one by one and in runs, and those that
  * are refused are refused by their numbers. */
 #include <stdio.h>
 #include <string.h>
@@ -317,6 +317,15 @@ static int descriptor(void) {
     wrote = khuyurek_descriptor_build(entries, 64, P12, sizeof P12, made, sizeof made);
     CHECK(wrote.number == 0 && wrote.length == sizeof P12);
     CHECK(memcmp(made, P12, sizeof P12) == 0 && made[sizeof P12] == 99);
+    uint32_t taken[4 * KHUYUREK_DESCRIPTOR_ENTRY + 1] = {[63] = 99, [64] = 99};
+    khuyurek_descriptor_answer answer = khuyurek_descriptor_entries(P12, sizeof P12, taken, 63);
+    CHECK(answer.number == KHUYUREK_NO_ROOM && answer.rows == 0 && taken[0] == 0 && taken[63] == 99);
+    answer = khuyurek_descriptor_entries(P12, sizeof P12, taken, 65);
+    CHECK(answer.number == 0 && answer.rows == 4 && taken[64] == 99);
+    entries[4] = 8;
+    CHECK(memcmp(taken, entries, sizeof entries) == 0);
+    answer = khuyurek_descriptor_entries(P12, sizeof P12 - 1, taken, 65);
+    CHECK(answer.number == KHUYUREK_CUT && answer.place == 39 && taken[0] == OBJECT_KIND);
     CHECK(khuyurek_descriptor_build_length(entries, 63, P12, sizeof P12).number == KHUYUREK_CUT);
     entries[61] = 2;
     CHECK(khuyurek_descriptor_build_length(entries, 64, P12, sizeof P12).number

@@ -489,6 +489,7 @@ FUNCTIONS: Dict[str, Tuple[type, Tuple[type, ...]]] = {
     ),
     "khuyurek_descriptor_build_length": (khuyurek_length, _RUN + _BYTES),
     "khuyurek_descriptor_build": (khuyurek_length, _RUN + _BYTES + _BYTES_OUT),
+    "khuyurek_descriptor_entries": (khuyurek_descriptor_answer, _BYTES + _RUN_OUT),
     "khuyurek_descriptor_value_at": (khuyurek_descriptor_value, _BYTES + (c_size_t,)),
     "khuyurek_descriptor_typed_at": (khuyurek_descriptor_typed, _BYTES + (c_size_t,)),
     "khuyurek_aco_walk_start": (khuyurek_aco_start, _BYTES),

@@ -205,6 +205,36 @@ pub fn build(entries: &[Entry], text: &[u8]) -> Result<Vec<u8>, Refusal> {
     })
 }
 
+/// The entries of a file, its own bytes being their text. Building from them gives the
+/// file again, so that a descriptor can be read, changed and sent back:
+///
+/// ```
+/// use khuyurek::descriptor;
+///
+/// # fn main() -> Result<(), khuyurek::Refusal> {
+/// # let file = b"\0\0\0\x10\0\0\0\0\0\0\0\x01a\0\0\0\x01\0\0\0\x01along\0\0\0\x07";
+/// let mut entries = descriptor::entries(file)?;
+/// assert_eq!(descriptor::build(&entries, file)?, file);
+/// for entry in &mut entries {
+///     if entry.kind == descriptor::Tag(*b"long") {
+///         entry.bits = 8;
+///     }
+/// }
+/// let changed = descriptor::build(&entries, file)?;
+/// assert_eq!(descriptor::typed_at(&changed, 1)?, descriptor::Value::Long(8));
+/// # Ok(())
+/// # }
+/// ```
+///
+/// A new part is a part of a longer text: the file and behind it what a [`Text`] holds,
+/// its places counted from the file's end.
+pub fn entries(file: &[u8]) -> Result<Vec<Entry>, Refusal> {
+    let mut numbers = vec![0; ENTRY * judge(file)?];
+    rows(raw::entries(file, &mut numbers))?;
+    let entry = |row: &[u32]| Entry::from_numbers(row.try_into().expect("16 numbers a row"));
+    Ok(numbers.chunks_exact(ENTRY).map(entry).collect())
+}
+
 fn laid_out(entries: &[Entry]) -> Vec<u32> {
     entries.iter().flat_map(|entry| entry.numbers()).collect()
 }

@@ -509,6 +509,25 @@ fn built_descriptor_holds_what_was_given() {
 }
 
 #[test]
+fn entries_of_a_descriptor_build_it() {
+    let swatch = example("swatch.desc");
+    for file in [&P12[..], &swatch] {
+        let entries = descriptor::entries(file).unwrap();
+        let rows = descriptor::read(file).unwrap();
+        let kinds: Vec<Tag> = rows.iter().map(|row| row.kind).collect();
+        let found: Vec<Tag> = entries.iter().map(|entry| entry.kind).collect();
+        assert_eq!(found, kinds);
+        assert_eq!(descriptor::build(&entries, file), Ok(file.to_vec()));
+    }
+    // The place of a part of no bytes is where it would begin.
+    let root = descriptor::entries(&P12).unwrap()[0];
+    assert_eq!(root.class_name, Part { count: 0, first: 8 });
+    assert_eq!(root.class, Part { count: 1, first: 12 });
+    assert_eq!(root.key, Part::default());
+    assert_eq!(descriptor::entries(&P12[..39]), Err(refusal(2, 39)));
+}
+
+#[test]
 fn descriptor_values_have_their_types() {
     let file = example("swatch.desc");
     let rows = descriptor::read(&file).unwrap();

@@ -1,8 +1,12 @@
-// Descriptors built from a run of entries, for C.
+// Descriptors built from a run of entries, and the entries of a descriptor, for C.
 ghost use mathlib.Core.Path.{_≡_};
 ghost use Rattle.descriptor_entry.specs.Entries.{given, needed, built};
+ghost use Rattle.descriptor_entries.specs.Answered.{entered};
+ghost use Rattle.khuyurek.specs.Descriptor.{readOf};
 ghost use Rattle.khuyurek.specs.Written.{writtenOf, wroteOf};
+use crate::DescriptorAnswer;
 use crate::Length;
+use crate::descriptors::exported;
 use crate::exported_length;
 
 // How many bytes building needs.
@@ -19,4 +23,12 @@ pub extern "C" fn khuyurek_descriptor_build(entries: &[u32], text: &[u8], out: &
     ensures { λ r. ⌜ (r, now (out .exit)) ≡ wroteOf (built (now (text .entry)) (given (now (entries .entry))) (now (out .entry))) ⌝ }
 {
     exported_length(descriptor_build::write(entries, text, out))
+}
+
+// The entries of a descriptor, its own bytes being their text, in a lent run.
+#[no_mangle]
+pub extern "C" fn khuyurek_descriptor_entries(file: &[u8], entries: &mut [u32]) -> DescriptorAnswer
+    ensures { λ r. ⌜ (r, now (entries .exit)) ≡ readOf (entered (now (file .entry)) (now (entries .entry))) ⌝ }
+{
+    exported(descriptor_entries::entries(file, entries))
 }

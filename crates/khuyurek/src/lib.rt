@@ -37,6 +37,7 @@ pub use books::khuyurek_acb_shown_start;
 pub use books::khuyurek_acb_write;
 pub use building::khuyurek_descriptor_build;
 pub use building::khuyurek_descriptor_build_length;
+pub use building::khuyurek_descriptor_entries;
 pub use columns::Parents;
 pub use columns::khuyurek_descriptor_parents;
 pub use columns::khuyurek_descriptor_read;

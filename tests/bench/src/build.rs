@@ -1,4 +1,4 @@
-//! Times building descriptors from entries.
+//! Times building descriptors from entries, and taking the entries of a file.
 
 use crate::report::{Report, SIZES};
 use crate::timing::{alternate, Times};
@@ -28,6 +28,7 @@ pub fn compare(report: &mut Report, rounds: usize) {
             table.add(call, shape, rows, times);
         };
         add("build", time_build);
+        add("entries", time_entries);
     }
 }
 
@@ -53,6 +54,28 @@ fn time_build(long: &Long, rounds: usize) -> Times {
         || {
             let out = black_box(&mut reference_out[..]);
             let _ = black_box(descriptor::build(black_box(entries), file, out));
+        },
+    )
+}
+
+fn time_entries(long: &Long, rounds: usize) -> Times {
+    let file = &long.file;
+    let mut library_run = vec![1; long.rows * ENTRY_LEN];
+    let mut reference_run = library_run.clone();
+    let taken = proved::descriptor::entries(file, &mut library_run);
+    assert_eq!((taken.number, taken.rows), (0, long.rows));
+    assert_eq!(descriptor::entries(file, &mut reference_run), Ok(long.rows));
+    assert_eq!(library_run, reference_run);
+    alternate(
+        file.len(),
+        rounds,
+        || {
+            let run = black_box(&mut library_run[..]);
+            black_box(proved::descriptor::entries(black_box(file), run));
+        },
+        || {
+            let run = black_box(&mut reference_run[..]);
+            let _ = black_box(descriptor::entries(black_box(file), run));
         },
     )
 }

@@ -162,6 +162,12 @@ extern "C" {
         out: *mut u8,
         out_len: usize,
     ) -> Written;
+    fn khuyurek_descriptor_entries(
+        file: *const u8,
+        file_len: usize,
+        entries: *mut u32,
+        entries_len: usize,
+    ) -> Answer;
     fn khuyurek_descriptor_value_at(file: *const u8, file_len: usize, row: usize) -> Value;
     fn khuyurek_descriptor_typed_at(file: *const u8, file_len: usize, row: usize) -> Typed;
 }
@@ -294,6 +300,20 @@ pub fn build(entries: &[u32], text: &[u8], out: &mut [u8]) -> Written {
             text.len(),
             out.as_mut_ptr(),
             out.len(),
+        )
+    }
+}
+
+/// `khuyurek_descriptor_entries`: the entries of a file, 16 numbers a row, its own bytes
+/// being their text.
+pub fn entries(file: &[u8], entries: &mut [u32]) -> Answer {
+    // SAFETY: see above; the run is borrowed for writing.
+    unsafe {
+        khuyurek_descriptor_entries(
+            file.as_ptr(),
+            file.len(),
+            entries.as_mut_ptr(),
+            entries.len(),
         )
     }
 }

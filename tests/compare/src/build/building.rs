@@ -1,4 +1,4 @@
-//! Comparing what becomes of one lot.
+//! Comparing what becomes of one lot or file.
 
 use super::tally::Tally;
 use crate::difference::{agree, agree_runs, hex, rows, Checked};
@@ -8,9 +8,12 @@ use generate::Random;
 use proved::descriptor::{self as library, Answer};
 use proved::Written;
 use reference::descriptor::{self, ENTRY_LEN};
+use reference::Refusal;
 
-/// Room lent to a writer that refuses whatever the room.
+/// Room lent to a writer that refuses whatever the room, and entries with a file
+/// that is refused.
 const SPARE_ROOM: usize = 80;
+const SPARE_ENTRIES: usize = 3;
 
 /// Compares the length and the building of entries, and what was built as a
 /// file; gives back what was built, where anything was.
@@ -87,6 +90,55 @@ fn check_read_back(rows: usize, out: &[u8]) -> Checked {
     };
     let found = library::judge(out);
     agree(|| "judging what was built".to_string(), &wanted, &found)
+}
+
+/// Compares the entries of a file, and gives back those of an accepted one.
+pub fn check_file(
+    file: &[u8],
+    random: &mut Random,
+    tally: &mut Tally,
+) -> Checked<Option<Vec<u32>>> {
+    check_entries(file, random, tally).map_err(|difference| difference.given("file", hex(file)))
+}
+
+fn check_entries(file: &[u8], random: &mut Random, tally: &mut Tally) -> Checked<Option<Vec<u32>>> {
+    let judged = descriptor::judge(file);
+    let need = ENTRY_LEN * judged.unwrap_or(SPARE_ENTRIES);
+    for room in [
+        need - 1,
+        need + 1 + random.below(2 * ENTRY_LEN),
+        random.below(need),
+        0,
+    ] {
+        check_entries_in(file, room, tally)?;
+    }
+    let entries = check_entries_in(file, need, tally)?;
+    Ok(judged.is_ok().then_some(entries))
+}
+
+fn check_entries_in(file: &[u8], room: usize, tally: &mut Tally) -> Checked<Vec<u32>> {
+    let mut run = Lent::<u32>::of(room);
+    let wanted = answer(descriptor::entries(file, run.for_reference()));
+    let found = library::entries(file, run.for_library());
+    let call = format!("the entries in a run of {room} numbers");
+    agree(|| call.clone(), &wanted, &found)?;
+    run.agree(&call, wanted.rows * ENTRY_LEN)?;
+    tally.file(found.number);
+    Ok(run.found(wanted.rows * ENTRY_LEN).to_vec())
+}
+
+fn answer(result: Result<usize, Refusal>) -> Answer {
+    match result {
+        Ok(rows) => Answer {
+            rows,
+            ..Answer::default()
+        },
+        Err(Refusal { number, place, .. }) => Answer {
+            number,
+            place,
+            ..Answer::default()
+        },
+    }
 }
 
 /// What was built from the entries of a file, or from those laid out for it, is

@@ -1,6 +1,6 @@
-//! The entries a run goes through.
+//! The entries and files a run goes through.
 
-use super::building::{check_lot, check_same};
+use super::building::{check_file, check_lot, check_same};
 use super::tally::Tally;
 use crate::difference::Checked;
 use generate::descriptor::{
@@ -90,9 +90,9 @@ impl Campaign {
         check_lot(&lot.entries, &lot.text, random, &mut self.tally).map(|_| ())
     }
 
-    /// The entries of an accepted file build it again.
+    /// The entries of a file; those of an accepted one build it again.
     fn file(&mut self, file: &[u8], random: &mut Random) -> Checked<Option<Lot>> {
-        let Some(entries) = entries_of(file) else {
+        let Some(entries) = check_file(file, random, &mut self.tally)? else {
             return Ok(None);
         };
         let built = check_lot(&entries, file, random, &mut self.tally)?;
@@ -279,6 +279,7 @@ impl Campaign {
         for long in [flat(LIMIT / 4), deep(LIMIT / 4), wide(&mut random, LIMIT)] {
             self.file(&long.file, &mut random)?;
         }
+        check_file(&vec![0; LIMIT + 1], &mut random, &mut self.tally)?;
         let raw = Object {
             pairs: vec![Object::of_type(&mut random, *b"tdta").pairs.remove(0)],
             ..Object::small(&mut random)

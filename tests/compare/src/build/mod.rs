@@ -1,4 +1,4 @@
-//! Comparing descriptors that are built from entries.
+//! Comparing descriptors that are built from entries, and the entries of files.
 
 mod building;
 pub mod campaign;
