@@ -178,7 +178,7 @@ typedef struct {
     uint16_t index;
     uint16_t record;
     uint16_t field;
-    uint8_t carry[14];
+    uint8_t carry[16];
 } khuyurek_aco_stream;
 
 /* number 0: taken, with the stream for the next call. Else the refusal, whose place

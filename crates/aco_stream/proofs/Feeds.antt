@@ -4,7 +4,7 @@ use mathlib.Core.Path.{_≡_, refl, sym, ap, ap₂, _∙_, subst}
 use mathlib.Core.List.{List, [], _∷_, _++_}
 use mathlib.Core.Bool.{Bool, true, false}
 use lib.Dec.{ltb, eqb}
-use lib.ListN.{length, getD, take, drop, set, length-append, length-drop, length-take, take-append-drop}
+use lib.ListN.{length, getD, take, drop, set, length-set, length-append, length-drop, length-take, take-append-drop}
 use lib.Seq.{drop-drop, drop-cons, take-suc-set, length-take-le, append-snoc, drop-length, getD-take, getD-drop}
 use borrow.Author.Tests.{lt-ltb, le-ltb, eq-eqb, ne-eqb}
 use native.Mathlib.Omega.{arith}
@@ -20,7 +20,7 @@ use Rattle.algebra.proofs.Places.{length-part, num-part}
 use Rattle.aco_chunks.specs.declared.Stage.{Stage}
 use Rattle.aco_chunks.specs.declared.Stage.the-variants as v
 use Rattle.aco_chunks.specs.Chunks.{size, item, after, kept, Progress, isFault, whole, carriedOn, unlessFault, limited, byte, chunk, unitDone, ending, answer}
-use Rattle.aco_stream.specs.scaffold.Parts.{unitsPassed, Sparing}
+use Rattle.aco_stream.specs.scaffold.Parts.{Rest, Passes, PassesWith}
 use Rattle.algebra.specs.Table.{refused}
 use Rattle.aco_chunks.proofs.Cutting.{chunk-append}
 
@@ -64,9 +64,6 @@ module _ (g : Stage) (store : List ℕ) where
         ∙ ap₂ (λ (t : ℕ) (c : List ℕ). whole g t c store) e (append-snoc carry x (y ∷ b))
 
 -- ---- turns of the loop over a chunk: what the whole comes to is what is left of it
-
-abbrev pub Rest : Stage → ℕ → List ℕ → List ℕ → ℕ → List ℕ → Progress
-Rest g total carry store at bytes = chunk (G g total carry store) (drop at bytes)
 
 cut-at : (bytes : List ℕ) (at k : ℕ) → drop at bytes ≡ part bytes at k ++ drop (at + k) bytes
 cut-at bytes at k = sym (take-append-drop k (drop at bytes)) ∙ ap (λ (l : List ℕ). part bytes at k ++ l) (drop-drop k at bytes)
@@ -135,16 +132,22 @@ zero-or false true z = refl
 zero-or false false z = refl
 
 module _ (start : ℕ) (store bytes : List ℕ) (fits : start + length bytes ≤ limit) (n i p : ℕ) where
+  -- one unit, whichever it is
+  pub one-turn : (m : ℕ) (z : Bool) (at u : ℕ) → u ≡ num 2 bytes at → at + 2 ≤ length bytes
+      → Rest (U n i p m z) (start + at) [] store at bytes ≡ Rest (unitDone n i p m z (eqb u 0)) (start + (at + 2)) [] store (at + 2) bytes
+  one-turn m z at u q h =
+      let len : length (part bytes at 2) ≡ 2 = length-part bytes at 2 h in
+      let f : field 2 (part bytes at 2) 0 ≡ ok (num 2 (part bytes at 2) 0) 2 = field-in 2 (part bytes at 2) 0 (omega arith) in
+      let y : num 2 (part bytes at 2) 0 ≡ u = num-part bytes at 2 2 0 (omega arith) ∙ ap (num 2 bytes) (add-zero at) ∙ sym q in
+      turn-item (Rest (U n i p m z) (start + at) [] store at bytes) (U n i p m z) start [] store at bytes refl fits (omega arith) refl refl (at + 2) refl h (omega arith) (part bytes at 2) refl
+      ∙ ap (λ (r : Res ℕ). Rest (after (U n i p m z) (start + at) r) (start + (at + 2)) [] store (at + 2) bytes) f
+      ∙ ap (λ (x : ℕ). Rest (unitDone n i p m z (eqb x 0)) (start + (at + 2)) [] store (at + 2) bytes) y
+
   unit-turn : (m : ℕ) (z : Bool) (at : ℕ) → 1 < m → at + 2 ≤ length bytes
       → Rest (U n i p m z) (start + at) [] store at bytes ≡ Rest (U n i p (m - 1) (pick (eqb (num 2 bytes at) 0) true z)) (start + (at + 2)) [] store (at + 2) bytes
   unit-turn m z at l h =
-      let b = part bytes at 2 in
-      let len : length (part bytes at 2) ≡ 2 = length-part bytes at 2 h in
-      let f : field 2 (part bytes at 2) 0 ≡ ok (num 2 (part bytes at 2) 0) 2 = field-in 2 (part bytes at 2) 0 (omega arith) in
-      let u : num 2 (part bytes at 2) 0 ≡ num 2 bytes at = num-part bytes at 2 2 0 (omega arith) ∙ ap (num 2 bytes) (add-zero at) in
-      turn-item (Rest (U n i p m z) (start + at) [] store at bytes) (U n i p m z) start [] store at bytes refl fits (omega arith) refl refl (at + 2) refl h (omega arith) (part bytes at 2) refl
-      ∙ ap (λ (r : Res ℕ). Rest (after (U n i p m z) (start + at) r) (start + (at + 2)) [] store (at + 2) bytes) f
-      ∙ ap (λ (g : Stage). Rest g (start + (at + 2)) [] store (at + 2) bytes) (unit-more n i p m (num 2 (part bytes at 2) 0) z (eqb (num 2 bytes at) 0) (λ e. omega arith) (ap (λ (x : ℕ). eqb x 0) u))
+      one-turn m z at (num 2 bytes at) refl h
+      ∙ ap (λ (g : Stage). Rest g (start + (at + 2)) [] store (at + 2) bytes) (unit-more n i p m (num 2 bytes at) z (eqb (num 2 bytes at) 0) (λ e. omega arith) refl)
 
   pub units-turn : (k m : ℕ) (z : Bool) (at : ℕ) → k ≤ m - 1 → at + k * 2 ≤ length bytes
       → Rest (U n i p m z) (start + at) [] store at bytes ≡ Rest (U n i p (m - k) (pick (anyZero (nums 2 k bytes at)) true z)) (start + (at + k * 2)) [] store (at + k * 2) bytes
@@ -157,19 +160,6 @@ module _ (start : ℕ) (store bytes : List ℕ) (fits : start + length bytes ≤
       unit-turn m z at (omega arith) (omega arith) ∙ units-turn k (m - 1) (pick (eqb (num 2 bytes at) 0) true z) (at + 2) (omega arith) (omega arith)
       ∙ ap₂ (λ (x y : ℕ). Rest (U n i p x (pick (anyZero (nums 2 k bytes (at + 2))) true (pick (eqb (num 2 bytes at) 0) true z))) (start + y) [] store y bytes) r q
       ∙ ap (λ (b : Bool). Rest (U n i p (m - suc k) b) (start + (at + suc k * 2)) [] store (at + suc k * 2) bytes) (zero-or (anyZero (nums 2 k bytes (at + 2))) (eqb (num 2 bytes at) 0) z)
-
--- the same of any stage that has units to spare
-pub turn-units : (all : Progress) (g : Stage) (start : ℕ) (carry store : List ℕ) (at : ℕ) (bytes : List ℕ) → all ≡ Rest g (start + at) carry store at bytes → carry ≡ [] → start + length bytes ≤ limit
-    → (k : ℕ) → 0 < k → Sparing g k → at + k * 2 ≤ length bytes → (e : ℕ) → e ≡ at + k * 2 → all ≡ Rest (unitsPassed g k (anyZero (nums 2 k bytes at))) (start + e) [] store e bytes
-turn-units all (v.Unit n i p m z) start carry store at bytes inv c fits k s l h e q =
-    inv ∙ ap (λ (c : List ℕ). Rest (U n i p m z) (start + at) c store at bytes) c ∙ units-turn start store bytes fits n i p k m z at l h
-    ∙ ap (λ (y : ℕ). Rest (U n i p (m - k) (pick (anyZero (nums 2 k bytes at)) true z)) (start + y) [] store y bytes) (sym q)
-turn-units all v.First start carry store at bytes inv c fits k s l h e q = absurd (omega arith)
-turn-units all (v.Colour n i) start carry store at bytes inv c fits k s l h e q = absurd (omega arith)
-turn-units all (v.Second n) start carry store at bytes inv c fits k s l h e q = absurd (omega arith)
-turn-units all (v.Entry n i) start carry store at bytes inv c fits k s l h e q = absurd (omega arith)
-turn-units all (v.End n) start carry store at bytes inv c fits k s l h e q = absurd (omega arith)
-turn-units all (v.Fault x p r f) start carry store at bytes inv c fits k s l h e q = absurd (omega arith)
 
 -- ---- sizes
 
@@ -266,3 +256,76 @@ unfolding answer
 answer-within g l from e =
     ap (λ (k : ℕ). ending (g .stage) k (g .carry) (g .store)) e
     ∙ sym (ap (λ (b : Bool). pick b (refused 1 0 0 0) (ending (g .stage) (g .total - length (g .carry)) (g .carry) (g .store))) (le-ltb limit (g .total) l))
+
+-- ---- what is passed at once
+
+-- with no byte carried
+pub passes-with : {start : ℕ} {bytes : List ℕ} {g : Stage} {at : ℕ} {store : List ℕ} {h : Stage} {e : ℕ} {after : List ℕ} (got : ℕ) → got ≡ 0 → Passes start bytes g at store h e after → PassesWith got start bytes g at store h e after
+passes-with {start} {bytes} {g} {at} {store} {h} {e} {after} got z p = record {
+  behind = p .behind;
+  inside = p .inside;
+  keeps = p .keeps;
+  sound = p .sound;
+  stays = λ l. absurd (omega (arith, z, l));
+  comes = λ c n. go c (omega (arith, n, z));
+}
+  where
+    go : (c : List ℕ) → length c ≡ 0 → Rest g (start + at) c store at bytes ≡ Rest h (start + e) c after e bytes
+    go [] n = p .comes
+    go (x ∷ c) n = absurd (omega arith)
+
+-- a stage that stays
+pub passes-none : (start : ℕ) (bytes : List ℕ) (g : Stage) (at : ℕ) (store : List ℕ) → at ≤ length bytes → isFault g ≡ false → Passes start bytes g at store g at store
+passes-none start bytes g at store l f = record { behind = omega arith; inside = l; keeps = refl; sound = λ e. f; comes = refl }
+
+-- after a fault, all
+pub passes-fault : (start : ℕ) (bytes : List ℕ) (x p r f at : ℕ) (store : List ℕ) → at < length bytes → start + length bytes ≤ limit → Passes start bytes (v.Fault x p r f) at store (v.Fault x p r f) (length bytes) store
+passes-fault start bytes x p r f at store l fits = record {
+  behind = omega arith;
+  inside = omega arith;
+  keeps = refl;
+  sound = λ e. absurd (omega arith);
+  comes = turn-fault (Rest (v.Fault x p r f) (start + at) [] store at bytes) (v.Fault x p r f) start [] store at bytes refl fits l refl (length bytes) refl;
+}
+
+-- an item that has begun is not passed, and is no fault
+pub passes-begun : (got start : ℕ) (bytes : List ℕ) (g : Stage) (at : ℕ) (store : List ℕ) → at ≤ length bytes → 0 < got → got < size g → PassesWith got start bytes g at store g at store
+passes-begun got start bytes g at store l n h = record { behind = omega arith; inside = l; keeps = refl; sound = λ e. begun g h; stays = λ x. refl; comes = λ c n. refl }
+  where
+    begun : (g : Stage) → got < size g → isFault g ≡ false
+    begun v.First h = refl
+    begun (v.Colour n i) h = refl
+    begun (v.Second n) h = refl
+    begun (v.Entry n i) h = refl
+    begun (v.Unit n i at m z) h = refl
+    begun (v.End n) h = refl
+    begun (v.Fault x p r y) h = absurd (omega arith)
+
+pub room-after : (g h : Stage) (got : ℕ) → got < size g → (0 < got → h ≡ g) → got < size h
+room-after g h zero l s = size-some h
+room-after g h (suc k) l s = subst (λ (x : Stage). suc k < size x) (sym (s (omega arith))) l
+
+pub passes-as : {start : ℕ} {bytes : List ℕ} {g k : Stage} {at : ℕ} {store : List ℕ} {h : Stage} {e : ℕ} {after : List ℕ} (got : ℕ) → got ≡ 0 → g ≡ k → Passes start bytes k at store h e after → PassesWith got start bytes g at store h e after
+passes-as {start} {bytes} {g} {k} {at} {store} {h} {e} {after} got z q p = passes-with got z (subst (λ (x : Stage). Passes start bytes x at store h e after) (sym q) p)
+
+-- nothing is passed: the next byte is carried
+pub stood : {got start : ℕ} {bytes : List ℕ} {g : Stage} {at : ℕ} {store : List ℕ} {h : Stage} {e : ℕ} {after : List ℕ} (all : Progress) (carry : List ℕ) → all ≡ Rest g (start + at) carry store at bytes → length carry ≡ got → PassesWith got start bytes g at store h e after → e ≤ at → all ≡ Rest h (start + at) carry after at bytes
+stood {got} {start} {bytes} {g} {at} {store} {h} {e} {after} all carry inv n p l =
+    let q : e ≡ at = omega (arith, l, p .behind) in
+    inv ∙ p .comes carry n ∙ ap (λ (k : ℕ). Rest h (start + k) carry after k bytes) q
+
+module _ (all : Progress) (g : Stage) (start got : ℕ) (carry store : List ℕ) (at : ℕ) (bytes : List ℕ) (inv : all ≡ Rest g (start + at) (take got carry) store at bytes) (fits : start + length bytes ≤ limit) (less : at < length bytes) (f : isFault g ≡ false) (room : got < length carry) where
+  held : length (take got carry) ≡ got
+  held = length-take-le got carry (omega arith)
+
+  -- a byte that does not make the item whole, and one that does
+  pub push-turn : got + 1 < size g → all ≡ Rest g (start + (at + 1)) (take (got + 1) (set carry got (getD bytes at 0))) store (at + 1) bytes
+  push-turn h = turn-push all g start (take got carry) store at bytes inv fits less f (omega (arith, held, h)) (take (got + 1) (set carry got (getD bytes at 0))) (carried carry got (getD bytes at 0) room)
+
+  pub full-turn : got + 1 ≡ size g → {from : ℕ} → from ≡ start + (at + 1) - (got + 1) → {k : Stage} {st : List ℕ} → k ≡ after g from (item store g (take (got + 1) (set carry got (getD bytes at 0))) 0) → st ≡ kept g (item store g (take (got + 1) (set carry got (getD bytes at 0))) 0) (take (got + 1) (set carry got (getD bytes at 0))) store
+      → all ≡ Rest k (start + (at + 1)) [] st (at + 1) bytes
+  full-turn h {from} q {k} {st} x y =
+      let c = take (got + 1) (set carry got (getD bytes at 0)) in
+      let n : length (take (got + 1) (set carry got (getD bytes at 0))) ≡ got + 1 = length-take-le (got + 1) (set carry got (getD bytes at 0)) (omega (arith, room, length-set carry got (getD bytes at 0))) in
+      settled all k (after g from (item store g (take (got + 1) (set carry got (getD bytes at 0))) 0)) (start + (at + 1)) [] (kept g (item store g (take (got + 1) (set carry got (getD bytes at 0))) 0) (take (got + 1) (set carry got (getD bytes at 0))) store) st (at + 1) bytes
+      (turn-full all g start (take got carry) store at bytes inv fits less f (omega (arith, held, h)) (take (got + 1) (set carry got (getD bytes at 0))) (carried carry got (getD bytes at 0) room) from (omega (arith, q, n))) x refl y

@@ -1,9 +1,9 @@
--- Several colours of list 1 taken at once are the same taken one after the other. Assumes nothing.
+-- Colours, records and units taken at once are the same taken one after the other. Assumes nothing.
 use Prim.Native.Nat.{ℕ, zero, suc, _+_, _*_, _-_, _≤_, _<_}
 use mathlib.Core.Path.{_≡_, refl, sym, ap, ap₂, _∙_, subst}
 use mathlib.Core.List.{List, [], _∷_, _++_}
 use mathlib.Core.Bool.{Bool, true, false}
-use lib.Dec.{ltb}
+use lib.Dec.{ltb, eqb}
 use lib.ListN.{length, take, drop, length-append}
 use lib.Seq.{drop-drop, take-add}
 use borrow.Author.Tests.{lt-ltb, le-ltb}
@@ -19,9 +19,9 @@ use Rattle.algebra.proofs.Stores.{length-stored, stored-append}
 use Rattle.algebra.proofs.Places.{length-part, num-part}
 use Rattle.aco_chunks.specs.declared.Stage.{Stage}
 use Rattle.aco_chunks.specs.declared.Stage.the-variants as v
-use Rattle.aco_chunks.specs.Chunks.{Progress, colourItem, colours, entries, entryHead, loaded, after, kept}
-use Rattle.aco_stream.specs.scaffold.Parts.{Due, Sounds, isOk, coloursPassed, Closed, NamedAt, Recorded, recordPassed}
-use Rattle.aco_stream.proofs.Feeds.{Rest, turn-item, units-turn}
+use Rattle.aco_chunks.specs.Chunks.{colourItem, colours, entries, after, kept, unitDone}
+use Rattle.aco_stream.specs.scaffold.Parts.{Rest, Passes, Sounds, isOk, Closed, Headed}
+use Rattle.aco_stream.proofs.Feeds.{turn-item, one-turn, units-turn}
 use Rattle.aco_stream.proofs.Steps.{last-closes}
 
 -- ---- colours without a fault
@@ -73,38 +73,34 @@ module _ (start : ℕ) (bytes : List ℕ) (fits : start + length bytes ≤ limit
       ∙ ap₂ (λ (g : ℕ) (e : ℕ). Rest (colours n g) (start + e) [] (stored (stored store (10 * i) b) (10 * (i + 1)) d) e bytes) x w
       ∙ ap (λ (o : List ℕ). Rest (colours n (i + suc (suc k))) (start + (at + 10 * suc (suc k))) [] o (at + 10 * suc (suc k)) bytes) st
 
--- the same of any stage that has colours due
-pub turn-colours : (all : Progress) (g : Stage) (start : ℕ) (carry store : List ℕ) (at : ℕ) (bytes : List ℕ) → all ≡ Rest g (start + at) carry store at bytes → carry ≡ [] → start + length bytes ≤ limit
-    → (k m left : ℕ) → 0 < k → k ≤ m → Due g m left (length store) → Sounds k bytes at → at + left ≤ length bytes → (e : ℕ) → e ≡ at + 10 * k → (b : List ℕ) → b ≡ part bytes at (10 * k)
-    → all ≡ Rest (coloursPassed g k) (start + e) [] (kept g (ok 0 0) b store) e bytes
-turn-colours all (v.Colour n i) start carry store at bytes inv c fits (suc k) m left s l d h w e q b p =
-    let f = d .1 (omega arith) in
-    inv ∙ ap (λ (c : List ℕ). Rest (v.Colour n i) (start + at) c store at bytes) c ∙ colours-turn start bytes fits n k i at store (omega (arith, f .0)) h (omega (arith, d .0)) (omega (arith, f .1))
-    ∙ ap₂ (λ (y : ℕ) (o : List ℕ). Rest (colours n (i + suc k)) (start + y) [] (stored store (10 * i) o) y bytes) (sym q) (sym p)
-turn-colours all (v.Colour n i) start carry store at bytes inv c fits zero m left s l d h w e q b p = absurd (omega arith)
-turn-colours all v.First start carry store at bytes inv c fits k m left s l d h w e q b p = absurd (omega arith)
-turn-colours all (v.Second n) start carry store at bytes inv c fits k m left s l d h w e q b p = absurd (omega arith)
-turn-colours all (v.Entry n i) start carry store at bytes inv c fits k m left s l d h w e q b p = absurd (omega arith)
-turn-colours all (v.Unit n i y z o) start carry store at bytes inv c fits k m left s l d h w e q b p = absurd (omega arith)
-turn-colours all (v.End n) start carry store at bytes inv c fits k m left s l d h w e q b p = absurd (omega arith)
-turn-colours all (v.Fault x y r f) start carry store at bytes inv c fits k m left s l d h w e q b p = absurd (omega arith)
-
-pub due-inside : (g : Stage) (k left space : ℕ) → Due g k left space → 10 * k ≤ left
-due-inside (v.Colour n i) k left space d = d .0
-due-inside v.First k left space d = omega arith
-due-inside (v.Second n) k left space d = omega arith
-due-inside (v.Entry n i) k left space d = omega arith
-due-inside (v.Unit n i y z o) k left space d = omega arith
-due-inside (v.End n) k left space d = omega arith
-due-inside (v.Fault x y r f) k left space d = omega arith
+-- as they are passed
+pub passes-colours : (start : ℕ) (bytes : List ℕ) (n i at : ℕ) (store : List ℕ) → start + length bytes ≤ limit → (k : ℕ) → 0 < k → Sounds k bytes at → i + k ≤ n → 10 * i + 10 * k ≤ length store → (e : ℕ) → e ≡ at + 10 * k → e ≤ length bytes
+    → (h : Stage) → h ≡ colours n (i + k) → (after : List ℕ) → after ≡ stored store (10 * i) (part bytes at (10 * k)) → Passes start bytes (v.Colour n i) at store h e after
+passes-colours start bytes n i at store fits (suc k) s o l r e q w h p after u = record {
+  behind = omega arith;
+  inside = w;
+  keeps = ap length u ∙ length-stored store (10 * i) (part bytes at (10 * suc k));
+  sound = λ x. absurd (omega arith);
+  comes =
+      colours-turn start bytes fits n k i at store l o (omega arith) r
+      ∙ ap (λ (y : ℕ). Rest (colours n (i + suc k)) (start + y) [] (stored store (10 * i) (part bytes at (10 * suc k))) y bytes) (sym q)
+      ∙ ap₂ (λ (g : Stage) (o : List ℕ). Rest g (start + e) [] o e bytes) (sym p) (sym u);
+}
+passes-colours start bytes n i at store fits zero s o l r e q w h p after u = absurd (omega arith)
 
 -- ---- the stage behind them
 
-pub passed-some : (n i k : ℕ) → i + k < n → v.Colour n (i + k) ≡ colours n (i + k)
-passed-some n i k h = sym (ap (λ (b : Bool). pick b (v.Colour n (i + k)) (v.Second n)) (lt-ltb (i + k) n h))
+pub colours-left : (n i : ℕ) → i < n → v.Colour n i ≡ colours n i
+colours-left n i h = sym (ap (λ (b : Bool). pick b (v.Colour n i) (v.Second n)) (lt-ltb i n h))
 
-pub passed-all : (n i k : ℕ) → n ≤ i + k → v.Second n ≡ colours n (i + k)
-passed-all n i k h = sym (ap (λ (b : Bool). pick b (v.Colour n (i + k)) (v.Second n)) (le-ltb (i + k) n h))
+pub colours-over : (n i : ℕ) → n ≤ i → v.Second n ≡ colours n i
+colours-over n i h = sym (ap (λ (b : Bool). pick b (v.Colour n i) (v.Second n)) (le-ltb i n h))
+
+pub entries-left : (n i : ℕ) → i < n → v.Entry n i ≡ entries n i
+entries-left n i h = sym (ap (λ (b : Bool). pick b (v.Entry n i) (v.End n)) (lt-ltb i n h))
+
+pub entries-over : (n i : ℕ) → n ≤ i → v.End n ≡ entries n i
+entries-over n i h = sym (ap (λ (b : Bool). pick b (v.Entry n i) (v.End n)) (le-ltb i n h))
 
 -- ---- a record of list 2
 
@@ -120,11 +116,8 @@ module _ (start : ℕ) (store bytes : List ℕ) (fits : start + length bytes ≤
   -- its name's last unit
   last-turn : (p at : ℕ) (z : Bool) → z ≡ false → at + 2 ≤ length bytes → num 2 bytes at ≡ 0 → Rest (v.Unit n i p 1 z) (start + at) [] store at bytes ≡ Rest (entries n (i + 1)) (start + (at + 2)) [] store (at + 2) bytes
   last-turn p at z y h o =
-      let f : field 2 (part bytes at 2) 0 ≡ ok (num 2 (part bytes at 2) 0) 2 = field-in 2 (part bytes at 2) 0 (let len = length-part bytes at 2 h in omega arith) in
-      let u : num 2 (part bytes at 2) 0 ≡ 0 = num-part bytes at 2 2 0 (omega arith) ∙ ap (num 2 bytes) (add-zero at) ∙ o in
-      turn-item (Rest (v.Unit n i p 1 z) (start + at) [] store at bytes) (v.Unit n i p 1 z) start [] store at bytes refl fits (omega arith) refl refl (at + 2) refl h (omega arith) (part bytes at 2) refl
-      ∙ ap (λ (r : Res ℕ). Rest (after (v.Unit n i p 1 z) (start + at) r) (start + (at + 2)) [] store (at + 2) bytes) f
-      ∙ ap (λ (g : Stage). Rest g (start + (at + 2)) [] store (at + 2) bytes) (sym (last-closes n i p 1 z (num 2 (part bytes at 2) 0) refl u y))
+      one-turn start store bytes fits n i p 1 z at (num 2 bytes at) refl h
+      ∙ ap (λ (g : Stage). Rest g (start + (at + 2)) [] store (at + 2) bytes) (sym (last-closes n i p 1 z (num 2 bytes at) refl o y))
 
   -- its name
   name-turn : (p m at q : ℕ) → Closed m bytes at q → Rest (v.Unit n i p m false) (start + at) [] store at bytes ≡ Rest (entries n (i + 1)) (start + q) [] store q bytes
@@ -140,36 +133,79 @@ module _ (start : ℕ) (store bytes : List ℕ) (fits : start + length bytes ≤
       ∙ last-turn p (at + (m - 1) * 2) (pick (anyZero (nums 2 (m - 1) bytes at)) true false) (ap (λ (b : Bool). pick b true false) (k .none)) (omega (arith, o, e, w)) (k .last)
       ∙ ap (λ (x : ℕ). Rest (entries n (i + 1)) (start + x) [] store x bytes) t
 
-  record-turn : (at q : ℕ) → Recorded (v.Entry n i) store bytes at q → Rest (v.Entry n i) (start + at) [] store at bytes ≡ Rest (entries n (i + 1)) (start + q) [] store q bytes
-  record-turn at q r =
+  -- its head
+  head-turn : (m at : ℕ) → Headed i store bytes at m → Rest (v.Entry n i) (start + at) [] store at bytes ≡ Rest (v.Unit n i (start + at + 10) m false) (start + (at + 14)) [] store (at + 14) bytes
+  head-turn m at r =
       turn-item (Rest (v.Entry n i) (start + at) [] store at bytes) (v.Entry n i) start [] store at bytes refl fits (omega (arith, r .0)) refl refl (at + 14) refl (r .0) (omega arith) (part bytes at 14) refl
-      ∙ go (entryHead i (loaded store (10 * i)) (part bytes at 14) 0) (r .1)
-    where
-      go : (m : Res ℕ) → NamedAt m bytes (at + 14) q → Rest (after (v.Entry n i) (start + at) m) (start + (at + 14)) [] store (at + 14) bytes ≡ Rest (entries n (i + 1)) (start + q) [] store q bytes
-      go (ok m e) k = name-turn (start + at + 10) m (at + 14) q k
-      go (refuse x p s f) k = absurd k
+      ∙ ap (λ (x : Res ℕ). Rest (after (v.Entry n i) (start + at) x) (start + (at + 14)) [] store (at + 14) bytes) (r .1)
 
--- the same of any stage
-pub turn-record : (all : Progress) (g : Stage) (start : ℕ) (carry store : List ℕ) (at : ℕ) (bytes : List ℕ) → all ≡ Rest g (start + at) carry store at bytes → carry ≡ [] → start + length bytes ≤ limit
-    → (q : ℕ) → Recorded g store bytes at q → all ≡ Rest (recordPassed g) (start + q) [] store q bytes
-turn-record all (v.Entry n i) start carry store at bytes inv c fits q r = inv ∙ ap (λ (c : List ℕ). Rest (v.Entry n i) (start + at) c store at bytes) c ∙ record-turn start store bytes fits n i at q r
-turn-record all v.First start carry store at bytes inv c fits q r = absurd r
-turn-record all (v.Colour n i) start carry store at bytes inv c fits q r = absurd r
-turn-record all (v.Second n) start carry store at bytes inv c fits q r = absurd r
-turn-record all (v.Unit n i y z o) start carry store at bytes inv c fits q r = absurd r
-turn-record all (v.End n) start carry store at bytes inv c fits q r = absurd r
-turn-record all (v.Fault x y e f) start carry store at bytes inv c fits q r = absurd r
+  record-turn : (m at q : ℕ) → Headed i store bytes at m → Closed m bytes (at + 14) q → Rest (v.Entry n i) (start + at) [] store at bytes ≡ Rest (entries n (i + 1)) (start + q) [] store q bytes
+  record-turn m at q r k = head-turn m at r ∙ name-turn (start + at + 10) m (at + 14) q k
 
--- it ends behind where it began, in the bytes
-pub record-inside : (g : Stage) (store bytes : List ℕ) (at q : ℕ) → Recorded g store bytes at q → (at < q) × (q ≤ length bytes)
-record-inside (v.Entry n i) store bytes at q r = go (entryHead i (loaded store (10 * i)) (part bytes at 14) 0) (r .1)
-  where
-    go : (m : Res ℕ) → NamedAt m bytes (at + 14) q → (at < q) × (q ≤ length bytes)
-    go (ok m e) k = (omega (arith, k .ends), k .inside)
-    go (refuse x p s f) k = absurd k
-record-inside v.First store bytes at q r = absurd r
-record-inside (v.Colour n i) store bytes at q r = absurd r
-record-inside (v.Second n) store bytes at q r = absurd r
-record-inside (v.Unit n i y z o) store bytes at q r = absurd r
-record-inside (v.End n) store bytes at q r = absurd r
-record-inside (v.Fault x y e f) store bytes at q r = absurd r
+-- records before the i-th are passed
+pub record Recorded (start : ℕ) (bytes : List ℕ) (n i₀ at : ℕ) (store : List ℕ) (i p : ℕ) : Type 0 where
+  pub below : i₀ < n
+  pub some : i ≤ n
+  pub behind : at ≤ p
+  pub inside : p ≤ length bytes
+  pub comes : Rest (v.Entry n i₀) (start + at) [] store at bytes ≡ Rest (entries n i) (start + p) [] store p bytes
+
+pub recorded-none : (start : ℕ) (bytes : List ℕ) (n i at : ℕ) (store : List ℕ) → i < n → at ≤ length bytes → Recorded start bytes n i at store i at
+recorded-none start bytes n i at store l h = record { below = l; some = omega arith; behind = omega arith; inside = h; comes = ap (λ (g : Stage). Rest g (start + at) [] store at bytes) (entries-left n i l) }
+
+module _ {start : ℕ} {bytes : List ℕ} {n i₀ at : ℕ} {store : List ℕ} {i p : ℕ} (fits : start + length bytes ≤ limit) (r : Recorded start bytes n i₀ at store i p) where
+  here : i < n → Rest (v.Entry n i₀) (start + at) [] store at bytes ≡ Rest (v.Entry n i) (start + p) [] store p bytes
+  here l = r .comes ∙ sym (ap (λ (g : Stage). Rest g (start + p) [] store p bytes) (entries-left n i l))
+
+  pub recorded-more : (m q : ℕ) → i < n → Headed i store bytes p m → Closed m bytes (p + 14) q → Recorded start bytes n i₀ at store (i + 1) q
+  recorded-more m q l h k = record { below = r .below; some = omega arith; behind = omega (arith, r .behind, k .ends); inside = k .inside; comes = here l ∙ record-turn start store bytes fits n i m p q h k }
+
+  -- up to a record that is not passed
+  pub passes-records : i < n → Passes start bytes (v.Entry n i₀) at store (v.Entry n i) p store
+  passes-records l = record { behind = r .behind; inside = r .inside; keeps = refl; sound = λ e. refl; comes = here l }
+
+  -- up to a name that is not passed
+  pub passes-head : (m place body : ℕ) → i < n → Headed i store bytes p m → place ≡ start + p + 10 → body ≡ p + 14 → Passes start bytes (v.Entry n i₀) at store (v.Unit n i place m false) body store
+  passes-head m place body l h e b = record {
+    behind = omega (arith, r .behind, b);
+    inside = omega (arith, h .0, b);
+    keeps = refl;
+    sound = λ e. refl;
+    comes =
+        here l ∙ head-turn start store bytes fits n i m p h
+        ∙ ap₂ (λ (x y : ℕ). Rest (v.Unit n i x m false) (start + y) [] store y bytes) (sym e) (sym b);
+  }
+
+  -- all of them
+  pub passes-all : n ≤ i → Passes start bytes (v.Entry n i₀) at store (v.End n) p store
+  passes-all l = record { behind = r .behind; inside = r .inside; keeps = refl; sound = λ e. refl; comes = r .comes ∙ sym (ap (λ (g : Stage). Rest g (start + p) [] store p bytes) (entries-over n i l)) }
+
+-- ---- units
+
+module _ (start : ℕ) (bytes : List ℕ) (n i p m : ℕ) (z : Bool) (at : ℕ) (store : List ℕ) (fits : start + length bytes ≤ limit) (k : ℕ) (few : k ≤ m - 1) (f : Bool) (found : f ≡ pick (anyZero (nums 2 k bytes at)) true z) (e : ℕ) (ends : e ≡ at + 2 * k) (more : ℕ) (left : more ≡ m - k) where
+  units-so-far : e ≤ length bytes → Rest (v.Unit n i p m z) (start + at) [] store at bytes ≡ Rest (v.Unit n i p more f) (start + e) [] store e bytes
+  units-so-far l =
+      let q : at + k * 2 ≡ e = omega (arith, ends) in
+      units-turn start store bytes fits n i p k m z at few (omega (arith, ends, l))
+      ∙ ap₂ (λ (x : ℕ) (b : Bool). Rest (v.Unit n i p x b) (start + (at + k * 2)) [] store (at + k * 2) bytes) (sym left) (sym found)
+      ∙ ap (λ (y : ℕ). Rest (v.Unit n i p more f) (start + y) [] store y bytes) q
+
+  -- all but the last, or as many as there are
+  pub passes-units : e ≤ length bytes → Passes start bytes (v.Unit n i p m z) at store (v.Unit n i p more f) e store
+  passes-units l = record { behind = omega (arith, ends); inside = l; keeps = refl; sound = λ e. refl; comes = units-so-far l }
+
+  -- with the last
+  pub passes-name : more ≡ 1 → e + 2 ≤ length bytes → (u : ℕ) → u ≡ orZero (field 2 bytes e) → (h : Stage) → h ≡ unitDone n i p 1 f (eqb u 0) → Passes start bytes (v.Unit n i p m z) at store h (e + 2) store
+  passes-name o l u y h w =
+      let q : u ≡ num 2 bytes e = y ∙ ap orZero (field-in 2 bytes e (omega arith)) in
+      record {
+        behind = omega (arith, ends);
+        inside = l;
+        keeps = refl;
+        sound = λ x. absurd (omega (arith, ends, x));
+        comes =
+            units-so-far (omega arith)
+            ∙ ap (λ (x : ℕ). Rest (v.Unit n i p x f) (start + e) [] store e bytes) o
+            ∙ one-turn start store bytes fits n i p 1 f e u q l
+            ∙ ap (λ (g : Stage). Rest g (start + (e + 2)) [] store (e + 2) bytes) (sym w);
+      }

@@ -15,7 +15,6 @@ use Rattle.algebra.proofs.Inverse.{clash}
 use Rattle.aco_chunks.specs.declared.Stage.{Stage}
 use Rattle.aco_chunks.specs.declared.Stage.the-variants as v
 use Rattle.aco_chunks.specs.Chunks.{FileVerdict, colours, entries, unitDone, next, kept, after, second, cut, item, ending}
-use Rattle.aco_stream.specs.scaffold.Parts.{unitsPassed}
 use Rattle.algebra.specs.Table.{accepted}
 
 pub colours-some : (n : ℕ) → 0 < n → v.Colour n 0 ≡ colours n 0

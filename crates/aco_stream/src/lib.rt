@@ -5,15 +5,16 @@
 // list 2's heading, its records, each up to its name's units, and the units. Bytes of an item that
 // is not whole yet are carried. An item is read from its bytes alone, by the whole-file reader.
 ghost use mathlib.Core.Path.{_≡_};
-ghost use Prim.Native.Nat.{_+_, _-_, _*_, _≤_, _<_};
+ghost use Prim.Native.Nat.{ℕ, _+_, _-_, _*_, _≤_, _<_};
+ghost use mathlib.Core.List.{List};
 ghost use lib.ListN.{length};
-ghost use Rattle.algebra.specs.Reader.{limit, ok};
-ghost use Rattle.aco_chunks.specs.Chunks.{size, item, next, after, kept, entryHead, loaded, colours, entries, unitDone, isFault, chunk, cut, ending};
+ghost use Rattle.algebra.specs.Reader.{limit, ok, pick};
+ghost use Rattle.aco_chunks.specs.Chunks.{size, item, next, after, kept, entryHead, loaded, colours, entries, unitDone, chunk, cut, ending};
 ghost use Rattle.aco_stream.specs.Answer.{progress, told, known, Starts, Feeds, Finishes};
-ghost use Rattle.aco_stream.specs.scaffold.Parts.{Sparing, unitsPassed, Due, Sounds, coloursPassed, Closed, Recorded, recordPassed, openStream, FeedsIn, FinishesIn};
+ghost use Rattle.aco_stream.specs.scaffold.Parts.{Passes, PassesWith, Sounds, Closed, SameAs, Headed, openStream, FeedsIn, FinishesIn};
 ghost use Rattle.algebra.specs.Numbers.{nums};
 ghost use Rattle.algebra.specs.Text.{anyZero};
-ghost use mathlib.Core.Bool.{false};
+ghost use mathlib.Core.Bool.{true, false};
 ghost use lib.Dec.{eqb};
 ghost use Rattle.aco_stream.specs.scaffold.Answer.{toldItem};
 use aco::LIMIT;
@@ -32,7 +33,8 @@ pub struct Stream {
     pub stage: Stage,
     pub total: usize,
     pub got: usize,
-    pub carry: [u8; 14],
+    // at most 14 bytes count; sixteen are copied as one
+    pub carry: [u8; 16],
     pub ended: bool,
 }
 
@@ -121,13 +123,11 @@ fn item_of(stage: Stage, store: &[u8], bytes: &[u8]) -> Item
 }
 
 // Colour `index` of `count`, or what follows list 1.
-fn colours_of(count: u16, index: u16) -> Stage
-    ensures { λ r. ⌜ r ≡ colours count (index + 1) ⌝ }
+fn colours_of(count: u16, index: usize) -> Stage
+    ensures { λ r. ⌜ r ≡ colours count index ⌝ }
 {
-    if index < count {
-        if 1 < count - index {
-            return Stage::Colour(count, index + 1);
-        }
+    if index < (count as usize) {
+        return Stage::Colour(count, index as u16);
     }
     Stage::Second(count)
 }
@@ -187,7 +187,7 @@ fn next_of(stage: Stage, from: usize, u: u32) -> Stage
             }
             Stage::Second(count)
         }
-        Stage::Colour(count, index) => colours_of(count, index),
+        Stage::Colour(count, index) => colours_of(count, (index as usize) + 1),
         Stage::Second(count) => {
             if 0 < count {
                 return Stage::Entry(count, 0);
@@ -237,73 +237,73 @@ fn settle(stage: Stage, store: &mut [u8], bytes: &[u8], from: usize) -> Stage
     }
 }
 
-// How many units of a name can be passed at once, of those that stand whole in n bytes: all but
-// the last.
-fn spare(stage: Stage, n: usize) -> u32
-    ensures { λ r. ⌜ (Sparing stage r) × (r * 2 ≤ n) ⌝ }
-{
-    match stage {
-        Stage::Unit(_, _, _, left, _) => {
-            let rest = less(left);
-            let k = n / 2;
-            if k < (rest as usize) {
-                return k as u32;
-            }
-            rest
-        }
-        Stage::First => 0,
-        Stage::Colour(_, _) => 0,
-        Stage::Second(_) => 0,
-        Stage::Entry(_, _) => 0,
-        Stage::End(_) => 0,
-        Stage::Fault(_, _, _, _) => 0,
-    }
+// What is passed at once: the stage behind it, and where it ends.
+struct Passed {
+    stage: Stage,
+    at: usize,
 }
 
-// k units are passed, all of them or with a zero among them.
-fn passed(stage: Stage, k: u32, found: bool) -> Stage
-    requires { ⌜ Sparing stage k ⌝ }
-    ensures { λ r. ⌜ r ≡ unitsPassed stage k found ⌝ }
-{
-    match stage {
-        Stage::Unit(count, index, place, left, zero) => {
-            if found {
-                return Stage::Unit(count, index, place, left - k, true);
-            }
-            Stage::Unit(count, index, place, left - k, zero)
-        }
-        Stage::First => Stage::First,
-        Stage::Colour(count, index) => Stage::Colour(count, index),
-        Stage::Second(count) => Stage::Second(count),
-        Stage::Entry(count, index) => Stage::Entry(count, index),
-        Stage::End(count) => Stage::End(count),
-        Stage::Fault(number, place, record, field) => Stage::Fault(number, place, record, field),
-    }
-}
-
-// The stage behind k units from `at`.
-fn units_of(stage: Stage, bytes: &[u8], at: usize, k: u32) -> Stage
-    requires { ⌜ (Sparing stage k) × (at + k * 2 ≤ length (now bytes)) ⌝ }
-    ensures { λ r. ⌜ r ≡ unitsPassed stage k (anyZero (nums 2 k (now (bytes .entry)) at)) ⌝ }
+// Whether one of k units from `at` is zero, or one before them was.
+fn zero_in(bytes: &[u8], at: usize, k: u32, zero: bool) -> bool
+    requires { ⌜ at + k * 2 ≤ length (now bytes) ⌝ }
+    ensures { λ r. ⌜ r ≡ pick (anyZero (nums 2 k (now (bytes .entry)) at)) true zero ⌝ }
 {
     match names::text_at(bytes, at, k) {
-        FieldEnd::Next(_) => passed(stage, k, false),
-        FieldEnd::Refused(_, _) => passed(stage, k, true),
+        FieldEnd::Next(_) => zero,
+        FieldEnd::Refused(_, _) => true,
     }
 }
 
-// How many colours of list 1 stand whole in `left` bytes, are due, and have room in a store.
-fn colours_due(stage: Stage, left: usize, room: usize) -> usize
-    ensures { λ r. ⌜ Due stage r left room ⌝ }
+// The smaller of two numbers, the second of 32 bits.
+fn fewer(n: usize, m: u32) -> u32
+    ensures { λ r. ⌜ (r ≤ n) × (r ≤ m) ⌝ }
 {
-    match stage {
-        Stage::Colour(count, index) => due_of(count as usize, index as usize, left / 10, room / 10),
-        Stage::First => 0,
-        Stage::Second(_) => 0,
-        Stage::Entry(_, _) => 0,
-        Stage::Unit(_, _, _, _, _) => 0,
-        Stage::End(_) => 0,
-        Stage::Fault(_, _, _, _) => 0,
+    if n < (m as usize) {
+        return n as u32;
+    }
+    m
+}
+
+// The units of a name from `at` that stand whole.
+fn pass_units(
+    count: u16,
+    index: u16,
+    place: u32,
+    left: u32,
+    zero: bool,
+    bytes: &[u8],
+    at: usize,
+) -> Passed
+    requires { ⌜ (at ≤ length (now bytes)) × (length (now bytes) ≤ limit) ⌝ }
+    ensures { λ r. ⌜ ((start : ℕ) (store : List ℕ) → start + length (now (bytes .entry)) ≤ limit → Passes start (now (bytes .entry)) (Stage.Unit count index place left zero) at store (r .stage) (r .at) store) ⌝ }
+{
+    let whole = (bytes.len() - at) / 2;
+    if whole == 0 {
+        return Passed {
+            stage: Stage::Unit(count, index, place, left, zero),
+            at,
+        };
+    }
+    let k = fewer(whole, less(left));
+    let found = zero_in(bytes, at, k, zero);
+    let end = at + 2 * (k as usize);
+    let more = left - k;
+    if more != 1 {
+        return Passed {
+            stage: Stage::Unit(count, index, place, more, found),
+            at: end,
+        };
+    }
+    if bytes.len() - end < 2 {
+        return Passed {
+            stage: Stage::Unit(count, index, place, 1, found),
+            at: end,
+        };
+    }
+    let u = fields::u16_or_zero(bytes, end);
+    Passed {
+        stage: unit_of(count, index, place, 1, found, u as u32),
+        at: end + 2,
     }
 }
 
@@ -341,31 +341,31 @@ fn sound_in(bytes: &[u8], at: usize, n: usize) -> usize
     k
 }
 
-// k colours are passed.
-fn colours_passed(stage: Stage, k: usize) -> Stage
-    requires { ⌜ k ≤ limit ⌝ }
-    ensures { λ r. ⌜ r ≡ coloursPassed stage k ⌝ }
+// The colours of list 1 from `at` that stand whole, up to the first with a fault.
+fn pass_colours(count: u16, index: u16, store: &mut [u8], bytes: &[u8], at: usize) -> Passed
+    requires { ⌜ (at ≤ length (now bytes)) × (length (now bytes) ≤ limit) ⌝ }
+    ensures { λ r. ⌜ ((start : ℕ) → start + length (now (bytes .entry)) ≤ limit → Passes start (now (bytes .entry)) (Stage.Colour count index) at (now (store .entry)) (r .stage) (r .at) (now (store .exit))) ⌝ }
 {
-    match stage {
-        Stage::Colour(count, index) => {
-            let next = (index as usize) + k;
-            if next < (count as usize) {
-                return Stage::Colour(count, next as u16);
-            }
-            Stage::Second(count)
-        }
-        Stage::First => Stage::First,
-        Stage::Second(count) => Stage::Second(count),
-        Stage::Entry(count, index) => Stage::Entry(count, index),
-        Stage::Unit(count, index, place, left, zero) => Stage::Unit(
-            count,
-            index,
-            place,
-            left,
-            zero,
-        ),
-        Stage::End(count) => Stage::End(count),
-        Stage::Fault(number, place, record, field) => Stage::Fault(number, place, record, field),
+    let left = bytes.len() - at;
+    if left < 10 {
+        return Passed {
+            stage: Stage::Colour(count, index),
+            at,
+        };
+    }
+    let n = due_of(count as usize, index as usize, left / 10, store.len() / 10);
+    let k = sound_in(bytes, at, n);
+    if k == 0 {
+        return Passed {
+            stage: Stage::Colour(count, index),
+            at,
+        };
+    }
+    let end = at + 10 * k;
+    fields::put_run(store, 10 * (index as usize), &bytes[at..end]);
+    Passed {
+        stage: colours_of(count, (index as usize) + k),
+        at: end,
     }
 }
 
@@ -392,63 +392,124 @@ fn name_end(bytes: &[u8], at: usize, m: u32) -> usize
     }
 }
 
-// Where the record of list 2 from `at` ends, if all of it is there and without a fault; else 0.
-fn record_end(stage: Stage, store: &[u8], bytes: &[u8], at: usize) -> usize
-    requires { ⌜ (at ≤ length (now bytes)) × (length (now bytes) ≤ limit) ⌝ }
-    ensures { λ r. ⌜ (0 < r → Recorded stage (now (store .entry)) (now (bytes .entry)) at r) ⌝ }
+// Whether a head begins with the ten bytes that stand in a store from `first`.
+fn is_same(head: &[u8], store: &[u8], first: usize) -> bool
+    requires { ⌜ length (now head) ≡ 14 ⌝ }
+    ensures { λ r. ⌜ (r ≡ true → SameAs (now (head .entry)) (now (store .entry)) first) ⌝ }
 {
-    match stage {
-        Stage::Entry(_, index) => {
-            if bytes.len() - at < 14 {
-                return 0;
-            }
-            let body = at + 14;
-            match entry_of(&bytes[at..body], store, index) {
-                Item::Is(m, _) => name_end(bytes, body, m),
-                Item::Refused(_, _, _, _) => 0,
-            }
+    let n = store.len();
+    if n < 10 {
+        return false;
+    }
+    if n - 10 < first {
+        return false;
+    }
+    let last = first + 10;
+    let colour = &store[first..last];
+    if fields::u64_or_zero(head, 0) != fields::u64_or_zero(colour, 0) {
+        return false;
+    }
+    fields::u16_or_zero(head, 8) == fields::u16_or_zero(colour, 8)
+}
+
+// How many units the name of record `index` of list 2 has, whose head stands whole from `at` and
+// has no fault; else 0.
+fn head_of(store: &[u8], bytes: &[u8], index: u16, at: usize) -> u32
+    requires { ⌜ at ≤ length (now bytes) ⌝ }
+    ensures { λ r. ⌜ (0 < r → Headed index (now (store .entry)) (now (bytes .entry)) at r) ⌝ }
+{
+    if bytes.len() - at < 14 {
+        return 0;
+    }
+    let end = at + 14;
+    let head = &bytes[at..end];
+    if is_same(head, store, 10 * (index as usize)) {
+        return fields::u32_or_zero(head, 10);
+    }
+    0
+}
+
+// The records of list 2 from `at` that stand whole and have no fault, and the head of the next.
+fn pass_records(
+    count: u16,
+    index: u16,
+    start: usize,
+    store: &[u8],
+    bytes: &[u8],
+    at: usize,
+) -> Passed
+    requires { ⌜ (at ≤ length (now bytes)) × (start + length (now bytes) ≤ limit) ⌝ }
+    ensures { λ r. ⌜ Passes start (now (bytes .entry)) (Stage.Entry count index) at (now (store .entry)) (r .stage) (r .at) (now (store .entry)) ⌝ }
+{
+    if count <= index {
+        return Passed {
+            stage: Stage::Entry(count, index),
+            at,
+        };
+    }
+    let mut i = index;
+    let mut p = at;
+    while i < count {
+        let m = head_of(store, bytes, i, p);
+        if m == 0 {
+            return Passed {
+                stage: Stage::Entry(count, i),
+                at: p,
+            };
         }
-        Stage::First => 0,
-        Stage::Colour(_, _) => 0,
-        Stage::Second(_) => 0,
-        Stage::Unit(_, _, _, _, _) => 0,
-        Stage::End(_) => 0,
-        Stage::Fault(_, _, _, _) => 0,
+        let body = p + 14;
+        let q = name_end(bytes, body, m);
+        if q == 0 {
+            return Passed {
+                stage: Stage::Unit(count, i, (start + p + 10) as u32, m, false),
+                at: body,
+            };
+        }
+        p = q;
+        i += 1;
+    }
+    Passed {
+        stage: Stage::End(count),
+        at: p,
     }
 }
 
-// A record is passed.
-fn record_passed(stage: Stage) -> Stage
-    ensures { λ r. ⌜ r ≡ recordPassed stage ⌝ }
+// What can be passed at once from `at`: nothing within an item, and after a fault all.
+fn pass(stage: Stage, got: usize, start: usize, store: &mut [u8], bytes: &[u8], at: usize) -> Passed
+    requires { ⌜ (at < length (now bytes)) × (start + length (now bytes) ≤ limit) × (got < size stage) ⌝ }
+    ensures { λ r. ⌜ PassesWith got start (now (bytes .entry)) stage at (now (store .entry)) (r .stage) (r .at) (now (store .exit)) ⌝ }
 {
+    if 0 < got {
+        return Passed { stage, at };
+    }
     match stage {
-        Stage::Entry(count, index) => entries_of(count, index),
-        Stage::First => Stage::First,
-        Stage::Colour(count, index) => Stage::Colour(count, index),
-        Stage::Second(count) => Stage::Second(count),
-        Stage::Unit(count, index, place, left, zero) => Stage::Unit(
+        Stage::Colour(count, index) => pass_colours(count, index, store, bytes, at),
+        Stage::Entry(count, index) => pass_records(count, index, start, store, bytes, at),
+        Stage::Unit(count, index, place, left, zero) => pass_units(
             count,
             index,
             place,
             left,
             zero,
+            bytes,
+            at,
         ),
-        Stage::End(count) => Stage::End(count),
-        Stage::Fault(number, place, record, field) => Stage::Fault(number, place, record, field),
-    }
-}
-
-fn is_fault(stage: Stage) -> bool
-    ensures { λ r. ⌜ r ≡ isFault stage ⌝ }
-{
-    match stage {
-        Stage::Fault(_, _, _, _) => true,
-        Stage::First => false,
-        Stage::Colour(_, _) => false,
-        Stage::Second(_) => false,
-        Stage::Entry(_, _) => false,
-        Stage::Unit(_, _, _, _, _) => false,
-        Stage::End(_) => false,
+        Stage::Fault(number, place, record, field) => Passed {
+            stage: Stage::Fault(number, place, record, field),
+            at: bytes.len(),
+        },
+        Stage::First => Passed {
+            stage: Stage::First,
+            at,
+        },
+        Stage::Second(count) => Passed {
+            stage: Stage::Second(count),
+            at,
+        },
+        Stage::End(count) => Passed {
+            stage: Stage::End(count),
+            at,
+        },
     }
 }
 
@@ -464,7 +525,7 @@ fn item_start(total: usize, got: usize) -> usize
 }
 
 // A stream that has not ended.
-fn opened(stage: Stage, total: usize, got: usize, carry: [u8; 14]) -> Stream
+fn opened(stage: Stage, total: usize, got: usize, carry: [u8; 16]) -> Stream
     ensures { λ r. ⌜ r ≡ openStream stage total got carry ⌝ }
 {
     Stream {
@@ -488,44 +549,18 @@ fn feed_within(state: Stream, store: &mut [u8], bytes: &[u8]) -> Stream
     let mut carry = state.carry;
     let mut at: usize = 0;
     while at < end {
-        if is_fault(stage) {
-            at = end;
+        let next = pass(stage, got, start, store, bytes, at);
+        stage = next.stage;
+        if at < next.at {
+            at = next.at;
         } else {
-            let want = size_of(stage);
-            let left = end - at;
-            if got == 0 && want <= left {
-                let k = spare(stage, left);
-                if 0 < k {
-                    stage = units_of(stage, bytes, at, k);
-                    at += 2 * (k as usize);
-                } else {
-                    let m = sound_in(bytes, at, colours_due(stage, left, store.len()));
-                    if 0 < m {
-                        let e = at + 10 * m;
-                        keep(stage, store, &bytes[at..e]);
-                        stage = colours_passed(stage, m);
-                        at = e;
-                    } else {
-                        let q = record_end(stage, store, bytes, at);
-                        if 0 < q {
-                            stage = record_passed(stage);
-                            at = q;
-                        } else {
-                            let e = at + want;
-                            stage = settle(stage, store, &bytes[at..e], start + at);
-                            at = e;
-                        }
-                    }
-                }
-            } else {
-                carry[got] = bytes[at];
-                got += 1;
-                at += 1;
-                if got == want {
-                    let from = item_start(start + at, got);
-                    stage = settle(stage, store, &carry[..got], from);
-                    got = 0;
-                }
+            carry[got] = bytes[at];
+            got += 1;
+            at += 1;
+            if got == size_of(stage) {
+                let from = item_start(start + at, got);
+                stage = settle(stage, store, &carry[..got], from);
+                got = 0;
             }
         }
     }
@@ -552,7 +587,7 @@ pub struct Fed {
 pub fn start(store: &[u8]) -> Fed
     ensures { λ r. ⌜ Starts (now (store .entry)) (r .state) (r .number) ⌝ }
 {
-    let mut state = opened(Stage::First, 0, 0, [0u8; 14]);
+    let mut state = opened(Stage::First, 0, 0, [0u8; 16]);
     if store.len() < STORE {
         state.ended = true;
         return Fed { state, number: 11 };

@@ -27,7 +27,7 @@ pub struct AcoStream {
     pub index: u16,
     pub rec: u16,
     pub field: u16,
-    pub carry: [u8; 14],
+    pub carry: [u8; 16],
 }
 
 // Number 0 is taken, with the stream for the next call; else the refusal, whose place is 0, and

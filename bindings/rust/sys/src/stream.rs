@@ -19,7 +19,7 @@ pub struct Stream {
     pub index: u16,
     pub record: u16,
     pub field: u16,
-    pub carry: [u8; 14],
+    pub carry: [u8; 16],
 }
 
 /// What a start or a chunk answers, and the stream for the next call.

@@ -1,35 +1,19 @@
-use Prim.Native.Nat.{_+_}
-use mathlib.Core.Path.{sym, ap}
-use mathlib.Core.Bool.{Bool}
-use borrow.Author.Needs.{needs}
-use borrow.Author.Tests.{lt-ltb, le-ltb}
+use Prim.Native.Nat.{ℕ, _+_, _*_, _-_, _/_, _≤_, _<_}
+use mathlib.Core.Path.{_≡_, refl, sym, ap, _∙_, subst}
 use native.Mathlib.Omega.{arith}
-use Rattle.algebra.specs.Reader.{pick}
-use Rattle.aco_chunks.specs.declared.Stage.the-variants as v
+use Rattle.aco_stream.proofs.Passing.{colours-left, colours-over}
+use borrow.Author.Needs.{needs}
 use Rattle.aco_stream.proofs.colours_of.Statement.{statement}
 use Rattle.aco_stream.proofs.colours_of.Tie as tie
-use Rattle.aco_stream.proofs.colours_of.Reads as reads
-use Rattle.aco_stream.proofs.colours_of.Lts as lts
 
--- src/lib.rt:257:16
-sub-if2 : tie.Need-sub-if2
-sub-if2 c = search needs
+cast-t5 : tie.Need-cast-t5
+cast-t5 c = search needs
 
--- src/lib.rt:260:24
-add-t6 : tie.Need-add-t6
-add-t6 c = search needs
-
--- src/lib.rt:258:13
 returns : tie.Need-returns
-returns c = let a = c .before .before .args in sym (ap (λ (b : Bool). pick b (v.Colour (a .count) (a .index + 1)) (v.Second (a .count))) (lt-ltb (a .index + 1) (a .count) (omega arith)))
+returns c = let a = c .before .args in colours-left (a .count) (a .index) (omega arith)
 
--- src/lib.rt:253:1
 returns-2 : tie.Need-returns-2
-returns-2 c = let a = c .before .before .args in sym (ap (λ (b : Bool). pick b (v.Colour (a .count) (a .index + 1)) (v.Second (a .count))) (le-ltb (a .index + 1) (a .count) (omega arith)))
-
--- src/lib.rt:253:1
-returns-3 : tie.Need-returns-3
-returns-3 c = let a = c .before .args in sym (ap (λ (b : Bool). pick b (v.Colour (a .count) (a .index + 1)) (v.Second (a .count))) (le-ltb (a .index + 1) (a .count) (omega arith)))
+returns-2 c = let a = c .before .args in colours-over (a .count) (a .index) (omega arith)
 
 pub colours-of-spec : {M : Type 1} → statement M
-colours-of-spec = tie.close (tie.spec sub-if2 add-t6 returns returns-2 returns-3)
+colours-of-spec = tie.close (tie.spec cast-t5 returns returns-2)

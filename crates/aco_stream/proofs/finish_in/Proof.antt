@@ -43,7 +43,7 @@ item-start-requires c κs = search needs
 array-share-prefix-carry : tie.Need-array-share-prefix-carry
 array-share-prefix-carry c =
     let a = c .before .before .before .before .before .before .before .before .args in
-    let n : length (a .state .carry) ≡ 14 = search needs in
+    let n : length (a .state .carry) ≡ 16 = search needs in
     let m : a .state .got < size (a .state .stage) = omega (arith, c .before .before .before .before .size-of .ensures, c .before .before .before .if2 .left) in
     let k = size-most (a .state .stage) in
     let t : length (take (a .state .got) (a .state .carry)) ≡ a .state .got = length-take-le (a .state .got) (a .state .carry) (omega arith) in
@@ -52,7 +52,7 @@ array-share-prefix-carry c =
 slice-aggregate-ending-of : tie.Need-slice-aggregate-ending-of
 slice-aggregate-ending-of c =
     let a = c .before .before .before .before .before .before .before .before .before .args in
-    let n : length (a .state .carry) ≡ 14 = search needs in
+    let n : length (a .state .carry) ≡ 16 = search needs in
     let m : a .state .got < size (a .state .stage) = omega (arith, c .before .before .before .before .before .size-of .ensures, c .before .before .before .before .if2 .left) in
     let k = size-most (a .state .stage) in
     let t : length (take (a .state .got) (a .state .carry)) ≡ a .state .got = length-take-le (a .state .got) (a .state .carry) (omega arith) in
@@ -61,7 +61,7 @@ slice-aggregate-ending-of c =
 ending-of-requires : tie.Need-ending-of-requires
 ending-of-requires c κs =
     let a = c .before .before .before .before .before .before .before .before .before .args in
-    let n : length (a .state .carry) ≡ 14 = search needs in
+    let n : length (a .state .carry) ≡ 16 = search needs in
     let m : a .state .got < size (a .state .stage) = omega (arith, c .before .before .before .before .before .size-of .ensures, c .before .before .before .before .if2 .left) in
     let k = size-most (a .state .stage) in
     let t : length (take (a .state .got) (a .state .carry)) ≡ a .state .got = length-take-le (a .state .got) (a .state .carry) (omega arith) in
@@ -73,7 +73,7 @@ known-of-requires c κs = search needs
 returns-5 : tie.Need-returns-5
 returns-5 c =
     let a = c .before .before .before .before .before .before .before .before .before .before .before .args in
-    let n : length (a .state .carry) ≡ 14 = search needs in
+    let n : length (a .state .carry) ≡ 16 = search needs in
     let m : a .state .got < size (a .state .stage) = omega (arith, c .before .before .before .before .before .before .before .size-of .ensures, c .before .before .before .before .before .before .if2 .left) in
     let k = size-most (a .state .stage) in
     let t : length (take (a .state .got) (a .state .carry)) ≡ a .state .got = length-take-le (a .state .got) (a .state .carry) (omega arith) in

@@ -1,48 +1,39 @@
 -- Scaffolding: what the functions inside promise each other; no rule of the format.
 use Prim.Native.Nat.{ℕ, zero, suc, _+_, _*_, _-_, _≤_, _<_}
 use mathlib.Core.Path.{_≡_}
-use mathlib.Core.List.{List}
+use mathlib.Core.List.{List, []}
 use mathlib.Core.Bool.{Bool, true, false}
-use lib.ListN.{length}
-use Rattle.algebra.specs.Reader.{Res, ok, refuse, pick}
+use lib.ListN.{length, drop}
+use Rattle.algebra.specs.Reader.{Res, ok, refuse}
 use Rattle.algebra.specs.Store.{part}
 use Rattle.algebra.specs.Numbers.{num, nums}
 use Rattle.algebra.specs.Text.{anyZero}
 use Rattle.algebra.specs.Table.{refused}
 use Rattle.aco_chunks.specs.declared.Stage.{Stage}
-use Rattle.aco_chunks.specs.declared.Stage.the-variants as v
 use Rattle.aco_stream.specs.declared.Stream.{Stream}
-use Rattle.aco_chunks.specs.Chunks.{FileVerdict, colourItem, colours, entries, entryHead, loaded, chunk, answer}
+use Rattle.aco_chunks.specs.Chunks.{FileVerdict, Progress, isFault, colourItem, entryHead, loaded, chunk, answer}
 use Rattle.aco_stream.specs.Answer.{progress, usable, roomy, ended, known}
 
-abbrev pub Sparing : Stage → ℕ → Type 0
-Sparing v.First k = k ≡ 0
-Sparing (v.Colour n i) k = k ≡ 0
-Sparing (v.Second n) k = k ≡ 0
-Sparing (v.Entry n i) k = k ≡ 0
-Sparing (v.Unit n i at m z) k = k ≤ m - 1
-Sparing (v.End n) k = k ≡ 0
-Sparing (v.Fault x p r f) k = k ≡ 0
+-- what is left of the bytes from `at`, taken
+abbrev pub Rest : Stage → ℕ → List ℕ → List ℕ → ℕ → List ℕ → Progress
+Rest g total carry store at bytes = chunk (record { stage = g; total = total; carry = carry; store = store }) (drop at bytes)
 
--- k units are passed, one of them zero or none
-abbrev pub unitsPassed : Stage → ℕ → Bool → Stage
-unitsPassed v.First k z = v.First
-unitsPassed (v.Colour n i) k z = v.Colour n i
-unitsPassed (v.Second n) k z = v.Second n
-unitsPassed (v.Entry n i) k z = v.Entry n i
-unitsPassed (v.Unit n i at m y) k z = v.Unit n i at (m - k) (pick z true y)
-unitsPassed (v.End n) k z = v.End n
-unitsPassed (v.Fault x p r f) k z = v.Fault x p r f
+-- with nothing carried, the bytes from `at` to e bring the stage g to h, and the store to `after`
+pub record Passes (start : ℕ) (bytes : List ℕ) (g : Stage) (at : ℕ) (store : List ℕ) (h : Stage) (e : ℕ) (after : List ℕ) : Type 0 where
+  pub behind : at ≤ e
+  pub inside : e ≤ length bytes
+  pub keeps : length after ≡ length store
+  pub sound : e ≤ at → isFault h ≡ false
+  pub comes : Rest g (start + at) [] store at bytes ≡ Rest h (start + e) [] after e bytes
 
--- k colours are due, stand whole in so many bytes and have room
-abbrev pub Due : Stage → ℕ → ℕ → ℕ → Type 0
-Due v.First k left space = k ≡ 0
-Due (v.Colour n i) k left space = (10 * k ≤ left) × (0 < k → (i + k ≤ n) × (10 * i + 10 * k ≤ space))
-Due (v.Second n) k left space = k ≡ 0
-Due (v.Entry n i) k left space = k ≡ 0
-Due (v.Unit n i at m z) k left space = k ≡ 0
-Due (v.End n) k left space = k ≡ 0
-Due (v.Fault x p r f) k left space = k ≡ 0
+-- the same where `got` bytes are carried: of an item that has begun nothing is passed
+pub record PassesWith (got start : ℕ) (bytes : List ℕ) (g : Stage) (at : ℕ) (store : List ℕ) (h : Stage) (e : ℕ) (after : List ℕ) : Type 0 where
+  pub behind : at ≤ e
+  pub inside : e ≤ length bytes
+  pub keeps : length after ≡ length store
+  pub sound : e ≤ at → isFault h ≡ false
+  pub stays : 0 < got → h ≡ g
+  pub comes : (carry : List ℕ) → length carry ≡ got → Rest g (start + at) carry store at bytes ≡ Rest h (start + e) carry after e bytes
 
 abbrev pub isOk : Res ℕ → Bool
 isOk (ok u q) = true
@@ -53,16 +44,6 @@ abbrev pub Sounds : ℕ → List ℕ → ℕ → Type 0
 Sounds zero bytes at = Unit {0}
 Sounds (suc k) bytes at = (isOk (colourItem (part bytes at 10) 0) ≡ true) × Sounds k bytes (at + 10)
 
--- they are passed
-abbrev pub coloursPassed : Stage → ℕ → Stage
-coloursPassed v.First k = v.First
-coloursPassed (v.Colour n i) k = colours n (i + k)
-coloursPassed (v.Second n) k = v.Second n
-coloursPassed (v.Entry n i) k = v.Entry n i
-coloursPassed (v.Unit n i at m y) k = v.Unit n i at m y
-coloursPassed (v.End n) k = v.End n
-coloursPassed (v.Fault x p r f) k = v.Fault x p r f
-
 -- m units from `at` end at q, the last is zero and no other
 pub record Closed (m : ℕ) (bytes : List ℕ) (at q : ℕ) : Type 0 where
   pub some : 0 < m
@@ -71,29 +52,13 @@ pub record Closed (m : ℕ) (bytes : List ℕ) (at q : ℕ) : Type 0 where
   pub none : anyZero (nums 2 (m - 1) bytes at) ≡ false
   pub last : num 2 bytes (at + (m - 1) * 2) ≡ 0
 
-abbrev pub NamedAt : Res ℕ → List ℕ → ℕ → ℕ → Type 0
-NamedAt (ok m e) bytes at q = Closed m bytes at q
-NamedAt (refuse x p r f) bytes at q = ⊥
+-- five fields from the first are those that stand in a store from `first`
+abbrev pub SameAs : List ℕ → List ℕ → ℕ → Type 0
+SameAs head store first = (first + 10 ≤ length store) × ((f : ℕ) → f < 5 → num 2 head (2 * f) ≡ num 2 store (first + 2 * f))
 
--- a record from `at` is without a fault and ends at q
-abbrev pub Recorded : Stage → List ℕ → List ℕ → ℕ → ℕ → Type 0
-Recorded v.First store bytes at q = ⊥
-Recorded (v.Colour n i) store bytes at q = ⊥
-Recorded (v.Second n) store bytes at q = ⊥
-Recorded (v.Entry n i) store bytes at q = (at + 14 ≤ length bytes) × NamedAt (entryHead i (loaded store (10 * i)) (part bytes at 14) 0) bytes (at + 14) q
-Recorded (v.Unit n i p m z) store bytes at q = ⊥
-Recorded (v.End n) store bytes at q = ⊥
-Recorded (v.Fault x p r f) store bytes at q = ⊥
-
--- it is passed
-abbrev pub recordPassed : Stage → Stage
-recordPassed v.First = v.First
-recordPassed (v.Colour n i) = v.Colour n i
-recordPassed (v.Second n) = v.Second n
-recordPassed (v.Entry n i) = entries n (i + 1)
-recordPassed (v.Unit n i p m z) = v.Unit n i p m z
-recordPassed (v.End n) = v.End n
-recordPassed (v.Fault x p r f) = v.Fault x p r f
+-- the head of record i stands whole from `at`, without a fault, and its name has m units
+abbrev pub Headed : ℕ → List ℕ → List ℕ → ℕ → ℕ → Type 0
+Headed i store bytes at m = (at + 14 ≤ length bytes) × (entryHead i (loaded store (10 * i)) (part bytes at 14) 0 ≡ ok m 14)
 
 abbrev pub openStream : Stage → ℕ → ℕ → List ℕ → Stream
 openStream g total got carry = record { stage = g; total = total; got = got; carry = carry; ended = false }

@@ -106,6 +106,6 @@ fn alter(stream: &mut Stream, random: &mut Random) {
         11 => (stream.record, stream.field) = (any as u16, (any >> 16) as u16),
         12 => stream.got = (any % 14) as usize,
         13 => stream.number = any as u32,
-        _ => stream.carry[random.below(14)] = any as u8,
+        _ => stream.carry[random.below(16)] = any as u8,
     }
 }
