@@ -188,7 +188,7 @@ class khuyurek_aco_stream(Structure):
         ("index", c_uint16),
         ("record", c_uint16),
         ("field", c_uint16),
-        ("carry", c_uint8 * 14),
+        ("carry", c_uint8 * 16),
     ]
 
 
