@@ -27,7 +27,7 @@ IDs, which are keys, classes and what an `Enum` has, are ``str``, a character fo
 from __future__ import annotations
 
 from array import array
-from struct import pack, unpack
+from struct import pack, unpack, unpack_from
 from typing import Any, Callable, Iterable, List, Mapping, NamedTuple, Optional, Sequence, Tuple
 
 from . import raw
@@ -56,6 +56,7 @@ __all__ = [
     "UnitDoubles",
     "build",
     "build_length",
+    "entries",
     "find",
     "judge",
     "parents",
@@ -468,129 +469,129 @@ def tree(file: Buffer, pairs: Callable[[List[Tuple[str, Any]]], Any] = _unique) 
     them as they are.
     """
     with Lent(file) as lent:
-        # A copy, unless it is bytes: its values are taken after the library has judged it.
+        # A copy, unless it is bytes: its parts are taken after the library has judged it.
         still = lent.part(0, lent.length)
-    with Lent(still) as lent:
-        columns = _columns(lent)
-        begins = run(len(columns.first))
-        _rows(lent.calls.khuyurek_descriptor_values(lent.at, lent.length, *lend(begins)))
-    return _Reading(still, columns, begins, pairs).root()
+    return _Reading(still, entries(still), pairs).member()
+
+
+def entries(file: Buffer) -> array:
+    """The entries of a file as numbers, ``KHUYUREK_DESCRIPTOR_ENTRY`` of them for each row, its own
+    bytes being their text: what `tree` is made of."""
+    with Lent(file) as lent:
+        count = _rows(lent.calls.khuyurek_descriptor_judge(lent.at, lent.length))
+        numbers = run(raw.KHUYUREK_DESCRIPTOR_ENTRY * count)
+        _rows(lent.calls.khuyurek_descriptor_entries(lent.at, lent.length, *lend(numbers)))
+    return numbers
+
+
+class _Entry(NamedTuple):
+    """The numbers of an entry. Of two that belong together the first is the length or count that
+    the file states, the second the place of the bytes."""
+
+    kind: int
+    key: int
+    key_at: int
+    name: int
+    name_at: int
+    id: int
+    id_at: int
+    first: int
+    first_at: int
+    second: int
+    second_at: int
+    unit: int
+    high: int
+    low: int
+    members: int
+    objects: int
 
 
 class _Reading:
-    """Goes through the rows of an accepted file in their order. The library says where rows and
-    values lie and that they are sound; here a value's own fields are taken."""
+    """Makes values of a file's entries, in their order. Where each part lies the library says."""
 
-    def __init__(self, file: bytes, columns: Columns, begins: array, pairs: Callable) -> None:
+    def __init__(self, file: bytes, numbers: array, pairs: Callable) -> None:
         self.file = file
-        self.firsts = columns.first
-        self.kinds = columns.kind
-        self.begins = begins
+        self.rows = map(_Entry._make, zip(*[iter(numbers)] * raw.KHUYUREK_DESCRIPTOR_ENTRY))
         self.pairs = pairs
-        # The next row, and the next byte of the value that is read.
-        self.row = 1
-        self.at = begins[0]
 
-    def root(self) -> Object:
-        return Object(*self._object())
-
-    def _bytes(self, length: int) -> bytes:
-        at = self.at
-        self.at = at + length
-        return self.file[at : self.at]
-
-    def _long(self) -> int:
-        return int.from_bytes(self._bytes(4), "big")
-
-    def _double(self) -> float:
-        return unpack(">d", self._bytes(8))[0]
-
-    def _characters(self) -> str:
-        return self._bytes(4).decode("latin-1")
-
-    def _id(self) -> str:
-        length = self._long()
-        id = self._bytes(length or 4).decode("latin-1")
+    def id(self, length: int, at: int) -> str:
+        id = self.file[at : at + (length or 4)].decode("latin-1")
         return StringID(id) if length == 4 else id
 
-    def _text(self) -> str:
-        count = self._long()
-        return decoded(self._bytes(2 * count)[:-2]) if count else Unclosed()
+    def text(self, count: int, at: int) -> str:
+        # Its last unit closes it.
+        return decoded(self.file[at : at + 2 * count - 2]) if count else Unclosed()
 
-    def _class(self) -> Tuple[str, str]:
-        name = self._text()
-        return self._id(), name
+    def bytes(self, entry: _Entry) -> bytes:
+        return self.file[entry.first_at : entry.first_at + entry.first]
 
-    def _member(self) -> Any:
-        row = self.row
-        self.row = row + 1
-        self.at = self.begins[row]
-        return _READ[self.kinds[row]](self)
+    def named(self, entry: _Entry) -> Tuple[str, str]:
+        """The class of an entry."""
+        return self.id(entry.id, entry.id_at), self.text(entry.name, entry.name_at)
 
-    def _pair(self) -> Tuple[str, Any]:
-        self.at = self.firsts[self.row]
-        return self._id(), self._member()
+    def member(self) -> Any:
+        """The next value, with all that stands in it."""
+        entry = next(self.rows)
+        return _READ[entry.kind](self, entry)
 
-    def _pairs(self) -> Any:
-        return self.pairs([self._pair() for _ in range(self._long())])
+    def members(self, entry: _Entry) -> List[Any]:
+        return [self.member() for _ in range(entry.members)]
 
-    def _object(self) -> Tuple[str, Any, str]:
-        id, name = self._class()
-        return id, self._pairs(), name
+    def pair(self) -> Tuple[str, Any]:
+        entry = next(self.rows)
+        return self.id(entry.key, entry.key_at), _READ[entry.kind](self, entry)
 
-    def _array(self) -> ObjectArray:
-        objects = self._long()
-        return ObjectArray(objects, *self._object())
+    def object(self, entry: _Entry) -> Tuple[str, Any, str]:
+        id, name = self.named(entry)
+        return id, self.pairs([self.pair() for _ in range(entry.members)]), name
 
-    def _doubles(self) -> UnitDoubles:
-        unit = self._characters()
-        count = self._long()
-        return UnitDoubles(unit, unpack(f">{count}d", self._bytes(8 * count)))
+    def enum(self, entry: _Entry) -> Enum:
+        type = self.id(entry.first, entry.first_at)
+        return Enum(type, self.id(entry.second, entry.second_at))
 
-    def _members(self) -> List[Any]:
-        return [self._member() for _ in range(self._long())]
+    def doubles(self, entry: _Entry) -> UnitDoubles:
+        return UnitDoubles(
+            _characters(entry.unit), unpack_from(f">{entry.first}d", self.file, entry.first_at)
+        )
 
-    def _enum(self) -> Enum:
-        type = self._id()
-        return Enum(type, self._id())
+    def number(self, entry: _Entry) -> Any:
+        return _NUMBERS[_characters(entry.kind)](entry.high << 32 | entry.low, entry.unit)
 
-    def _unit_double(self) -> UnitDouble:
-        unit = self._characters()
-        return UnitDouble(unit, self._double())
-
-    def _form(self, form: str, rest: Callable[["_Reading"], Any]) -> Item:
-        id, name = self._class()
-        return Item(form, id, rest(self), name)
+    def item(self, entry: _Entry, value: Any = None) -> Item:
+        id, name = self.named(entry)
+        return Item(_characters(entry.kind), id, value, name)
 
 
-_READ: Mapping[int, Callable[[_Reading], Any]] = {
-    _tag("bool"): lambda reading: reading._bytes(1) != b"\0",
-    _tag("long"): lambda reading: _of_signed(reading._long(), 32),
-    _tag("comp"): lambda reading: Comp(int.from_bytes(reading._bytes(8), "big", signed=True)),
-    _tag("doub"): _Reading._double,
-    _tag("UntF"): _Reading._unit_double,
-    _tag("TEXT"): _Reading._text,
-    _tag("enum"): _Reading._enum,
-    _tag("tdta"): lambda reading: reading._bytes(reading._long()),
-    _tag("alis"): lambda reading: Alias(reading._bytes(reading._long())),
-    _tag("Pth "): lambda reading: Path(reading._bytes(reading._long())),
-    _tag("type"): lambda reading: Class(*reading._class()),
-    _tag("GlbC"): lambda reading: GlobalClass(*reading._class()),
-    _tag("VlLs"): _Reading._members,
-    _tag("obj "): lambda reading: Reference(reading._members()),
-    _tag("Objc"): lambda reading: Object(*reading._object()),
-    _tag("GlbO"): lambda reading: GlobalObject(*reading._object()),
-    _tag("ObAr"): _Reading._array,
-    _tag("UnFl"): _Reading._doubles,
-    _tag("Clss"): lambda reading: reading._form("Clss", lambda rest: None),
-    _tag("Enmr"): lambda reading: reading._form("Enmr", _Reading._enum),
-    _tag("prop"): lambda reading: reading._form("prop", _Reading._id),
-    _tag("name"): lambda reading: reading._form("name", _Reading._text),
-    _tag("Idnt"): lambda reading: reading._form("Idnt", _Reading._long),
-    _tag("indx"): lambda reading: reading._form("indx", _Reading._long),
-    _tag("rele"): lambda reading: reading._form(
-        "rele", lambda rest: _of_signed(rest._long(), 32)
+_READ: Mapping[int, Callable[[_Reading, _Entry], Any]] = {
+    _tag("bool"): _Reading.number,
+    _tag("long"): _Reading.number,
+    _tag("comp"): _Reading.number,
+    _tag("doub"): _Reading.number,
+    _tag("UntF"): _Reading.number,
+    _tag("TEXT"): lambda reading, entry: reading.text(entry.first, entry.first_at),
+    _tag("enum"): _Reading.enum,
+    _tag("tdta"): _Reading.bytes,
+    _tag("alis"): lambda reading, entry: Alias(reading.bytes(entry)),
+    _tag("Pth "): lambda reading, entry: Path(reading.bytes(entry)),
+    _tag("type"): lambda reading, entry: Class(*reading.named(entry)),
+    _tag("GlbC"): lambda reading, entry: GlobalClass(*reading.named(entry)),
+    _tag("VlLs"): _Reading.members,
+    _tag("obj "): lambda reading, entry: Reference(reading.members(entry)),
+    _tag("Objc"): lambda reading, entry: Object(*reading.object(entry)),
+    _tag("GlbO"): lambda reading, entry: GlobalObject(*reading.object(entry)),
+    _tag("ObAr"): lambda reading, entry: ObjectArray(entry.objects, *reading.object(entry)),
+    _tag("UnFl"): _Reading.doubles,
+    _tag("Clss"): _Reading.item,
+    _tag("Enmr"): lambda reading, entry: reading.item(entry, reading.enum(entry)),
+    _tag("prop"): lambda reading, entry: reading.item(
+        entry, reading.id(entry.first, entry.first_at)
     ),
+    _tag("name"): lambda reading, entry: reading.item(
+        entry, reading.text(entry.first, entry.first_at)
+    ),
+    _tag("Idnt"): lambda reading, entry: reading.item(entry, entry.low),
+    _tag("indx"): lambda reading, entry: reading.item(entry, entry.low),
+    _tag("rele"): lambda reading, entry: reading.item(entry, _of_signed(entry.low, 32)),
 }
 
 

@@ -523,6 +523,19 @@ class Descriptors(Case):
             self.assertEqual(descriptor.build(descriptor.tree(file)), file)
         self.assertEqual(descriptor.tree(P12), ("a", {"a": [True, True]}, ""))
 
+    def test_entries(self):
+        file = descriptor.build(self.TREE)
+        numbers = descriptor.entries(file)
+        self.assertEqual(len(numbers), raw.KHUYUREK_DESCRIPTOR_ENTRY * descriptor.judge(file))
+        out = array("B", bytes(len(file)))
+        built = raw.khuyurek_descriptor_build(
+            numbers.buffer_info()[0], len(numbers), file, len(file), out.buffer_info()[0], len(out)
+        )
+        self.assertEqual((built.number, built.length, out.tobytes()), (0, len(file), file))
+        self.assertEqual(descriptor.entries(bytearray(file)), numbers)
+        self.refused(2, 0, descriptor.entries, b"")
+        self.refused(6, len(file), descriptor.entries, file + b"\0")
+
     def test_a_key_twice(self):
         root = descriptor.Object("a", [("b", 1), ("b", 2)])
         file = descriptor.build(root)

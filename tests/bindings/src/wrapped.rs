@@ -289,13 +289,11 @@ fn descriptor(file: &[u8]) -> Result<Said, Refusal> {
     for row in found {
         said.count(row.unwrap_or(rows.len()));
     }
-    // Its entries are built into it.
-    let mut entries = vec![0; reference::descriptor::ENTRY_LEN * rows.len()];
-    reference::descriptor::entries(file, &mut entries).expect("it is accepted");
-    let entries: Vec<_> = entries
-        .chunks_exact(reference::descriptor::ENTRY_LEN)
-        .map(|entry| descriptor::Entry::from_numbers(entry.try_into().expect("sixteen")))
-        .collect();
+    // Its entries are the reference's, and are built into it.
+    let mut numbers = vec![0; reference::descriptor::ENTRY_LEN * rows.len()];
+    reference::descriptor::entries(file, &mut numbers).expect("it is accepted");
+    let entries = descriptor::entries(file)?;
+    assert!(entries.iter().flat_map(|entry| entry.numbers()).eq(numbers));
     assert_eq!(descriptor::build(&entries, file).as_deref(), Ok(file));
     Ok(said)
 }
