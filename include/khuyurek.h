@@ -62,7 +62,7 @@ extern "C" {
 
 /* Counted up at every change of a struct or of a record's numbers; docs/CHANGES.md
  * says what changed. */
-#define KHUYUREK_VERSION 2
+#define KHUYUREK_VERSION 3
 
 /* The inks of a record: to which station of the press a colour goes. An ASE file
  * states one of the first three, an ACO file none, a colour book what its closing tag
