@@ -41,10 +41,10 @@ fn record_at(run: &[u32], k: usize) -> Record
 fn colour_of(given: Record) -> Colour
     ensures { λ r. ⌜ r ≡ colourIn (toldRecord given) ⌝ }
 {
-    let a = low(given.a);
-    let b = low(given.b);
-    let c = low(given.c);
-    let d = low(given.d);
+    let a = low(given.sample0);
+    let b = low(given.sample1);
+    let c = low(given.sample2);
+    let d = low(given.sample3);
     Colour {
         space: low(given.space),
         samples: [a, b, c, d],

@@ -1,25 +1,25 @@
 -- Which fault is found first, and how long the file is, on plain values. Assumes nothing.
 use Rattle.algebra.proofs.Counted.{counted-end, counted-start, counted-turn, length-counted, faults-clear}
-use Rattle.algebra.specs.Numbers.{counted, nums}
+use Rattle.algebra.specs.Numbers.{counted}
 use Prim.Native.Nat.{ℕ, zero, suc, _+_, _*_, _-_, _≤_, _<_}
 use mathlib.Core.Path.{_≡_, refl, sym, ap, _∙_, subst}
 use mathlib.Core.List.{List, [], _∷_}
-use mathlib.Core.Bool.{Bool, true, false, not}
+use mathlib.Core.Bool.{Bool, true, false}
 use lib.ListN.{length}
 use borrow.Author.Tests.{eq-eqb, ne-eqb}
 use native.Mathlib.Omega.{arith}
 use native.Mathlib.Nat.{lt-of-not-le}
 use native.Mathlib.Decide.{ℕ-discrete, decLe}
-use Rattle.algebra.specs.Reader.{Res, ok, pick, rule, unless, body, done, numberOf}
-use Rattle.algebra.specs.Text.{anyZero, text}
+use Rattle.algebra.specs.Reader.{Res, pick, done, numberOf}
+use Rattle.algebra.specs.Text.{text}
 use Rattle.algebra.specs.Faults.{firstOf, faults, faultsFrom}
 use Rattle.algebra.proofs.Tells.{first-zero, first-inv}
-use Rattle.algebra.proofs.Laws.{body-in, body-short}
+use Rattle.algebra.proofs.Laws.{body-short}
+use Rattle.algebra.proofs.Texts.{text-number}
 use Rattle.colour.specs.Spaces.{uses, known, allowed, sound}
 use Rattle.colour.proofs.Laws.{allowed-small, sound-inv}
 use Rattle.algebra.specs.Table.{rowAt, rows}
 use Rattle.aco.specs.Faults.{spaceFault, sampleFault, fieldsFault}
-use Rattle.aco.specs.Faults as f
 use Rattle.aco.specs.Row.{RecordRow, width, taken}
 use Rattle.aco_write_judge.specs.Writing.{sizes, foundIn}
 use Rattle.aco_write_judge.specs.scaffold.Parts.{nameFault, start, EntryFits, EntriesFit}
@@ -65,21 +65,9 @@ colour-faults x a b c d = ap (λ (k : ℕ). firstOf (spaceFault x) (firstOf (sam
 
 -- ---- a name
 
--- units with no zero, by how they are found and what they are; belongs in algebra
-text-found : (n : ℕ) (s : List ℕ) (at : ℕ) → numberOf (text n s at) ≡ f.nameFault (numberOf (body 2 n s at)) (nums 2 n s at)
-unfolding text
-text-found n s at = elim (decLe (n * 2) (length s - at)) [
-  | yes h ↦ rw (body-in 2 s at n h) (closing (anyZero (nums 2 n s at)))
-  | no h ↦ rw (body-short 2 s at n (lt-of-not-le h))
-]
-  where
-    closing : (c : Bool) → numberOf (rule (unless (not c) 8) at (ok (nums 2 n s at) (at + n * 2))) ≡ pick c 8 0
-    closing true = refl
-    closing false = refl
-
 module _ (names : List ℕ) (g : RecordRow) where
   pub name-is : (at : ℕ) (r : Res Unit) → at ≡ g .first → r ≡ done (text (g .units) names at) → numberOf r ≡ nameFault names g
-  name-is at r a e = name-number (text (g .units) names (g .first)) r (e ∙ ap (λ (k : ℕ). done (text (g .units) names k)) a) ∙ text-found (g .units) names (g .first)
+  name-is at r a e = name-number (text (g .units) names (g .first)) r (e ∙ ap (λ (k : ℕ). done (text (g .units) names k)) a) ∙ text-number (g .units) names (g .first)
 
   -- a name without a fault lies in the lent bytes, from where its copy starts
   pub name-inside : nameFault names g ≡ 0 → start g + 2 * g .units ≤ length names

@@ -21,10 +21,10 @@ use fields::Written;
 // A record of a run: its space, its samples, where its name lies, and its ink.
 pub struct Record {
     pub space: u32,
-    pub a: u32,
-    pub b: u32,
-    pub c: u32,
-    pub d: u32,
+    pub sample0: u32,
+    pub sample1: u32,
+    pub sample2: u32,
+    pub sample3: u32,
     pub first: u32,
     pub units: u32,
     pub ink: u32,
@@ -47,10 +47,10 @@ pub fn record_of(row: &[u32]) -> Record
 {
     Record {
         space: number_at(row, 0),
-        a: number_at(row, 1),
-        b: number_at(row, 2),
-        c: number_at(row, 3),
-        d: number_at(row, 4),
+        sample0: number_at(row, 1),
+        sample1: number_at(row, 2),
+        sample2: number_at(row, 3),
+        sample3: number_at(row, 4),
         first: number_at(row, 5),
         units: number_at(row, 6),
         ink: number_at(row, 7),
@@ -103,19 +103,19 @@ fn fields_fault(given: Record) -> u32
     if s != 0 {
         return s;
     }
-    let a = sample_fault(given.space, 0, given.a);
+    let a = sample_fault(given.space, 0, given.sample0);
     if a != 0 {
         return a;
     }
-    let b = sample_fault(given.space, 1, given.b);
+    let b = sample_fault(given.space, 1, given.sample1);
     if b != 0 {
         return b;
     }
-    let c = sample_fault(given.space, 2, given.c);
+    let c = sample_fault(given.space, 2, given.sample2);
     if c != 0 {
         return c;
     }
-    sample_fault(given.space, 3, given.d)
+    sample_fault(given.space, 3, given.sample3)
 }
 
 // Whether a record's colour fits its fields and has no fault.
@@ -125,24 +125,24 @@ fn is_sound(given: Record) -> bool
     if 65535 < given.space {
         return false;
     }
-    if 65535 < given.a {
+    if 65535 < given.sample0 {
         return false;
     }
-    if 65535 < given.b {
+    if 65535 < given.sample1 {
         return false;
     }
-    if 65535 < given.c {
+    if 65535 < given.sample2 {
         return false;
     }
-    if 65535 < given.d {
+    if 65535 < given.sample3 {
         return false;
     }
     colour::is_sound(
         given.space as u16,
-        given.a as u16,
-        given.b as u16,
-        given.c as u16,
-        given.d as u16,
+        given.sample0 as u16,
+        given.sample1 as u16,
+        given.sample2 as u16,
+        given.sample3 as u16,
     )
 }
 

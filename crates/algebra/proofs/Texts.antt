@@ -7,10 +7,11 @@ use lib.Dec.{eqb}
 use lib.ListN.{length}
 use borrow.Author.Tests.{eq-eqb, ne-eqb, lt-ltb}
 use native.Mathlib.Omega.{arith}
-use native.Mathlib.Decide.{ℕ-discrete}
-use native.Mathlib.Nat.{add-zero, sub-zero}
+use native.Mathlib.Decide.{ℕ-discrete, decLe}
+use native.Mathlib.Nat.{add-zero, sub-zero, lt-of-not-le}
 use Rattle.algebra.specs.Numbers.{num, nums}
-use Rattle.algebra.specs.Reader.{Res, ok, refuse, pick, field, done}
+use Rattle.algebra.specs.Reader.{Res, ok, refuse, pick, field, done, rule, unless, body, numberOf}
+use Rattle.algebra.specs.Faults.{firstOf}
 use Rattle.algebra.specs.Text.{anyZero, closed, front, Name, closedUnits, name, text, place}
 use Rattle.algebra.proofs.Laws.{body-in, body-short}
 use Rattle.algebra.proofs.Places.{length-nums}
@@ -150,3 +151,15 @@ module _ (w : ℕ) (s : List ℕ) (at : ℕ) where
   unfolding name
   name-counted zero first e = rw (← e) (sym (units-open at 0 s first (omega arith) (closed-none 0 s first refl)))
   name-counted (suc n) first e = rw (← e) (rw (lt-ltb 0 (suc n) (omega arith)))
+
+-- units of which none is zero: the number by how they are found and what they are
+pub text-number : (n : ℕ) (s : List ℕ) (at : ℕ) → numberOf (text n s at) ≡ firstOf (numberOf (body 2 n s at)) (pick (anyZero (nums 2 n s at)) 8 0)
+unfolding text
+text-number n s at = elim (decLe (n * 2) (length s - at)) [
+  | yes h ↦ rw (body-in 2 s at n h) (closing (anyZero (nums 2 n s at)))
+  | no h ↦ rw (body-short 2 s at n (lt-of-not-le h))
+]
+  where
+    closing : (c : Bool) → numberOf (rule (unless (not c) 8) at (ok (nums 2 n s at) (at + n * 2))) ≡ pick c 8 0
+    closing true = refl
+    closing false = refl

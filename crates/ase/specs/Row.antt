@@ -46,7 +46,7 @@ givenIn r = record {
   first = r .first;
   units = r .units;
   model = r .model;
-  channels = r .a ∷ r .b ∷ r .c ∷ r .d ∷ [];
+  channels = r .channel0 ∷ r .channel1 ∷ r .channel2 ∷ r .channel3 ∷ [];
   ink = r .ink;
 }
 

@@ -22,9 +22,9 @@ pub struct RowNumbers {
     pub first: u32,
     pub units: u32,
     pub model: u32,
-    pub a: u32,
-    pub b: u32,
-    pub c: u32,
-    pub d: u32,
+    pub channel0: u32,
+    pub channel1: u32,
+    pub channel2: u32,
+    pub channel3: u32,
     pub ink: u32,
 }

@@ -142,9 +142,9 @@ module _ (r : RowNumbers) where
 
 -- the colour that they make
 pub record Hue (e : Entry) (r : RowNumbers) : Type 0 where
-  pub is : IsColour (r .model) (r .a) (r .b) (r .c) (r .d)
+  pub is : IsColour (r .model) (r .channel0) (r .channel1) (r .channel2) (r .channel3)
   pub ink : r .ink ≤ 2
-  pub shows : colourRow (r .first) (r .units) (r .model) (r .a ∷ r .b ∷ r .c ∷ r .d ∷ []) (r .ink) ≡ givenOf e
+  pub shows : colourRow (r .first) (r .units) (r .model) (r .channel0 ∷ r .channel1 ∷ r .channel2 ∷ r .channel3 ∷ []) (r .ink) ≡ givenOf e
 
 pub is-colour : (e : Entry) → Sound e → (r : RowNumbers) → givenIn r ≡ givenOf e → (r .block ≡ 0xC001 → ⊥) → (r .block ≡ 0xC002 → ⊥) → Hue e r
 is-colour (groupStartRead nm) o r w h g = absurd (h (block-is r w))

@@ -97,10 +97,10 @@ fn numbers_in(part: &[u8], at: usize) -> RowNumbers
         first: first_at(count, at),
         units: units_of(count),
         model: fields::u32_or_zero(part, model),
-        a: fields::u32_or_zero(part, model + 4),
-        b: fields::u32_or_zero(part, model + 8),
-        c: fields::u32_or_zero(part, model + 12),
-        d: fields::u32_or_zero(part, model + 16),
+        channel0: fields::u32_or_zero(part, model + 4),
+        channel1: fields::u32_or_zero(part, model + 8),
+        channel2: fields::u32_or_zero(part, model + 12),
+        channel3: fields::u32_or_zero(part, model + 16),
         ink: fields::u16_or_zero(part, part.len() - 2) as u32,
     }
 }
@@ -115,10 +115,10 @@ fn put_numbers(table: &mut [u32], to: usize, row: RowNumbers)
     table[to + 1] = row.first;
     table[to + 2] = row.units;
     table[to + 3] = row.model;
-    table[to + 4] = row.a;
-    table[to + 5] = row.b;
-    table[to + 6] = row.c;
-    table[to + 7] = row.d;
+    table[to + 4] = row.channel0;
+    table[to + 5] = row.channel1;
+    table[to + 6] = row.channel2;
+    table[to + 7] = row.channel3;
     table[to + 8] = row.ink;
 }
 
@@ -173,10 +173,16 @@ pub fn ink_of(number: u32) -> Ink
 
 // A colour by its numbers, which are judged.
 fn coloured(row: RowNumbers) -> Record
-    requires { ⌜ IsColour (row .model) (row .a) (row .b) (row .c) (row .d) × (row .ink ≤ 2) ⌝ }
-    ensures { λ r. ⌜ toldRecord r ≡ accepted (colourRow (row .first) (row .units) (row .model) (row .a ∷ row .b ∷ row .c ∷ row .d ∷ []) (row .ink)) ⌝ }
+    requires { ⌜ IsColour (row .model) (row .channel0) (row .channel1) (row .channel2) (row .channel3) × (row .ink ≤ 2) ⌝ }
+    ensures { λ r. ⌜ toldRecord r ≡ accepted (colourRow (row .first) (row .units) (row .model) (row .channel0 ∷ row .channel1 ∷ row .channel2 ∷ row .channel3 ∷ []) (row .ink)) ⌝ }
 {
-    match Channels::from_tag(row.model, row.a, row.b, row.c, row.d) {
+    match Channels::from_tag(
+        row.model,
+        row.channel0,
+        row.channel1,
+        row.channel2,
+        row.channel3,
+    ) {
         Made::Is(colour) => Record::Colour {
             place: fields::wide(row.first),
             units: row.units,

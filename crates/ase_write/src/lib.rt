@@ -52,16 +52,16 @@ fn put_channels(out: &mut [u8], at: usize, n: usize, given: RowNumbers)
     requires { ⌜ (at + 4 * n ≤ length (now out)) × (n ≡ channelsOf (given .model)) × (isModel (given .model) ≡ true) ⌝ }
     ensures { λ _. ⌜ now (out .exit) ≡ sets (now (out .entry)) at (joined (be 4) (channelsIn (givenIn given))) ⌝ }
 {
-    fields::put_u32(out, at, given.a);
+    fields::put_u32(out, at, given.channel0);
     if n == 1 {
         return;
     }
-    fields::put_u32(out, at + 4, given.b);
-    fields::put_u32(out, at + 8, given.c);
+    fields::put_u32(out, at + 4, given.channel1);
+    fields::put_u32(out, at + 8, given.channel2);
     if n == 3 {
         return;
     }
-    fields::put_u32(out, at + 12, given.d);
+    fields::put_u32(out, at + 12, given.channel3);
 }
 
 // The model, the channels and the type of a colour.

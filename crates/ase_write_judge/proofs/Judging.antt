@@ -12,12 +12,13 @@ use borrow.Author.Tests.{eq-eqb, ne-eqb, le-leb, lt-leb, leb-true, ltb-true, lt-
 use native.Mathlib.Omega.{arith}
 use native.Mathlib.Nat.{lt-of-not-le}
 use native.Mathlib.Decide.{ℕ-discrete, decLe}
-use Rattle.algebra.specs.Reader.{Res, ok, pick, rule, unless, body, done, numberOf, stateAfter}
-use Rattle.algebra.specs.Text.{anyZero, text}
-use Rattle.algebra.specs.Numbers.{counted, nums}
+use Rattle.algebra.specs.Reader.{Res, pick, body, done, numberOf, stateAfter}
+use Rattle.algebra.specs.Text.{text}
+use Rattle.algebra.specs.Numbers.{counted}
 use Rattle.algebra.specs.Faults.{firstOf, faults, faultsFrom, faultsIn}
 use Rattle.algebra.proofs.Tells.{first-none, first-zero, first-inv, pick-none}
-use Rattle.algebra.proofs.Laws.{body-in, body-short}
+use Rattle.algebra.proofs.Laws.{body-short}
+use Rattle.algebra.proofs.Texts.{text-number}
 use Rattle.colour.specs.Models.{modelOf, countIn, isModel, channelsOf}
 use Rattle.colour.specs.Channels.{allows, allowsBits, allowsAll}
 use Rattle.colour.specs.declared.model.KnownModel.{KnownModel}
@@ -75,18 +76,6 @@ module _ (g : RecordRow) where
 
 -- ---- a name
 
--- units with no zero, by how they are found and what they are; belongs in algebra
-text-found : (n : ℕ) (s : List ℕ) (at : ℕ) → numberOf (text n s at) ≡ f.nameFault (numberOf (body 2 n s at)) (nums 2 n s at)
-unfolding text
-text-found n s at = elim (decLe (n * 2) (length s - at)) [
-  | yes h ↦ rw (body-in 2 s at n h) (closing (anyZero (nums 2 n s at)))
-  | no h ↦ rw (body-short 2 s at n (lt-of-not-le h))
-]
-  where
-    closing : (c : Bool) → numberOf (rule (unless (not c) 8) at (ok (nums 2 n s at) (at + n * 2))) ≡ pick c 8 0
-    closing true = refl
-    closing false = refl
-
 module _ (names : List ℕ) (g : RecordRow) where
   pub name-large : 65534 < g .units → nameFault names g ≡ 5
   name-large h = simp (lt-leb (g .units + 1) 65535 (omega arith))
@@ -94,7 +83,7 @@ module _ (names : List ℕ) (g : RecordRow) where
   pub name-is : g .units ≤ 65534 → (at : ℕ) (r : Res Unit) → at ≡ g .first → r ≡ done (text (g .units) names at) → numberOf r ≡ nameFault names g
   name-is h at r a e =
       name-number (text (g .units) names (g .first)) r (e ∙ ap (λ (k : ℕ). done (text (g .units) names k)) a)
-      ∙ text-found (g .units) names (g .first) ∙ sym (simp (le-leb (g .units + 1) 65535 (omega arith)))
+      ∙ text-number (g .units) names (g .first) ∙ sym (simp (le-leb (g .units + 1) 65535 (omega arith)))
 
   -- a name without a fault fits its count, and lies in the lent bytes
   pub name-lies : nameFault names g ≡ 0 → (g .units ≤ 65534) × (g .units * 2 ≤ length names - g .first)

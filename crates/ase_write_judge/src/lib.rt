@@ -42,10 +42,10 @@ fn taken_from(row: &[u32]) -> RowNumbers
         first: row[1],
         units: row[2],
         model: row[3],
-        a: row[4],
-        b: row[5],
-        c: row[6],
-        d: row[7],
+        channel0: row[4],
+        channel1: row[5],
+        channel2: row[6],
+        channel3: row[7],
         ink: row[8],
     }
 }
@@ -67,10 +67,10 @@ fn no_record() -> RowNumbers
         first: 0,
         units: 0,
         model: 0,
-        a: 0,
-        b: 0,
-        c: 0,
-        d: 0,
+        channel0: 0,
+        channel1: 0,
+        channel2: 0,
+        channel3: 0,
         ink: 0,
     }
 }
@@ -149,7 +149,12 @@ fn after_name_fault(given: RowNumbers) -> u32
     let KnownModel::Is(model) = Model::from_tag(given.model) else {
         return 4;
     };
-    if !model.allows_all(given.a, given.b, given.c, given.d) {
+    if !model.allows_all(
+        given.channel0,
+        given.channel1,
+        given.channel2,
+        given.channel3,
+    ) {
         return 5;
     }
     if 4 < given.ink {

@@ -24,7 +24,7 @@ use Rattle.ase_walk.specs.Answer.{toldNextColour as toldNextAse, toldColourStep
 use Rattle.ase_walk.specs.declared.NextColour.{NextColour as NextAse}
 use Rattle.ase_walk.specs.declared.ColourStep.{ColourStep as AseColourStep}
 use Rattle.palette.specs.Palette.{PaletteColour, acoColour, acoColours, aseColours, colours}
-use Rattle.palette.specs.Step.{viewOf, acoStep, aseStep, stepOf}
+use Rattle.palette.specs.PaletteStep.{viewOf, acoStep, aseStep, stepOf}
 use Rattle.palette.specs.declared.Kind.{Kind}
 use Rattle.palette.specs.declared.Kind.the-variants.{Aco, Ase}
 use Rattle.palette.specs.declared.View.{View}

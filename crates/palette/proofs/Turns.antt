@@ -32,7 +32,7 @@ use Rattle.ase_walk.specs.Walking.{blockFrom, isColour, walk as aseWalk, firstP
 use Rattle.ase_walk.specs.Answer.{callAndPlace as aseCall}
 use Rattle.ase_walk.proofs.Walked.{colours-in-turn as ase-in-turn, given-allowed as ase-given}
 use Rattle.palette.specs.Palette.{Value, samples, channels, PaletteColour, acoColour, acoColours, aseColours, colours}
-use Rattle.palette.specs.Step.{firstAt, viewOf, five, colourNumbers, acoStep, aseStep, stepOf}
+use Rattle.palette.specs.PaletteStep.{firstAt, viewOf, five, colourNumbers, acoStep, aseStep, stepOf}
 use Rattle.palette.specs.scaffold.Turn.{listOf, coloursIn, noColourAt, placeOf, kindSeen, valueNumbers, SoundValue, Turn}
 use Rattle.palette.specs.declared.Kind.{Kind}
 use Rattle.palette.specs.declared.Kind.the-variants.{Aco, Ase}

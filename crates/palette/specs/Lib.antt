@@ -1,4 +1,4 @@
 pub mod Palette
-pub mod Step
+pub mod PaletteStep
 pub mod Answer
 pub mod scaffold

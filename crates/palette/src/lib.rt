@@ -8,7 +8,7 @@ ghost use Rattle.aco_walk.specs.Answer.{callAndPlace};
 ghost use Rattle.ase_walk.specs.Walking.{walk as aseWalk};
 ghost use Rattle.ase_walk.specs.Answer.{callAndPlace as aseCall};
 ghost use Rattle.palette.specs.Palette.{colours};
-ghost use Rattle.palette.specs.Step.{firstAt, viewOf, channelNumbers, noNumbers, colourNumbers, noColour, acoStep, aseStep, stepOf, toldNumbers, toldStep};
+ghost use Rattle.palette.specs.PaletteStep.{firstAt, viewOf, channelNumbers, noNumbers, colourNumbers, noColour, acoStep, aseStep, stepOf, toldNumbers, toldPaletteStep};
 ghost use Rattle.palette.specs.Answer.{told};
 ghost use Rattle.palette.specs.declared.Kind.the-variants.{Aco, Ase};
 ghost use Rattle.palette.specs.declared.View.the-variants.{Samples, Counterparts};
@@ -45,14 +45,14 @@ pub enum Answer {
 // A colour: its space and samples, or its model's tag and the bits of its channels.
 pub struct Numbers {
     pub tag: u32,
-    pub a: u32,
-    pub b: u32,
-    pub c: u32,
-    pub d: u32,
+    pub number0: u32,
+    pub number1: u32,
+    pub number2: u32,
+    pub number3: u32,
 }
 
 // A colour, where its name lies, and the place of the next call.
-pub struct Step {
+pub struct PaletteStep {
     pub numbers: Numbers,
     pub place: usize,
     pub units: u32,
@@ -129,17 +129,17 @@ fn zeros() -> Numbers
 {
     Numbers {
         tag: 0,
-        a: 0,
-        b: 0,
-        c: 0,
-        d: 0,
+        number0: 0,
+        number1: 0,
+        number2: 0,
+        number3: 0,
     }
 }
 
-fn none(next: usize) -> Step
-    ensures { λ r. ⌜ toldStep r ≡ noColour next ⌝ }
+fn none(next: usize) -> PaletteStep
+    ensures { λ r. ⌜ toldPaletteStep r ≡ noColour next ⌝ }
 {
-    Step {
+    PaletteStep {
         numbers: zeros(),
         place: 0,
         units: 0,
@@ -160,10 +160,10 @@ fn own(colour: Colour) -> Numbers
     let samples = colour.samples;
     Numbers {
         tag: wide(colour.space),
-        a: wide(samples[0]),
-        b: wide(samples[1]),
-        c: wide(samples[2]),
-        d: wide(samples[3]),
+        number0: wide(samples[0]),
+        number1: wide(samples[1]),
+        number2: wide(samples[2]),
+        number3: wide(samples[3]),
     }
 }
 
@@ -175,10 +175,10 @@ fn channels_of(colour: Channels) -> Numbers
     let bits = colour.bits();
     Numbers {
         tag: traits.tag,
-        a: bits[0],
-        b: bits[1],
-        c: bits[2],
-        d: bits[3],
+        number0: bits[0],
+        number1: bits[1],
+        number2: bits[2],
+        number3: bits[3],
     }
 }
 
@@ -204,8 +204,8 @@ fn numbers_of(view: View, colour: Colour) -> Numbers
 
 // ---- one call
 
-fn aco_step(view: View, file: &[u8], at: usize) -> Step
-    ensures { λ r. ⌜ toldStep r ≡ acoStep view (callAndPlace (walk (now (file .entry)) at)) ⌝ }
+fn aco_step(view: View, file: &[u8], at: usize) -> PaletteStep
+    ensures { λ r. ⌜ toldPaletteStep r ≡ acoStep view (callAndPlace (walk (now (file .entry)) at)) ⌝ }
 {
     let step = aco_walk::step_at(file, at);
     let next = step.next;
@@ -217,7 +217,7 @@ fn aco_step(view: View, file: &[u8], at: usize) -> Step
             ink: _,
         } => {
             let numbers = numbers_of(view, step.colour);
-            Step {
+            PaletteStep {
                 numbers,
                 place,
                 units,
@@ -232,8 +232,8 @@ fn aco_step(view: View, file: &[u8], at: usize) -> Step
     }
 }
 
-fn ase_step(file: &[u8], at: usize) -> Step
-    ensures { λ r. ⌜ toldStep r ≡ aseStep (aseCall (aseWalk (now (file .entry)) at)) ⌝ }
+fn ase_step(file: &[u8], at: usize) -> PaletteStep
+    ensures { λ r. ⌜ toldPaletteStep r ≡ aseStep (aseCall (aseWalk (now (file .entry)) at)) ⌝ }
 {
     let step = ase_walk::step_at(file, at);
     let next = step.next;
@@ -246,7 +246,7 @@ fn ase_step(file: &[u8], at: usize) -> Step
             ink: _,
         } => {
             let numbers = channels_of(colour);
-            Step {
+            PaletteStep {
                 numbers,
                 place,
                 units,
@@ -262,8 +262,8 @@ fn ase_step(file: &[u8], at: usize) -> Step
 }
 
 // One call from any place of any file: the colour there, zeros where none stands there.
-pub fn step_at(view: View, file: &[u8], at: usize) -> Step
-    ensures { λ r. ⌜ toldStep r ≡ stepOf view (now (file .entry)) at ⌝ }
+pub fn step_at(view: View, file: &[u8], at: usize) -> PaletteStep
+    ensures { λ r. ⌜ toldPaletteStep r ≡ stepOf view (now (file .entry)) at ⌝ }
 {
     match view {
         View::Samples => aco_step(view, file, at),

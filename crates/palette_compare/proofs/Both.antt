@@ -10,11 +10,11 @@ use native.Mathlib.Omega.{arith}
 use Rattle.algebra.specs.Numbers.{Bytes}
 use Rattle.algebra.specs.Reader.{pick, limit}
 use Rattle.palette.specs.Palette.{PaletteColour}
-use Rattle.palette.specs.Step.{firstAt, viewOf, stepOf, toldStep}
+use Rattle.palette.specs.PaletteStep.{firstAt, viewOf, stepOf, toldPaletteStep}
 use Rattle.palette.specs.scaffold.Turn.{coloursIn, placeOf, kindSeen}
 use Rattle.palette.specs.declared.Kind.{Kind}
 use Rattle.palette.specs.declared.View.{View}
-use Rattle.palette.specs.declared.Step.{Step}
+use Rattle.palette.specs.declared.PaletteStep.{PaletteStep}
 use Rattle.palette.proofs.Turns.{in-turn, few, seen-kind, first-place}
 use Rattle.palette_compare.specs.Compare.{kinds, rows}
 use Rattle.palette_compare.specs.scaffold.Parts.{kindsIn, kindAt, StoredTo, Both}
@@ -55,15 +55,15 @@ module _ (v w : View) (s t : List ℕ) (bs : Bytes s) (bt : Bytes t) (n : ℕ) (
   pub few-positions : i < limit
   few-positions = omega (arith, few (kindSeen v) s bs, b .first)
 
-  pub both-turn : (x y : Step) (kind c : ℕ) (t₂ : List ℕ) → toldStep x ≡ stepOf v s p → toldStep y ≡ stepOf w t q → kind ≡ kindAt s x t y → t₂ ≡ sets t₁ (2 * i) (rows i (kind ∷ [])) → c ≡ pick (eqb kind 0) 0 1
+  pub both-turn : (x y : PaletteStep) (kind c : ℕ) (t₂ : List ℕ) → toldPaletteStep x ≡ stepOf v s p → toldPaletteStep y ≡ stepOf w t q → kind ≡ kindAt s x t y → t₂ ≡ sets t₁ (2 * i) (rows i (kind ∷ [])) → c ≡ pick (eqb kind 0) 0 1
       → Both v w s t n t₀ t₂ (x .next) (y .next) (d + c) (i + 1)
   both-turn x y kind c t₂ ex ey ek et ec =
       let k : Kind = kindSeen v in
       let j : Kind = kindSeen w in
       let u = in-turn k j s bs i (omega (arith, b .first)) in
       let r = in-turn j k t bt i (omega (arith, b .second)) in
-      let fx : toldStep x ≡ stepOf (viewOf k j) s (placeOf k s i) = ex ∙ ap₂ (λ (a : View) (z : ℕ). stepOf a s z) (sym (b .seen)) (b .place) in
-      let fy : toldStep y ≡ stepOf (viewOf j k) t (placeOf j t i) = ey ∙ ap₂ (λ (a : View) (z : ℕ). stepOf a t z) (sym (b .beside)) (b .other) in
+      let fx : toldPaletteStep x ≡ stepOf (viewOf k j) s (placeOf k s i) = ex ∙ ap₂ (λ (a : View) (z : ℕ). stepOf a s z) (sym (b .seen)) (b .place) in
+      let fy : toldPaletteStep y ≡ stepOf (viewOf j k) t (placeOf j t i) = ey ∙ ap₂ (λ (a : View) (z : ℕ). stepOf a t z) (sym (b .beside)) (b .other) in
       let m = kind-turn k j s t u r x y fx fy in
       let at : kind ≡ getD (kindsIn k s j t) i 0 = ek ∙ m .0 ∙ sym (kinds-at (coloursIn k s) (coloursIn j t) i (omega (arith, b .first)) (omega (arith, b .second))) in
       let inside : i < length (kindsIn k s j t) = kinds-below (coloursIn k s) (coloursIn j t) i (omega (arith, b .first)) in record {

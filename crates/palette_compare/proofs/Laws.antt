@@ -20,12 +20,12 @@ use Rattle.colour.specs.declared.channel.Channels.the-variants as vc
 use Rattle.convert.specs.Convert.{Converted, gives, refused, toChannels}
 use Rattle.walk.specs.Names.{namePart}
 use Rattle.palette.specs.Palette.{Value, samples, channels, PaletteColour}
-use Rattle.palette.specs.Step.{viewOf, five, counterpartOf, stepOf, toldNumbers, toldStep}
+use Rattle.palette.specs.PaletteStep.{viewOf, five, counterpartOf, stepOf, toldNumbers, toldPaletteStep}
 use Rattle.palette.specs.scaffold.Turn.{coloursIn, noColourAt, placeOf, valueNumbers, SoundValue, Turn}
 use Rattle.palette.specs.declared.Kind.{Kind}
 use Rattle.palette.specs.declared.Kind.the-variants.{Aco, Ase}
 use Rattle.palette.specs.declared.View.{View}
-use Rattle.palette.specs.declared.Step.{Step}
+use Rattle.palette.specs.declared.PaletteStep.{PaletteStep}
 use Rattle.palette_compare.specs.Compare.{sameNumbers, convertsTo, sameValue, kindBy, kindOf, kinds, differences, rows, Comparison, compared, refusedBy, filled}
 use Rattle.palette_compare.specs.scaffold.Parts.{kindsIn, kindAt, StoredTo, Positions}
 use Rattle.palette_compare.proofs.Same.{same-turned, same-units}
@@ -132,7 +132,7 @@ Stepped = List ℕ × ℕ × ℕ × ℕ
 
 -- of two steps over the colours a and b the kind of the position, and where they leave
 pub kind-turn : (k j : Kind) (s t : List ℕ) {p q p′ q′ : ℕ} {a b : PaletteColour} → Turn k (viewOf k j) s p a q → Turn j (viewOf j k) t p′ b q′
-    → (x y : Step) → toldStep x ≡ stepOf (viewOf k j) s p → toldStep y ≡ stepOf (viewOf j k) t p′ → (kindAt s x t y ≡ kindOf a b) × (x .next ≡ q) × (y .next ≡ q′)
+    → (x y : PaletteStep) → toldPaletteStep x ≡ stepOf (viewOf k j) s p → toldPaletteStep y ≡ stepOf (viewOf j k) t p′ → (kindAt s x t y ≡ kindOf a b) × (x .next ≡ q) × (y .next ≡ q′)
 kind-turn k j s t {a = a} {b = b} u v x y e f =
     let g = e ∙ u .step in
     let h = f ∙ v .step in

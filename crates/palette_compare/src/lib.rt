@@ -7,7 +7,7 @@ ghost use lib.Seq.{sets};
 ghost use Rattle.algebra.specs.Reader.{pick};
 ghost use Rattle.algebra.specs.Filling.{Accepted};
 ghost use Rattle.palette.specs.Palette.{colours};
-ghost use Rattle.palette.specs.Step.{toldNumbers};
+ghost use Rattle.palette.specs.PaletteStep.{toldNumbers};
 ghost use Rattle.palette.specs.scaffold.Turn.{coloursIn};
 ghost use Rattle.palette_compare.specs.Compare.{sameNumbers, kindBy, rows, filled, comparison};
 ghost use Rattle.palette_compare.specs.Answer.{told};
@@ -15,7 +15,7 @@ ghost use Rattle.palette_compare.specs.scaffold.Parts.{kindsIn, kindAt, 
 use palette::Answer;
 use palette::Kind;
 use palette::Numbers;
-use palette::Step;
+use palette::PaletteStep;
 use palette::first_at;
 use palette::judge;
 use palette::step_at;
@@ -51,7 +51,11 @@ const WIDTH: usize = 2;
 fn same_numbers(x: Numbers, y: Numbers) -> bool
     ensures { λ r. ⌜ r ≡ sameNumbers (toldNumbers x) (toldNumbers y) ⌝ }
 {
-    (x.tag == y.tag) & (x.a == y.a) & (x.b == y.b) & (x.c == y.c) & (x.d == y.d)
+    (x.tag == y.tag)
+        & (x.number0 == y.number0)
+        & (x.number1 == y.number1)
+        & (x.number2 == y.number2)
+        & (x.number3 == y.number3)
 }
 
 // 1 where two bytes differ.
@@ -97,7 +101,7 @@ fn kind_by(value: bool, name: bool) -> u32
 }
 
 // The kind of two colours, one of each file.
-fn kind_at(first: &[u8], x: Step, second: &[u8], y: Step) -> u32
+fn kind_at(first: &[u8], x: PaletteStep, second: &[u8], y: PaletteStep) -> u32
     ensures { λ r. ⌜ r ≡ kindAt (now (first .entry)) x (now (second .entry)) y ⌝ }
 {
     let value = same_numbers(x.numbers, y.numbers);

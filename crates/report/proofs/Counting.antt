@@ -17,12 +17,12 @@ use Rattle.acb.specs.Row.{RecordRow, givenOf}
 use Rattle.acb_read.specs.Walked.{step, givenIn, walked}
 use Rattle.acb_read.proofs.Walking.{walked-start, walked-turn, walked-end}
 use Rattle.palette.specs.Palette.{Value, samples, channels, PaletteColour}
-use Rattle.palette.specs.Step.{firstAt, viewOf, stepOf, toldStep}
+use Rattle.palette.specs.PaletteStep.{firstAt, viewOf, stepOf, toldPaletteStep}
 use Rattle.palette.specs.scaffold.Turn.{coloursIn, noColourAt, placeOf, kindSeen, valueNumbers, SoundValue, Turn}
 use Rattle.palette.specs.declared.Kind.{Kind}
 use Rattle.palette.specs.declared.Kind.the-variants.{Aco, Ase}
 use Rattle.palette.specs.declared.View.{View}
-use Rattle.palette.specs.declared.Step.{Step}
+use Rattle.palette.specs.declared.PaletteStep.{PaletteStep}
 use Rattle.palette.proofs.Turns.{in-turn, few, seen-kind, first-place}
 use Rattle.report.specs.Report.{none, many, one, plus, sum, bookPlace, valuePlace, namePlace, colourTotals, recordTotals, paletteTotals}
 use Rattle.report.specs.scaffold.Parts.{Low, tagPlace, unitsPlace, bookRow, rowOf, Counting, Shelved}
@@ -93,7 +93,7 @@ module _ (v : View) (s : List ℕ) (bytes : Bytes s) (n : ℕ) (t₀ t : List �
   pub colours-low : Low t 4294967293
   colours-low = lower (c .low) (omega (arith, few-colours))
 
-  pub count-turn : (x : Step) (a b : ℕ) (t′ : List ℕ) → toldStep x ≡ stepOf v s p → a ≡ tagPlace v (x .numbers .tag) → b ≡ unitsPlace (x .units) → t′ ≡ plus t (plus (one a) (one b)) → Counting v s n t₀ t′ (x .next) (i + 1)
+  pub count-turn : (x : PaletteStep) (a b : ℕ) (t′ : List ℕ) → toldPaletteStep x ≡ stepOf v s p → a ≡ tagPlace v (x .numbers .tag) → b ≡ unitsPlace (x .units) → t′ ≡ plus t (plus (one a) (one b)) → Counting v s n t₀ t′ (x .next) (i + 1)
   unfolding sum
   count-turn x a b t′ ex ea eb et =
       let k : Kind = kindSeen v in

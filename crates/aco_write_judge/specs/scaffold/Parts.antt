@@ -16,7 +16,7 @@ use Rattle.aco_write_judge.specs.declared.Record.{Record}
 use Rattle.aco_write_judge.specs.Writing.{swatchIn, sizes, foundIn}
 
 abbrev pub toldRecord : Record → RecordRow
-toldRecord r = record { space = r .space; samples = r .a ∷ r .b ∷ r .c ∷ r .d ∷ []; first = r .first; units = r .units; ink = r .ink }
+toldRecord r = record { space = r .space; samples = r .sample0 ∷ r .sample1 ∷ r .sample2 ∷ r .sample3 ∷ []; first = r .first; units = r .units; ink = r .ink }
 
 -- the faults of a record's colour and of its name
 abbrev pub colourFault : RecordRow → ℕ

@@ -28,14 +28,14 @@ returns : tie.Need-returns
 returns c =
     let f = c .before .before .before .before .before in
     let r = f .before .args .row in
-    ap (λ (g : RecordRow). accepted g) (colour-is (r .model) (r .a) (r .b) (r .c) (r .d) (f .before .pre .0) _ (sym (f .from-tag .ensures) ∙ c .before .before .before .colour .given .1) (omega arith) (omega arith) (omega arith) (omega arith) _ _ _)
-    ∙ ap₂ (λ (p k : ℕ). accepted (colourRow p (r .units) (r .model) (r .a ∷ r .b ∷ r .c ∷ r .d ∷ []) k)) (c .before .wide .ensures .0) (ink-is (r .ink) _ (c .ink-of .ensures) (f .before .pre .1))
+    ap (λ (g : RecordRow). accepted g) (colour-is (r .model) (r .channel0) (r .channel1) (r .channel2) (r .channel3) (f .before .pre .0) _ (sym (f .from-tag .ensures) ∙ c .before .before .before .colour .given .1) (omega arith) (omega arith) (omega arith) (omega arith) _ _ _)
+    ∙ ap₂ (λ (p k : ℕ). accepted (colourRow p (r .units) (r .model) (r .channel0 ∷ r .channel1 ∷ r .channel2 ∷ r .channel3 ∷ []) k)) (c .before .wide .ensures .0) (ink-is (r .ink) _ (c .ink-of .ensures) (f .before .pre .1))
 
 returns-2 : tie.Need-returns-2
 returns-2 c =
     let f = c .before .before .before in
     let r = f .before .args .row in
-    is-made (r .model) (r .a) (r .b) (r .c) (r .d) (f .before .pre .0) _ (sym (f .from-tag .ensures) ∙ c .before .number .given .1)
+    is-made (r .model) (r .channel0) (r .channel1) (r .channel2) (r .channel3) (f .before .pre .0) _ (sym (f .from-tag .ensures) ∙ c .before .number .given .1)
 
 pub coloured-spec : {M : Type 1} → statement M
 coloured-spec =

@@ -19,10 +19,10 @@ numbersAt c = record {
   first = c .before .place-of .result;
   units = c .units-of .result;
   model = c .before .before .before .before .before .before .before .u32-or-zero .result;
-  a = c .before .before .before .before .before .before .u32-or-zero2 .result;
-  b = c .before .before .before .before .before .u32-or-zero3 .result;
-  c = c .before .before .before .before .u32-or-zero4 .result;
-  d = c .before .before .before .u32-or-zero5 .result;
+  channel0 = c .before .before .before .before .before .before .u32-or-zero2 .result;
+  channel1 = c .before .before .before .before .before .u32-or-zero3 .result;
+  channel2 = c .before .before .before .before .u32-or-zero4 .result;
+  channel3 = c .before .before .before .u32-or-zero5 .result;
   ink = c .before .before .u16-or-zero3 .result;
 }
 

@@ -15,7 +15,7 @@ returns c =
     let s = c .before .before .before .before .before .before in
     let a = s .args in
     let g = a .given in
-    put-one (g .model) (a .n) (g .a) (g .b) (g .c) (g .d) (a .out .now) _ (a .at) (s .pre .1) (s .pre .0) (c .before .before .before .put-u32 .ensures) (c .if1 .taken)
+    put-one (g .model) (a .n) (g .channel0) (g .channel1) (g .channel2) (g .channel3) (a .out .now) _ (a .at) (s .pre .1) (s .pre .0) (c .before .before .before .put-u32 .ensures) (c .if1 .taken)
 
 add-put-u32 : tie.Need-add-put-u32
 add-put-u32 c = search needs
@@ -37,7 +37,7 @@ returns-2 c =
     let s = c .before .before .before .before .before .before .before .before .before .before .before .before .before .before .before in
     let a = s .args in
     let g = a .given in
-    put-three (g .model) (a .n) (g .a) (g .b) (g .c) (g .d) (a .out .now) _ (a .at) (s .pre .1) (s .pre .0) (c .before .before .before .before .before .before .before .before .before .before .before .before .put-u32 .ensures) _ _ (c .before .before .before .before .before .before .before .put-u322 .ensures) (c .before .before .before .put-u323 .ensures) (c .if2 .taken)
+    put-three (g .model) (a .n) (g .channel0) (g .channel1) (g .channel2) (g .channel3) (a .out .now) _ (a .at) (s .pre .1) (s .pre .0) (c .before .before .before .before .before .before .before .before .before .before .before .before .put-u32 .ensures) _ _ (c .before .before .before .before .before .before .before .put-u322 .ensures) (c .before .before .before .put-u323 .ensures) (c .if2 .taken)
 
 add-put-u32-3 : tie.Need-add-put-u32-3
 add-put-u32-3 c = search needs
@@ -53,7 +53,7 @@ returns-3 c =
     let s = c .before .before .before .before .before .before .before .before .before .before .before .before .before .before .before .before .before .before .before in
     let a = s .args in
     let g = a .given in
-    put-four (g .model) (a .n) (g .a) (g .b) (g .c) (g .d) (a .out .now) _ (a .at) (s .pre .1) (s .pre .0) (c .before .before .before .before .before .before .before .before .before .before .before .before .before .before .before .before .put-u32 .ensures) _ _ (c .before .before .before .before .before .before .before .before .before .before .before .put-u322 .ensures) (c .before .before .before .before .before .before .before .put-u323 .ensures) (s .pre .2) (c .before .before .before .before .before .before .before .before .before .before .before .before .before .if1 .left) (c .before .before .before .before .if2 .left) _ (c .before .before .put-u324 .ensures)
+    put-four (g .model) (a .n) (g .channel0) (g .channel1) (g .channel2) (g .channel3) (a .out .now) _ (a .at) (s .pre .1) (s .pre .0) (c .before .before .before .before .before .before .before .before .before .before .before .before .before .before .before .before .put-u32 .ensures) _ _ (c .before .before .before .before .before .before .before .before .before .before .before .put-u322 .ensures) (c .before .before .before .before .before .before .before .put-u323 .ensures) (s .pre .2) (c .before .before .before .before .before .before .before .before .before .before .before .before .before .if1 .left) (c .before .before .before .before .if2 .left) _ (c .before .before .put-u324 .ensures)
 
 pub put-channels-spec : {M : Type 1} → statement M
 put-channels-spec =

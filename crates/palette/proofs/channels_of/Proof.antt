@@ -4,7 +4,7 @@ use mathlib.Core.Path.{ap, ap₂, _∙_}
 use mathlib.Core.List.{List}
 use Rattle.colour.specs.Models.{traitsOf}
 use Rattle.colour.specs.declared.model.Traits.{Traits}
-use Rattle.palette.specs.Step.{five}
+use Rattle.palette.specs.PaletteStep.{five}
 use Rattle.palette.proofs.channels_of.Statement.{statement}
 use Rattle.palette.proofs.channels_of.Tie as tie
 

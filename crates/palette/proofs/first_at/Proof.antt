@@ -1,6 +1,6 @@
 use borrow.Author.Needs.{needs}
 use mathlib.Core.Path.{sym, ap, _∙_}
-use Rattle.palette.specs.Step.{firstAt}
+use Rattle.palette.specs.PaletteStep.{firstAt}
 use Rattle.palette.specs.declared.Kind.{Kind}
 use Rattle.palette.proofs.first_at.Statement.{statement}
 use Rattle.palette.proofs.first_at.Tie as tie

@@ -1,6 +1,6 @@
 use borrow.Author.Needs.{needs}
 use mathlib.Core.Path.{sym, ap, _∙_}
-use Rattle.palette.specs.Step.{colourNumbers}
+use Rattle.palette.specs.PaletteStep.{colourNumbers}
 use Rattle.palette.specs.declared.View.{View}
 use Rattle.palette.proofs.numbers_of.Statement.{statement}
 use Rattle.palette.proofs.numbers_of.Tie as tie

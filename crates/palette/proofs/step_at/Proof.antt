@@ -1,6 +1,6 @@
 use borrow.Author.Needs.{needs}
 use mathlib.Core.Path.{sym, ap, _∙_}
-use Rattle.palette.specs.Step.{stepOf}
+use Rattle.palette.specs.PaletteStep.{stepOf}
 use Rattle.palette.specs.declared.View.{View}
 use Rattle.palette.proofs.Answers.{samples-step, counterparts-step}
 use Rattle.palette.proofs.step_at.Statement.{statement}

@@ -10,7 +10,7 @@ use Rattle.walk.specs.Names.{namePart}
 use Rattle.aco_walk.specs.Walking.{walk, firstPlace}
 use Rattle.ase_walk.specs.Walking.{walk as aseWalk, firstPlace as aseFirst}
 use Rattle.palette.specs.Palette.{Value, samples, channels, PaletteColour, colours}
-use Rattle.palette.specs.Step.{five, colourNumbers, stepOf}
+use Rattle.palette.specs.PaletteStep.{five, colourNumbers, stepOf}
 use Rattle.palette.specs.declared.Kind.{Kind}
 use Rattle.palette.specs.declared.Kind.the-variants.{Aco, Ase}
 use Rattle.palette.specs.declared.View.{View}

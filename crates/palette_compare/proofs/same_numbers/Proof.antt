@@ -9,7 +9,7 @@ returns : tie.Need-returns
 unfolding sameNumbers
 returns c =
     let a = c .before .before .before .before .before .before .before .before .before .before .args in
-    five-tests (eqb (a .x .tag) (a .y .tag)) (eqb (a .x .a) (a .y .a)) (eqb (a .x .b) (a .y .b)) (eqb (a .x .c) (a .y .c)) (eqb (a .x .d) (a .y .d))
+    five-tests (eqb (a .x .tag) (a .y .tag)) (eqb (a .x .number0) (a .y .number0)) (eqb (a .x .number1) (a .y .number1)) (eqb (a .x .number2) (a .y .number2)) (eqb (a .x .number3) (a .y .number3))
 
 pub same-numbers-spec : {M : Type 1} → statement M
 same-numbers-spec = tie.close (tie.spec returns)

@@ -6,11 +6,11 @@ use lib.ListN.{length, drop, replicate}
 use lib.Seq.{sets}
 use Rattle.algebra.specs.Reader.{limit}
 use Rattle.walk.specs.Names.{namePart}
-use Rattle.palette.specs.Step.{viewOf, toldNumbers}
+use Rattle.palette.specs.PaletteStep.{viewOf, toldNumbers}
 use Rattle.palette.specs.scaffold.Turn.{coloursIn, placeOf, kindSeen}
 use Rattle.palette.specs.declared.Kind.{Kind}
 use Rattle.palette.specs.declared.View.{View}
-use Rattle.palette.specs.declared.Step.{Step}
+use Rattle.palette.specs.declared.PaletteStep.{PaletteStep}
 use Rattle.palette_compare.specs.Compare.{sameNumbers, kindBy, kinds, differences, rows}
 
 -- the kinds of all positions of two files
@@ -18,7 +18,7 @@ abbrev pub kindsIn : Kind → List ℕ → Kind → List ℕ → List ℕ
 kindsIn k s j t = kinds (coloursIn k s) (coloursIn j t)
 
 -- the kind of two colours that were stepped over, by their numbers and the bytes of their names
-abbrev pub kindAt : List ℕ → Step → List ℕ → Step → ℕ
+abbrev pub kindAt : List ℕ → PaletteStep → List ℕ → PaletteStep → ℕ
 kindAt s x t y = kindBy (sameNumbers (toldNumbers (x .numbers)) (toldNumbers (y .numbers))) (sameNumbers (namePart s (x .place) (x .units)) (namePart t (y .place) (y .units)))
 
 -- the shorter palette has n colours and the longer m, and past n the kind is k

@@ -8,7 +8,7 @@ use Rattle.algebra.specs.Chars.{chars}
 use Rattle.algebra.specs.Reader.{pick, limit}
 use Rattle.acb.specs.Row.{RecordRow}
 use Rattle.acb_read.specs.Walked.{walked}
-use Rattle.palette.specs.Step.{viewOf}
+use Rattle.palette.specs.PaletteStep.{viewOf}
 use Rattle.palette.specs.scaffold.Turn.{coloursIn, placeOf, kindSeen}
 use Rattle.palette.specs.declared.View.{View}
 use Rattle.palette.specs.declared.View.the-variants.{Samples, Counterparts, Channels as ChannelBits}

@@ -18,7 +18,7 @@ use Rattle.palette.specs.declared.Kind.the-variants.{Aco, Ase}
 use Rattle.palette.specs.declared.View.{View}
 use Rattle.palette.specs.declared.View.the-variants.{Samples, Counterparts, Channels as ChannelBits}
 use Rattle.palette.specs.declared.Numbers.{Numbers}
-use Rattle.palette.specs.declared.Step.{Step}
+use Rattle.palette.specs.declared.PaletteStep.{PaletteStep}
 
 -- the place of the first colour
 abbrev pub firstAt : Kind → List ℕ → ℕ
@@ -88,7 +88,7 @@ stepOf ChannelBits s at = aseStep (aseCall (aseWalk s at))
 -- ---- what each answer of the code says
 
 abbrev pub toldNumbers : Numbers → List ℕ
-toldNumbers n = n .tag ∷ n .a ∷ n .b ∷ n .c ∷ n .d ∷ []
+toldNumbers n = n .tag ∷ n .number0 ∷ n .number1 ∷ n .number2 ∷ n .number3 ∷ []
 
-abbrev pub toldStep : Step → List ℕ × ℕ × ℕ × ℕ
-toldStep r = (toldNumbers (r .numbers), r .place, r .units, r .next)
+abbrev pub toldPaletteStep : PaletteStep → List ℕ × ℕ × ℕ × ℕ
+toldPaletteStep r = (toldNumbers (r .numbers), r .place, r .units, r .next)
