@@ -20,7 +20,7 @@ enum-known-n c = search needs
 judge-requires-2 : tie.Need-judge-requires-2
 judge-requires-2 c κs = search needs
 
-enum-known-number-2 : tie.Need-enum-known-number2
+enum-known-number-2 : tie.Need-enum-known-number-2
 enum-known-number-2 c = search needs
 
 enum-known-m : tie.Need-enum-known-m
