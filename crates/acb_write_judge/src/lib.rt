@@ -1,5 +1,6 @@
 // ACB colour books: a header and the records of a run of numbers, judged as the reader would judge the file made of
 // them.
+#![tactic(auto)]
 ghost use Rattle.std.specs.Prelude.{◌≡◌, [], ◌+◌, ◌*◌, ◌≤◌, ◌<◌, leb, length};
 ghost use Rattle.algebra.specs.Reader.{pick, limit};
 ghost use Rattle.algebra.specs.Faults.{faults};

@@ -1,4 +1,5 @@
 // ACO swatches: the layout, whose definitions stand in specs/, and its numbers for the code.
+#![tactic(auto)]
 
 // The longest file that is read.
 pub const LIMIT: usize = 16777216;

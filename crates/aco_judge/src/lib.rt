@@ -1,4 +1,6 @@
 // ACO swatches: judging a file by the layout.
+#![tactic(auto)]
+
 ghost use Rattle.std.specs.Prelude.{◌≡◌, true, ◌+◌, ◌*◌, ◌≤◌, length, get_or};
 ghost use Rattle.algebra.specs.Reader.{done, each};
 ghost use Rattle.fields.specs.Answer.{told_field_end};

@@ -1,4 +1,6 @@
 // Lists the ACO file on standard input: its header, a line a colour, `end`; or the refusal.
+#![tactic(auto)]
+
 ghost use Rattle.std.specs.Prelude.{◌≡◌, ◌≤◌, ◌<◌, length, take};
 ghost use Rattle.algebra.specs.Numbers.{joined};
 ghost use Rattle.aco.specs.Reading.{aco};

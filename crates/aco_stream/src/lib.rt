@@ -4,6 +4,7 @@
 // STORE bytes for the colours of list 1. A file is a row of items: list 1's heading, its colours,
 // list 2's heading, its records, each up to its name's units, and the units. Bytes of an item that
 // is not whole yet are carried. An item is read from its bytes alone, by the whole-file reader.
+#![tactic(auto)]
 ghost use Rattle.std.specs.Prelude.{◌≡◌, ◌+◌, ◌-◌, ◌≤◌, ◌<◌, length, false};
 ghost use Rattle.algebra.specs.Reader.{limit};
 ghost use Rattle.aco_chunks.specs.Chunks.{size, item, next, after, kept, chunk, cut, ending};

@@ -1,4 +1,5 @@
 // ACO swatches one a call: a step from any place of any file, and the walker above it.
+#![tactic(auto)]
 ghost use Rattle.std.specs.Prelude.{◌≡◌, length};
 ghost use Rattle.colour.specs.declared.space.Colour.{Colour};
 ghost use Rattle.algebra.specs.Reader.{refuse};

@@ -1,5 +1,6 @@
 // ASE palettes one a call: a block step and a colour step from any place of any file, and the
 // walker above them.
+#![tactic(auto)]
 ghost use Rattle.std.specs.Prelude.{◌≡◌, false, ◌∷◌, [], ◌+◌, ◌-◌, ◌^◌, ◌≤◌, ◌<◌, eqb, length};
 ghost use Rattle.algebra.specs.Reader.{pick, refuse};
 ghost use Rattle.ase.specs.Reading.{ase};

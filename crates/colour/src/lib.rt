@@ -1,5 +1,7 @@
 // Colours: the spaces of ACO files with their samples, the models of ASE files with their
 // channels, and inks.
+#![tactic(auto)]
+
 mod channel;
 mod ink;
 mod model;

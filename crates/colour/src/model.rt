@@ -16,7 +16,7 @@ pub struct Traits {
     pub full: u16,
 }
 
-#[derive(Drop)]
+#[derive(Clone, Copy)]
 pub enum Model {
     Rgb,
     Cmyk,

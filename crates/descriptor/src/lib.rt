@@ -1,4 +1,5 @@
 // Descriptors: the layout, whose definitions stand in specs/, and its tags for the code.
+#![tactic(auto)]
 
 // The types of an item.
 pub const BOOL: u32 = 0x626f_6f6c;

@@ -4,6 +4,7 @@
 // A file is judged first, so that the number of its rows is known. Then a loop goes over its heads,
 // without judging again. The levels that are open stand in an array, and a level that ends gives its
 // row's length and next sibling.
+#![tactic(auto)]
 ghost use Rattle.std.specs.Prelude.{◌≡◌, ◌+◌, ◌≤◌, ◌<◌, eqb, length, set, ◌∷◌, []};
 ghost use Rattle.algebra.specs.Reader.{pick};
 ghost use Rattle.descriptor.specs.Reading.{descriptor};

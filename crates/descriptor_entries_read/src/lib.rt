@@ -4,6 +4,7 @@
 // A file is judged first, so that the number of its rows is known. Then a loop goes over its heads,
 // without judging again, with the levels that are open in an array. An entry is made in an array of
 // its own, by the fields of its kind, and stored as a row.
+#![tactic(auto)]
 ghost use Rattle.std.specs.Prelude.{◌≡◌, ◌+◌, ◌*◌, ◌≤◌, ◌<◌, length, set};
 ghost use Rattle.std.proofs.lemmas.List.Edits.{sets};
 ghost use Rattle.algebra.specs.Numbers.{num};

@@ -3,6 +3,7 @@
 //
 // A number stands for itself; a length or count at a place of the entry is followed by the place of
 // its bytes in the lent text.
+#![tactic(auto)]
 
 // How many numbers an entry has.
 pub const WIDTH: usize = 16;

@@ -1,6 +1,7 @@
 // Descriptors: their fields at a place of a file.
 //
 // Each reader takes any place, and answers where its field ends, or a refusal.
+#![tactic(auto)]
 ghost use Rattle.std.specs.Prelude.{◌≡◌, ◌+◌, ◌*◌, ◌<◌, length};
 ghost use Rattle.algebra.specs.Numbers.{num};
 ghost use Rattle.fields.specs.Answer.{told_field_end};

@@ -7,6 +7,7 @@
 // In the cycle only `list` is called at several places; `object`, which only hands on to it, counts
 // for nothing. The compiler then makes one function of all, and a member without members costs no
 // call.
+#![tactic(auto)]
 ghost use Rattle.std.specs.Prelude.{◌≡◌, ◌≤◌, ◌<◌, length};
 ghost use Rattle.fields.specs.Answer.{told_field_end};
 ghost use Rattle.descriptor.specs.Reading.{id, class, children, ref_item, reference_of, array_pair, array_of, item, object_of, root, descriptor};

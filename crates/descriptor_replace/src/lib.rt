@@ -3,6 +3,7 @@
 // The table is compared with the file first. The value of a row of one of the five kinds ends where the
 // row ends, so that its place comes from the table: the file is copied, and the new value stored over
 // the old.
+#![tactic(auto)]
 ghost use Rattle.std.specs.Prelude.{◌≡◌, ◌+◌, ◌≤◌, ◌<◌, length};
 ghost use Rattle.std.proofs.lemmas.List.Edits.{sets};
 ghost use Rattle.algebra.specs.Numbers.{be};

@@ -2,6 +2,8 @@
 //
 // Each reader takes any place, and answers with the next place or that the file ends too early.
 // Each store leaves the bytes alone where they have no room.
+#![tactic(auto)]
+
 mod number;
 mod store;
 

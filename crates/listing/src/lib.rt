@@ -1,6 +1,7 @@
 // What every listing program needs: text in a buffer that is written out when full, refusals, and
 // input that is too long. The contracts say what a buffer holds: of what C's `read` and `write` do
 // outside the program nothing is assumed, so nothing is said.
+#![tactic(auto)]
 ghost use Rattle.std.specs.Prelude.{◌≡◌, ◌%◌, leb, length};
 ghost use Rattle.io.specs.Counts.{IsPrefixLen};
 ghost use Rattle.algebra.specs.Numbers.{joined};

@@ -1,4 +1,6 @@
 // Names: counted text units with a closing zero.
+#![tactic(auto)]
+
 ghost use Rattle.std.specs.Prelude.{◌≡◌, ◌+◌, ◌*◌, ◌/◌, ◌%◌, ◌<◌, ◌≤◌, true, false, length};
 ghost use Rattle.algebra.specs.Numbers.{num, nums};
 ghost use Rattle.algebra.specs.Reader.{done};

@@ -43,6 +43,7 @@ module _ {A : Type 0} {by : A → A → Order} (t : Total by) where
   pub before-in : (a x : A) (l : List A) → Before by a l → In x l → by a x ≡ less
   before-in a x (b ∷ more) h (first e) = ap (by a) e ∙ h.0
   before-in a x (b ∷ more) h (later i) = before-in a x more h.1 i
+  before-in a x [] h x3 = elim x3 [ ]
 
   pub in-before : (a : A) (l : List A) → ((x : A) → In x l → by a x ≡ less) → Before by a l
   in-before a [] h = tt
@@ -96,6 +97,7 @@ module _ {A : Type 0} {by : A → A → Order} (t : Total by) where
           out (inr k) = inr (later k)
       go false (first e) ih = inl e
       go false (later j) ih = inr j
+  in_insert a x [] (later x5) = elim x5 [ ]
 
   pub insert-self : (a : A) (l : List A) → In a (insert by a l)
   unfolding insert
@@ -114,6 +116,7 @@ module _ {A : Type 0} {by : A → A → Order} (t : Total by) where
       go true (first e) ih = first e
       go true (later j) ih = later (ih j)
       go false i ih = later i
+  insert-keeps a x [] i = elim i [ ]
 
   pub insert-length : (a : A) (l : List A) → length (insert by a l) ≡ length l + 1
   unfolding insert
@@ -155,11 +158,13 @@ module _ {A : Type 0} {by : A → A → Order} (t : Total by) where
       go : (x ≡ a) ⊎ In x (sorted by more) → (In x (sorted by more) → In x more) → In x (a ∷ more)
       go (inl e) ih = first e
       go (inr j) ih = later (ih j)
+  sorted-in x [] i = elim i [ ]
 
   pub in-sorted : (x : A) (l : List A) → In x l → In x (sorted by l)
   unfolding sorted
   in-sorted x (a ∷ more) (first e) = subst (λ (y : A). In y (insert by a (sorted by more))) (sym e) (insert-self a (sorted by more))
   in-sorted x (a ∷ more) (later i) = insert-keeps a x (sorted by more) (in-sorted x more i)
+  in-sorted x [] x'' = elim x'' [ ]
 
   pub sorted-length : (l : List A) → length (sorted by l) ≡ length l
   unfolding sorted

@@ -1,4 +1,5 @@
 // A season's report: exact totals over files, a file a call.
+#![tactic(auto)]
 ghost use Rattle.std.specs.Prelude.{◌≡◌, true, map, ◌+◌, ◌<◌, ◌^◌, length, get_or};
 ghost use Rattle.acb.specs.Reading.{acb};
 ghost use Rattle.acb_read.specs.Walked.{walked};

@@ -1,4 +1,5 @@
 // Image resource blocks: the layout, whose definitions stand in specs/, and its numbers for the code.
+#![tactic(auto)]
 
 // The longest section that is read, and the longest output that is written.
 pub const LIMIT: usize = 16777216;

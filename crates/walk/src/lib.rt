@@ -1,5 +1,7 @@
 // What a walk is, and the law of its calls, for every format: specs/Walk.antt and proofs/Calls.antt.
 // Names that a walk gives, as parts of the file.
+#![tactic(auto)]
+
 ghost use Rattle.std.specs.Prelude.{◌≡◌};
 ghost use Rattle.walk.specs.Names.{name_part};
 

@@ -1,0 +1,24 @@
+use Rattle.std.proofs.Common.{◌≡◌, ◌+◌, ◌-◌, ◌*◌, ◌≤◌, true, sym, ◌∙◌, ⊎_elim, arith, rules, eq-eqb, ne_eqb}
+use Rattle.algebra.proofs.Texts.{swapped-zero, any-start, any_found, any-on, any-end}
+use Rattle.names.proofs.any_one_by_one.Goals as goal
+
+pub loop-i-init : goal.loop-i-init
+loop-i-init c = (omega arith, any-start _ _ _)
+
+pub loop-i-preserved : goal.loop-i-preserved
+loop-i-preserved c =
+    let l = c.loop-i in
+    let a = c.args in
+    let e = sym (swapped-zero _ _ c.swapped.ensures) in (
+      omega arith,
+      ⊎_elim
+          (λ w. rw w.1 (any_found a.s.now a.at a.n _ l.found l.i l.invariant.1 c.loop-i-test.true (e ∙ eq-eqb _ _ w.0.taken)))
+          (λ w. rw w.1 (any-on a.s.now a.at a.n _ l.found l.i l.invariant.1 c.loop-i-test.true (e ∙ ne_eqb _ _ w.0.left)))
+          c.if-swapped-eq0.branch,
+    )
+
+pub returns : goal.returns
+returns c =
+    let l = c.loop-i in
+    let a = c.args in
+    sym (any-end a.s.now a.at a.n _ l.found l.i l.invariant.1 c.loop-i-test.false)

@@ -1,0 +1,17 @@
+use Rattle.std.proofs.Common.{◌≡◌, ◌-◌, ◌*◌, ◌≤◌, false, arith, rules}
+use Rattle.algebra.proofs.Lanes.{not-false, clear-start, clear-join}
+use Rattle.names.proofs.clear_fours.Goals as goal
+
+pub loop-i-init : goal.loop-i-init
+loop-i-init c = (omega arith, clear-start _ _)
+
+pub returns-then-not-is_clear : goal.returns-then-not-is_clear
+returns-then-not-is_clear c = c.loop-i.invariant
+
+pub loop-i-preserved : goal.loop-i-preserved
+loop-i-preserved c =
+    let l = c.loop-i in
+    (omega arith, clear-join _ _ l.i 32 l.invariant.1 (c.is_clear.ensures c.if-not-is_clear.false))
+
+pub returns : goal.returns
+returns c = c.loop-i.invariant

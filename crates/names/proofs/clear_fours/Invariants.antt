@@ -1,0 +1,10 @@
+use Rattle.std.proofs.Common.{◌≡◌, ◌-◌, ◌*◌, ◌≤◌, false, arith, rules}
+use Rattle.algebra.specs.Numbers.{nums}
+use Rattle.algebra.specs.Text.{any_zero}
+use Rattle.names.proofs.clear_fours.Given as goal
+
+abbrev pub invariant-loop-i : goal.invariant-loop-i
+invariant-loop-i l = (l.i ≤ l.k) × (any_zero (nums 2 (4 * l.i) l.s l.at) ≡ false)
+
+abbrev pub decreases-loop-i : goal.decreases-loop-i
+decreases-loop-i l = l.k - l.i

@@ -1,0 +1,21 @@
+use Rattle.std.proofs.Common.{sym, ap, ◌∙◌, arith, rules}
+use Rattle.fields.specs.Answer.{told16}
+use Rattle.algebra.proofs.Laws.{field_next}
+use Rattle.algebra.proofs.Texts.{name-short, name-counted}
+use Rattle.names.proofs.name16_at.Goals as goal
+
+pub returns-in_default : goal.returns-in_default
+returns-in_default c =
+    let a = c.args in
+    sym (name-short 2 a.s.now a.at (sym (ap (told16 a.at) c.in_default.is) ∙ c.u16_at.ensures))
+
+pub units_at-requires : goal.units_at-requires
+units_at-requires c =
+    let a = c.args in
+    let f = field_next 2 a.s.now a.at _ _ (sym (ap (told16 a.at) c.in-Is.is) ∙ c.u16_at.ensures) in
+    omega arith
+
+pub returns : goal.returns
+returns c =
+    let a = c.args in
+    c.units_at.ensures ∙ sym (name-counted 2 a.s.now a.at _ _ (sym (ap (told16 a.at) c.in-Is.is) ∙ c.u16_at.ensures))
