@@ -2,7 +2,7 @@
 // Which item comes next, and what is known of those before it.
 #![tactic(auto)]
 
-#[derive(Drop)]
+#[derive(Clone, Copy)]
 pub enum Stage {
     // list 1's version and count
     First,
