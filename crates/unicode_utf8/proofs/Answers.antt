@@ -17,8 +17,8 @@ use Rattle.algebra.proofs.Places.{length-nums, getD-nums, length_part}
 use Rattle.algebra.proofs.Writing.{needs-no, needs-all, writes-no, writes-none, writes-all}
 use Rattle.unicode_text.specs.Grammar.{Units}
 use Rattle.unicode_text.specs.Reading.{utf8, scalars}
-use Rattle.unicode.specs.Answer.{units_fault}
-use Rattle.unicode.specs.scaffold.Steps.{units_within}
+use Rattle.unicode_utf8.specs.Answer.{units_fault}
+use Rattle.unicode_utf8.specs.scaffold.Steps.{units_within}
 
 -- ---- what is written, by the fault x and the bytes b
 

@@ -13,7 +13,7 @@ use Rattle.algebra.specs.Reader.{field, or_zero}
 use Rattle.algebra.specs.Numbers.{num, nums}
 use Rattle.algebra.proofs.Laws.{field_in, field-short}
 use Rattle.algebra.proofs.Places.{length-nums, getD-nums}
-use Rattle.unicode.specs.scaffold.Steps.{units_within}
+use Rattle.unicode_utf8.specs.scaffold.Steps.{units_within}
 
 -- ---- a name's bytes
 

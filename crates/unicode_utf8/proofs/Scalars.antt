@@ -9,7 +9,7 @@ use Rattle.algebra.specs.Reader.{pick, limit}
 use mathlib.Core.List.{List}
 use lib.ListN.{length}
 use Rattle.unicode_text.specs.Reading.{is_high, is_low, paired, single}
-use Rattle.unicode.specs.Answer.{name_fault}
+use Rattle.unicode_utf8.specs.Answer.{name_fault}
 use Rattle.unicode_text.specs.scaffold.Steps.{is_pair, scalar_at, taken}
 use Rattle.unicode_text.proofs.Laws.{within, below, past, bounds, and-true, and_no}
 

@@ -3,8 +3,8 @@ ghost use Rattle.std.specs.Prelude.{◌≡◌, ◌≤◌, ◌<◌, leb, length, 
 ghost use Rattle.std.proofs.lemmas.List.Edits.{sets};
 ghost use Rattle.fields.specs.Answer.{told_written};
 ghost use Rattle.unicode_text.specs.Reading.{utf8 as bytes_of};
-ghost use Rattle.unicode.specs.Answer.{name_fault, length_of_name, name_written};
-ghost use Rattle.unicode.specs.scaffold.Steps.{units_within};
+ghost use Rattle.unicode_utf8.specs.Answer.{name_fault, length_of_name, name_written};
+ghost use Rattle.unicode_utf8.specs.scaffold.Steps.{units_within};
 
 use crate::{LIMIT, scalar};
 use fields::Written;

@@ -3,7 +3,7 @@ ghost use Rattle.std.specs.Prelude.{◌≡◌, ◌*◌, ◌≤◌, ◌<◌, leb,
 ghost use Rattle.std.proofs.lemmas.List.Edits.{sets};
 ghost use Rattle.fields.specs.Answer.{told_written};
 ghost use Rattle.unicode_text.specs.Reading.{utf8 as bytes_of};
-ghost use Rattle.unicode.specs.Answer.{length_of, written};
+ghost use Rattle.unicode_utf8.specs.Answer.{length_of, written};
 
 use crate::{LIMIT, scalar};
 use fields::Written;

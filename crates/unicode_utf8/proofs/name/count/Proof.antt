@@ -2,12 +2,12 @@ use Prim.Native.Nat.{◌-◌}
 use native.Mathlib.Omega.{arith}
 use lib.ListN.{length}
 use borrow.Author.Rules.{rules}
-use Rattle.unicode.specs.scaffold.Steps.{units_within}
+use Rattle.unicode_utf8.specs.scaffold.Steps.{units_within}
 use Rattle.unicode_text.proofs.Laws.{taken-some}
-use Rattle.unicode.proofs.Laws.{length-units}
-use Rattle.unicode.proofs.Loops.{Counting, count-start, count-ascii, count_next, count-end}
-use Rattle.unicode.proofs.name.count.Statement.{statement}
-use Rattle.unicode.proofs.name.count.Tie as tie
+use Rattle.unicode_utf8.proofs.Laws.{length-units}
+use Rattle.unicode_utf8.proofs.Loops.{Counting, count-start, count-ascii, count_next, count-end}
+use Rattle.unicode_utf8.proofs.name.count.Statement.{statement}
+use Rattle.unicode_utf8.proofs.name.count.Tie as tie
 
 abbrev invariant-loop : tie.invariant-loop
 invariant-loop name n₀ i₀ n i = Counting (units_within name) n i

@@ -1,7 +1,7 @@
 use native.Mathlib.Omega.{arith}
-use Rattle.unicode.proofs.Scalars.{fault-long, fault-cut, fault-none}
-use Rattle.unicode.proofs.name.fault.Statement.{statement}
-use Rattle.unicode.proofs.name.fault.Tie as tie
+use Rattle.unicode_utf8.proofs.Scalars.{fault-long, fault-cut, fault-none}
+use Rattle.unicode_utf8.proofs.name.fault.Statement.{statement}
+use Rattle.unicode_utf8.proofs.name.fault.Tie as tie
 
 returns : tie.Need-returns
 returns c = let a = c.before.args in fault-long a.file.now a.at a.units (omega arith)

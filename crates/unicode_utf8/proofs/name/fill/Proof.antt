@@ -2,12 +2,12 @@ use Prim.Native.Nat.{◌-◌}
 use native.Mathlib.Omega.{arith}
 use lib.ListN.{length}
 use borrow.Author.Rules.{rules}
-use Rattle.unicode.specs.scaffold.Steps.{units_within}
+use Rattle.unicode_utf8.specs.scaffold.Steps.{units_within}
 use Rattle.unicode_text.proofs.Laws.{taken-some}
-use Rattle.unicode.proofs.Laws.{length-units}
-use Rattle.unicode.proofs.Loops.{Filling, fill_start, fill_one, fill-ascii, fill-room, fill-next, fill_end}
-use Rattle.unicode.proofs.name.fill.Statement.{statement}
-use Rattle.unicode.proofs.name.fill.Tie as tie
+use Rattle.unicode_utf8.proofs.Laws.{length-units}
+use Rattle.unicode_utf8.proofs.Loops.{Filling, fill_start, fill_one, fill-ascii, fill-room, fill-next, fill_end}
+use Rattle.unicode_utf8.proofs.name.fill.Statement.{statement}
+use Rattle.unicode_utf8.proofs.name.fill.Tie as tie
 
 abbrev invariant-loop : tie.invariant-loop
 invariant-loop name out₀ n₀ i₀ out n i = Filling (units_within name) out₀ out n i

@@ -5,14 +5,14 @@ use lib.Dec.{leb}
 use lib.ListN.{length}
 use Rattle.unicode_text.specs.Reading.{utf8}
 use borrow.Author.Tests.{le-leb}
-use Rattle.unicode.specs.scaffold.Steps.{units_within}
-use Rattle.unicode.proofs.Laws.{length-units}
-use Rattle.unicode.proofs.Answers.{units_in}
+use Rattle.unicode_utf8.specs.scaffold.Steps.{units_within}
+use Rattle.unicode_utf8.proofs.Laws.{length-units}
+use Rattle.unicode_utf8.proofs.Answers.{units_in}
 use Rattle.unicode_text.specs.Grammar.{Units}
 use Rattle.unicode_text.proofs.Short.{short}
 use borrow.Author.Rules.{rules}
-use Rattle.unicode.proofs.name.has_room.Statement.{statement}
-use Rattle.unicode.proofs.name.has_room.Tie as tie
+use Rattle.unicode_utf8.proofs.name.has_room.Statement.{statement}
+use Rattle.unicode_utf8.proofs.name.has_room.Tie as tie
 
 mul-if1 : tie.Need-overflow-mul-if1
 mul-if1 c = search rules

@@ -11,13 +11,13 @@ use Rattle.algebra.specs.Store.{part}
 use Rattle.algebra.proofs.Places.{length_part}
 use Rattle.algebra.proofs.Writing.{needs-no, needs-all}
 use Rattle.unicode_text.specs.Reading.{utf8}
-use Rattle.unicode.specs.Answer.{name_fault}
-use Rattle.unicode.specs.scaffold.Steps.{units_within}
-use Rattle.unicode.proofs.Scalars.{fault-inv}
-use Rattle.unicode.proofs.Answers.{gives_none, gives-short, gives_all, part-units, no-units}
+use Rattle.unicode_utf8.specs.Answer.{name_fault}
+use Rattle.unicode_utf8.specs.scaffold.Steps.{units_within}
+use Rattle.unicode_utf8.proofs.Scalars.{fault-inv}
+use Rattle.unicode_utf8.proofs.Answers.{gives_none, gives-short, gives_all, part-units, no-units}
 use borrow.Author.Rules.{rules}
-use Rattle.unicode.proofs.name.name_utf8.Statement.{statement}
-use Rattle.unicode.proofs.name.name_utf8.Tie as tie
+use Rattle.unicode_utf8.proofs.name.name_utf8.Statement.{statement}
+use Rattle.unicode_utf8.proofs.name.name_utf8.Tie as tie
 
 fault-requires : tie.Need-fault-requires
 fault-requires c κs = search rules

@@ -1,13 +1,13 @@
 use mathlib.Core.Path.{◌∙◌}
 use native.Mathlib.Omega.{arith}
-use Rattle.unicode.proofs.Laws.{unit-is}
+use Rattle.unicode_utf8.proofs.Laws.{unit-is}
 use borrow.Author.Rules.{rules}
-use Rattle.unicode.proofs.name.unit_at.Statement.{statement}
-use Rattle.unicode.proofs.name.unit_at.Tie as tie
-use Rattle.unicode.proofs.name.unit_at.Reads as reads
-use Rattle.unicode.proofs.name.unit_at.Lts as lts
+use Rattle.unicode_utf8.proofs.name.unit_at.Statement.{statement}
+use Rattle.unicode_utf8.proofs.name.unit_at.Tie as tie
+use Rattle.unicode_utf8.proofs.name.unit_at.Reads as reads
+use Rattle.unicode_utf8.proofs.name.unit_at.Lts as lts
 use Rattle.fields.proofs.u16_or_zero.Reads as u16-or-zero-reads
-use Rattle.unicode.proofs.scalar.wide.Reads as wide-reads
+use Rattle.unicode_utf8.proofs.scalar.wide.Reads as wide-reads
 
 -- src/name.rt:20:44
 mul-u16-or-zero : tie.Need-overflow-mul-u16-or-zero

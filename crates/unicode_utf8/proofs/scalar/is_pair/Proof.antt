@@ -1,6 +1,6 @@
-use Rattle.unicode.proofs.Scalars.{no-pair, pair-low}
-use Rattle.unicode.proofs.scalar.is_pair.Statement.{statement}
-use Rattle.unicode.proofs.scalar.is_pair.Tie as tie
+use Rattle.unicode_utf8.proofs.Scalars.{no-pair, pair-low}
+use Rattle.unicode_utf8.proofs.scalar.is_pair.Statement.{statement}
+use Rattle.unicode_utf8.proofs.scalar.is_pair.Tie as tie
 
 returns : tie.Need-returns
 returns c = let a = c.before.args in no-pair a.u a.v c.if1.true

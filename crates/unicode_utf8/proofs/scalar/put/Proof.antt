@@ -6,10 +6,10 @@ use native.Mathlib.Numerals.{unary_clauses}
 use lib.ListN.{length, length-set}
 use lib.Seq.{sets}
 use Rattle.unicode_text.proofs.Laws.{ascii-bytes, bytes-two, bytes-three, bytes-four}
-use Rattle.unicode.proofs.Laws.{set-two, set-three, set-four}
+use Rattle.unicode_utf8.proofs.Laws.{set-two, set-three, set-four}
 use borrow.Author.Rules.{rules}
-use Rattle.unicode.proofs.scalar.put.Statement.{statement}
-use Rattle.unicode.proofs.scalar.put.Tie as tie
+use Rattle.unicode_utf8.proofs.scalar.put.Statement.{statement}
+use Rattle.unicode_utf8.proofs.scalar.put.Tie as tie
 
 cast-out : tie.Need-overflow-cast-out
 cast-out c = search rules

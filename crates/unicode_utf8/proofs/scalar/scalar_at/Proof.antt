@@ -1,9 +1,9 @@
 use mathlib.Core.Path.{sym, ◌∙◌}
 use native.Mathlib.Omega.{arith}
 use borrow.Author.Rules.{rules}
-use Rattle.unicode.proofs.Scalars.{pair_is, scalar-pair, scalar-lone, scalar-own}
-use Rattle.unicode.proofs.scalar.scalar_at.Statement.{statement}
-use Rattle.unicode.proofs.scalar.scalar_at.Tie as tie
+use Rattle.unicode_utf8.proofs.Scalars.{pair_is, scalar-pair, scalar-lone, scalar-own}
+use Rattle.unicode_utf8.proofs.scalar.scalar_at.Statement.{statement}
+use Rattle.unicode_utf8.proofs.scalar.scalar_at.Tie as tie
 
 is-pair-requires : tie.Need-is-pair-requires
 is-pair-requires c κs = search rules

@@ -2,9 +2,9 @@ use mathlib.Core.Path.{sym, ◌∙◌}
 use mathlib.Core.Bool.{true, false}
 use native.Mathlib.Omega.{arith}
 use borrow.Author.Rules.{rules}
-use Rattle.unicode.proofs.Scalars.{taken_is}
-use Rattle.unicode.proofs.scalar.taken_at.Statement.{statement}
-use Rattle.unicode.proofs.scalar.taken_at.Tie as tie
+use Rattle.unicode_utf8.proofs.Scalars.{taken_is}
+use Rattle.unicode_utf8.proofs.scalar.taken_at.Statement.{statement}
+use Rattle.unicode_utf8.proofs.scalar.taken_at.Tie as tie
 
 is-pair-requires : tie.Need-is-pair-requires
 is-pair-requires c κs = search rules

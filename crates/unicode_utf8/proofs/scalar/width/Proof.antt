@@ -2,8 +2,8 @@ use mathlib.Core.Path.{sym, ap}
 use native.Mathlib.Omega.{arith}
 use lib.ListN.{length}
 use Rattle.unicode_text.proofs.Laws.{ascii-bytes, bytes-two, bytes-three, bytes-four}
-use Rattle.unicode.proofs.scalar.width.Statement.{statement}
-use Rattle.unicode.proofs.scalar.width.Tie as tie
+use Rattle.unicode_utf8.proofs.scalar.width.Statement.{statement}
+use Rattle.unicode_utf8.proofs.scalar.width.Tie as tie
 
 returns : tie.Need-returns
 returns c = (sym (ap length (ascii-bytes _ (omega arith))), omega arith)

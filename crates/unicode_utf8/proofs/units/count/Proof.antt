@@ -3,9 +3,9 @@ use native.Mathlib.Omega.{arith}
 use lib.ListN.{length}
 use borrow.Author.Rules.{rules}
 use Rattle.unicode_text.proofs.Laws.{taken-some}
-use Rattle.unicode.proofs.Loops.{Counting, count-start, count-ascii, count_next, count-end}
-use Rattle.unicode.proofs.units.count.Statement.{statement}
-use Rattle.unicode.proofs.units.count.Tie as tie
+use Rattle.unicode_utf8.proofs.Loops.{Counting, count-start, count-ascii, count_next, count-end}
+use Rattle.unicode_utf8.proofs.units.count.Statement.{statement}
+use Rattle.unicode_utf8.proofs.units.count.Tie as tie
 
 abbrev invariant-loop : tie.invariant-loop
 invariant-loop units n₀ i₀ n i = Counting units n i

@@ -3,9 +3,9 @@ use native.Mathlib.Omega.{arith}
 use lib.ListN.{length}
 use borrow.Author.Rules.{rules}
 use Rattle.unicode_text.proofs.Laws.{taken-some}
-use Rattle.unicode.proofs.Loops.{Filling, fill_start, fill_one, fill-ascii, fill-room, fill-next, fill_end}
-use Rattle.unicode.proofs.units.fill.Statement.{statement}
-use Rattle.unicode.proofs.units.fill.Tie as tie
+use Rattle.unicode_utf8.proofs.Loops.{Filling, fill_start, fill_one, fill-ascii, fill-room, fill-next, fill_end}
+use Rattle.unicode_utf8.proofs.units.fill.Statement.{statement}
+use Rattle.unicode_utf8.proofs.units.fill.Tie as tie
 
 abbrev invariant-loop : tie.invariant-loop
 invariant-loop units out₀ n₀ i₀ out n i = Filling units out₀ out n i

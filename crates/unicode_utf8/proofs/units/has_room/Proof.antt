@@ -8,8 +8,8 @@ use borrow.Author.Tests.{le-leb}
 use Rattle.unicode_text.specs.Grammar.{Units}
 use Rattle.unicode_text.proofs.Short.{short}
 use borrow.Author.Rules.{rules}
-use Rattle.unicode.proofs.units.has_room.Statement.{statement}
-use Rattle.unicode.proofs.units.has_room.Tie as tie
+use Rattle.unicode_utf8.proofs.units.has_room.Statement.{statement}
+use Rattle.unicode_utf8.proofs.units.has_room.Tie as tie
 
 mul-if1 : tie.Need-overflow-mul-if1
 mul-if1 c = search rules

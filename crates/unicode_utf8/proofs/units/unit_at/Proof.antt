@@ -2,11 +2,11 @@ use mathlib.Core.Path.{sym}
 use native.Mathlib.Omega.{arith}
 use lib.ListN.{get_or-eq_default}
 use borrow.Author.Rules.{rules}
-use Rattle.unicode.proofs.units.unit_at.Statement.{statement}
-use Rattle.unicode.proofs.units.unit_at.Tie as tie
-use Rattle.unicode.proofs.units.unit_at.Reads as reads
-use Rattle.unicode.proofs.units.unit_at.Lts as lts
-use Rattle.unicode.proofs.scalar.wide.Reads as wide-reads
+use Rattle.unicode_utf8.proofs.units.unit_at.Statement.{statement}
+use Rattle.unicode_utf8.proofs.units.unit_at.Tie as tie
+use Rattle.unicode_utf8.proofs.units.unit_at.Reads as reads
+use Rattle.unicode_utf8.proofs.units.unit_at.Lts as lts
+use Rattle.unicode_utf8.proofs.scalar.wide.Reads as wide-reads
 
 -- src/units.rt:19:9
 returns : tie.Need-returns

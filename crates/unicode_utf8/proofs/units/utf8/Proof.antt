@@ -3,11 +3,11 @@ use native.Mathlib.Omega.{arith}
 use lib.ListN.{length}
 use borrow.Author.Tests.{leb-true, leb-false, not-true, not-false}
 use Rattle.unicode_text.specs.Reading.{utf8}
-use Rattle.unicode.specs.Answer.{units_fault}
-use Rattle.unicode.proofs.Answers.{units-long, units-fine, gives_none, gives-short, gives_all}
+use Rattle.unicode_utf8.specs.Answer.{units_fault}
+use Rattle.unicode_utf8.proofs.Answers.{units-long, units-fine, gives_none, gives-short, gives_all}
 use borrow.Author.Rules.{rules}
-use Rattle.unicode.proofs.units.utf8.Statement.{statement}
-use Rattle.unicode.proofs.units.utf8.Tie as tie
+use Rattle.unicode_utf8.proofs.units.utf8.Statement.{statement}
+use Rattle.unicode_utf8.proofs.units.utf8.Tie as tie
 
 returns : tie.Need-returns
 returns c = let a = c.before.before.before.args in let us = a.units.now in gives_none (units_fault us) (utf8 us) a.out.now 1 (units-long us (omega arith)) (λ e. omega arith)

@@ -3,11 +3,11 @@ use native.Mathlib.Omega.{arith}
 use lib.ListN.{length}
 use Rattle.algebra.proofs.Writing.{needs-no, needs-all}
 use Rattle.unicode_text.specs.Reading.{utf8}
-use Rattle.unicode.specs.Answer.{units_fault}
-use Rattle.unicode.proofs.Answers.{units-long, units-fine}
+use Rattle.unicode_utf8.specs.Answer.{units_fault}
+use Rattle.unicode_utf8.proofs.Answers.{units-long, units-fine}
 use borrow.Author.Rules.{rules}
-use Rattle.unicode.proofs.units.utf8_length.Statement.{statement}
-use Rattle.unicode.proofs.units.utf8_length.Tie as tie
+use Rattle.unicode_utf8.proofs.units.utf8_length.Statement.{statement}
+use Rattle.unicode_utf8.proofs.units.utf8_length.Tie as tie
 
 returns : tie.Need-returns
 returns c = let us = c.before.before.args.units.now in needs-no (units_fault us) (length (utf8 us)) 1 (units-long us (omega arith)) (λ e. omega arith)
