@@ -4,6 +4,7 @@
 // These readers are not those of judging: a reader that both call would be a call for every field in
 // both.
 #![tactic(auto)]
+
 ghost use Rattle.std.specs.Prelude.{◌≡◌, ◌+◌, ◌≤◌, ◌<◌, eqb};
 ghost use Rattle.algebra.specs.Reader.{field, or_zero};
 ghost use Rattle.descriptor.specs.Reading.{id, unicode, class, enumerated, raw_bytes};
