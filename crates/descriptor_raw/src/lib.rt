@@ -24,7 +24,7 @@ use descriptor_judge::LIMIT;
 // A head: its kind, what its children are (0 items, 1 pairs, 2 reference items, 3 the pairs of an
 // object array) with the number of objects, how many there are, where the row's value begins, and
 // where the head ends.
-#[derive(Drop)]
+#[derive(Clone, Copy)]
 pub struct RawHead {
     pub kind: u32,
     pub what: u32,
