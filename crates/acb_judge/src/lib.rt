@@ -1,5 +1,6 @@
 // ACB colour books: judging a file by the layout.
 #![tactic(auto)]
+
 ghost use Rattle.std.specs.Prelude.{◌≡◌, ◌≤◌, length, map};
 ghost use Rattle.algebra.specs.Reader.{done, each, judged, map_res};
 ghost use Rattle.algebra.specs.Table.{verdict};
