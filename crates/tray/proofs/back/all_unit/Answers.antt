@@ -1,7 +1,7 @@
-use mathlib.Core.Path.{◌≡◌, sym, ◌∙◌}
+use mathlib.Core.Path.{sym, ◌∙◌}
 use native.Mathlib.Omega.{arith}
 use borrow.Author.Tests.{eqb-true}
-use Rattle.tray.specs.scaffold.Parts.{Passed, unit}
+use Rattle.tray.specs.scaffold.Parts.{unit}
 use Rattle.tray.proofs.Laws.{passed-more, or-none, marked-none}
 use Rattle.tray.proofs.back.all_unit.Goals as goal
 

@@ -1,4 +1,4 @@
-use mathlib.Core.Path.{◌≡◌, refl, sym}
+use mathlib.Core.Path.{refl, sym}
 use native.Mathlib.Omega.{arith}
 use Rattle.conversion.specs.Scale.{sample_of_bits}
 use Rattle.tray.proofs.Laws.{fill-turn, fill_end}

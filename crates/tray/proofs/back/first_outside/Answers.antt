@@ -1,6 +1,6 @@
 use mathlib.Core.Path.{sym, ◌∙◌}
 use native.Mathlib.Omega.{arith}
-use Rattle.tray.specs.scaffold.Parts.{Passed, unit}
+use Rattle.tray.specs.scaffold.Parts.{unit}
 use Rattle.tray.proofs.Laws.{passed-more, all_first}
 use Rattle.tray.proofs.back.first_outside.Goals as goal
 

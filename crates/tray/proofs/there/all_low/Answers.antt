@@ -1,6 +1,6 @@
 use native.Mathlib.Omega.{arith}
 use borrow.Author.Tests.{eqb-true, le-leb}
-use Rattle.tray.specs.scaffold.Parts.{Passed, low}
+use Rattle.tray.specs.scaffold.Parts.{low}
 use Rattle.tray.proofs.Laws.{passed-more}
 use Rattle.tray.proofs.there.all_low.Goals as goal
 

@@ -1,6 +1,6 @@
 use native.Mathlib.Omega.{arith}
 use borrow.Author.Tests.{le-leb, lt-leb}
-use Rattle.tray.specs.scaffold.Parts.{Passed, low}
+use Rattle.tray.specs.scaffold.Parts.{low}
 use Rattle.tray.proofs.Laws.{passed-more, all_first}
 use Rattle.tray.proofs.there.first_high.Goals as goal
 
