@@ -19,14 +19,14 @@ use fields::{FieldEnd, Number16, Number32, Number64};
 use names::NameAt;
 
 // Where a string lies: the place of its first unit, and its number of units.
-#[derive(Drop)]
+#[derive(Clone, Copy)]
 pub struct Text {
     pub place: usize,
     pub units: u32,
 }
 
 // How a file ends.
-#[derive(Drop)]
+#[derive(Clone, Copy)]
 pub enum Tag {
     None,
     Spot,
@@ -45,7 +45,7 @@ pub fn ink_of(tag: Tag) -> Ink
 }
 
 // What stands before the records, apart from their number.
-#[derive(Drop)]
+#[derive(Clone, Copy)]
 pub struct Header {
     pub identifier: u16,
     pub title: Text,

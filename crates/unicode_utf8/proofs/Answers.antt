@@ -5,13 +5,13 @@ use mathlib.Core.List.{List, [], ◌∷◌, ◌++◌}
 use mathlib.Core.Bool.{Bool, true, false}
 use lib.ListN.{length, get_or, drop, get_or-eq_default}
 use lib.Seq.{sets, sets-eq, get_or-take, get_or-drop}
-use lib.Dec.{leb, ltb}
+use lib.Dec.{ltb}
 use borrow.Author.Tests.{le-leb, lt-leb, ltb-true, ltb-false}
 use native.Mathlib.Omega.{arith}
 use Rattle.algebra.specs.Reader.{pick, limit}
-use Rattle.algebra.specs.Numbers.{num, nums, joined, Bytes}
+use Rattle.algebra.specs.Numbers.{nums, joined, Bytes}
 use Rattle.algebra.specs.Store.{part}
-use Rattle.algebra.specs.Writing.{Outcome, bytes, refused, needs, writes}
+use Rattle.algebra.specs.Writing.{bytes, refused, writes}
 use Rattle.algebra.proofs.Laws.{num-2}
 use Rattle.algebra.proofs.Places.{length-nums, getD-nums, length_part}
 use Rattle.algebra.proofs.Writing.{needs-no, needs-all, writes-no, writes-none, writes-all}

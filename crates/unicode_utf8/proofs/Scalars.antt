@@ -1,5 +1,5 @@
 -- The scalar value at the front of units, by the tests of the code. Assumes nothing.
-use Prim.Native.Nat.{ℕ, ◌+◌, ◌-◌, ◌*◌, ◌/◌, ◌≤◌, ◌<◌}
+use Prim.Native.Nat.{ℕ, ◌-◌, ◌*◌, ◌/◌, ◌≤◌, ◌<◌}
 use mathlib.Core.Path.{◌≡◌, refl, sym, ap, ap₂, ◌∙◌}
 use mathlib.Core.Bool.{Bool, true, false, ◌&&◌}
 use lib.Dec.{leb, ltb, eqb}
@@ -11,7 +11,7 @@ use lib.ListN.{length}
 use Rattle.unicode_text.specs.Reading.{is_high, is_low, paired, single}
 use Rattle.unicode_utf8.specs.Answer.{name_fault}
 use Rattle.unicode_text.specs.scaffold.Steps.{is_pair, scalar_at, taken}
-use Rattle.unicode_text.proofs.Laws.{within, below, past, bounds, and-true, and_no}
+use Rattle.unicode_text.proofs.Laws.{within, below, past, bounds, and-true}
 
 -- a number that is not from low to high
 outside : (low high u : ℕ) → ((low ≤ u) × (u ≤ high) → ⊥) → (leb low u && leb u high) ≡ false

@@ -1,6 +1,7 @@
 // Text in 16-bit units as UTF-8 in lent bytes: a surrogate without its partner is written as U+FFFD,
 // so that what is written is always well-formed. It knows no format: a name is units at a place.
 #![tactic(auto)]
+
 mod name;
 mod scalar;
 mod units;
