@@ -1,6 +1,6 @@
 -- Rows of an accepted file are nested or apart. Assumes nothing.
 use Prim.Native.Nat.{ℕ, zero, suc, ◌+◌, ◌≤◌}
-use mathlib.Core.Path.{◌≡◌, ap, sym}
+use mathlib.Core.Path.{◌≡◌}
 use mathlib.Core.List.{List, [], ◌∷◌, ◌++◌}
 use mathlib.Core.Logic.{◌⊎◌, inl, inr}
 use native.Mathlib.Omega.{arith}
@@ -8,7 +8,7 @@ use Rattle.descriptor.specs.Reading.{Row}
 use Rattle.descriptor.specs.Tiles.{Tiled, none, one}
 use Rattle.descriptor.proofs.Tiling.{five-each}
 use Rattle.descriptor_heads.specs.Changed.{OneOf, here, later}
-use Rattle.descriptor_read.specs.Values.{RowAnswer, found, missing, row_at}
+use Rattle.descriptor_read.specs.Values.{found, row_at}
 
 abbrev pub Each : (Row → Type 0) → List Row → Type 0
 Each P [] = Unit {0}
@@ -22,12 +22,13 @@ pub each_map : (P Q : Row → Type 0) → ((r : Row) → P r → Q r) → (rs : 
 each_map P Q f [] h = tt
 each_map P Q f (r ∷ rs) h = (f r h.0, each_map P Q f rs h.1)
 
-pub each-one : (P : Row → Type 0) {rs : List Row} {r : Row} → Each P rs → OneOf r rs → P r
+pub each-one : (P : Row → Type 0) {r : Row} {rs : List Row} → Each P rs → OneOf r rs → P r
 each-one P {rs = q ∷ rs} h (here e) = go e h.0
   where
     go : {q r : Row} → q ≡ r → P q → P r
     go e h = rw e at h
 each-one P {rs = q ∷ rs} h (later o) = each-one P h.1 o
+each-one P {r = r} {rs = []} h x5 = elim x5 [ ]
 
 -- the row of a number is one of them
 pub found-one : (rs : List Row) (j : ℕ) {q : Row} → row_at j rs ≡ found q → OneOf q rs

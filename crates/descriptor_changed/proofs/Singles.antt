@@ -1,6 +1,6 @@
 -- A row whose value has one length: the value ends where the row ends, and the next row begins there. Read again with another such value, its head is the same. Assumes nothing.
 use Prim.Native.Nat.{ℕ, zero, suc, ◌+◌, ◌-◌, ◌≤◌, ◌<◌}
-use mathlib.Core.Path.{◌≡◌, refl, sym, ap, ap₂, ◌∙◌, subst}
+use mathlib.Core.Path.{◌≡◌, refl, sym, ap, ◌∙◌, subst}
 use mathlib.Core.List.{List, [], ◌∷◌}
 use mathlib.Core.Bool.{Bool, true, false}
 use lib.Dec.{leb, eqb}
@@ -8,15 +8,15 @@ use lib.ListN.{length}
 use borrow.Author.Tests.{le-leb}
 use native.Mathlib.Omega.{arith}
 use Rattle.algebra.specs.Chars.{chars}
-use Rattle.algebra.specs.Reader.{Res, ok, refuse, Reader, then, pick, field, body, Judged, fine, unless, judged, until, many, map_res, limit}
+use Rattle.algebra.specs.Reader.{Res, ok, refuse, Reader, then, pick, field, body, fine, unless, judged, until, many, map_res, limit}
 use Rattle.algebra.specs.Algebra.{Same}
 use Rattle.algebra.specs.Refusal.{Of, among}
 use Rattle.algebra.proofs.Inverse.{clash, then-inv, done-inv, pick_inv, ended-inv, body-inv, judged-inv, field-inv, ok-value, ok-place}
 use Rattle.algebra.proofs.Lawful.{same_left, same-right}
 use Rattle.algebra.proofs.Placed.{of-each}
-use Rattle.descriptor.specs.Reading.{Known, is, unknown, known, skip, id, class, boolean, flag, bits, double, unit, unit_double, Sort, leaf, list, object, reference, array, sort_of, form_of, ref_value, column, column_type, Row, version, descriptor}
+use Rattle.descriptor.specs.Reading.{Known, is, unknown, known, skip, id, class, boolean, flag, bits, double, unit, unit_double, Sort, leaf, sort_of, form_of, ref_value, column, column_type, Row, version, descriptor}
 use Rattle.descriptor.proofs.Ends.{accepted}
-use Rattle.descriptor_heads.specs.Heads.{Due, items, pairs, forms, columns, Head, Opened, bare, opens, item_head, member_head, deepest, head_at, Stack, over, next_head, settled, after, root_head, whole_heads, file_heads}
+use Rattle.descriptor_heads.specs.Heads.{Due, items, pairs, forms, columns, Opened, bare, opens, item_head, member_head, deepest, head_at, Stack, over, next_head, settled, after, root_head, whole_heads, file_heads}
 use Rattle.descriptor_heads.specs.Rows.{row_end, now_under, rows_from, heads_of, rows_of}
 use Rattle.descriptor_heads.specs.Changed.{scalars}
 use Rattle.descriptor_heads.proofs.Past.{head-inv, root-past, head-past}

@@ -1,11 +1,11 @@
 -- A designer asked: might changing one number shift what the press reads elsewhere? It can't. Assumes nothing.
-use Prim.Native.Nat.{ℕ, zero, suc, ◌+◌, ◌-◌, ◌≤◌, ◌<◌}
+use Prim.Native.Nat.{ℕ, zero, suc, ◌+◌, ◌≤◌, ◌<◌}
 use mathlib.Core.Path.{◌≡◌, refl, sym, ap, ap₂, ◌∙◌, subst}
-use mathlib.Core.List.{List, [], ◌∷◌, map}
+use mathlib.Core.List.{List, [], ◌∷◌}
 use mathlib.Core.Bool.{Bool, true, false}
 use mathlib.Core.Logic.{◌⊎◌, inl, inr, ⊎_elim}
 use lib.Dec.{eqb, leb}
-use lib.ListN.{length, get_or, set, take, drop, length-take, length-drop}
+use lib.ListN.{length, get_or, set, drop, length-take, length-drop}
 use lib.Seq.{ext_get_or, get_or-take, get_or-drop, get_or-set_other}
 use lib.Ieee.{binary64, of_bits}
 use borrow.Author.Tests.{eqb-true, leb-true, leb-false}
@@ -25,10 +25,9 @@ use Rattle.descriptor_columns.specs.Columns.{columns_of, values_of, rows_of}
 use Rattle.descriptor_columns.specs.Filled.{answered, filled}
 use Rattle.descriptor_read.specs.Values.{RowAnswer, found, missing, row_at, row_in, value_size, place_of, value_in}
 use Rattle.descriptor_read.specs.Typed.{typed_in, typed_of}
-use Rattle.descriptor_read.specs.declared.Typed.{Typed}
 use Rattle.descriptor_read.specs.declared.Typed.TheVariants as vt
 use Rattle.descriptor_changed.specs.Promise.{numbers, OneNumber, Holds, Elsewhere, Undisturbed}
-use Rattle.descriptor_changed.proofs.Nested.{Each, each-one, found-one, Within, within, Nested, Behind, nested}
+use Rattle.descriptor_changed.proofs.Nested.{each-one, found-one, Within, within, Nested, Behind, nested}
 use Rattle.descriptor_changed.proofs.Singles.{width_of, begins, Singles, singles}
 
 -- ---- rows that do not hold a row of such a kind lie before it or behind it
@@ -36,9 +35,11 @@ use Rattle.descriptor_changed.proofs.Singles.{width_of, begins, Singles, singles
 from_next : (e : ℕ) (rs : List Row) {q : Row} → Nested rs → OneOf q rs → begins e rs ≤ q.first
 from_next e (x ∷ rs) n (here h) = omega (arith, ap (λ (y : Row). y.first) h)
 from_next e (x ∷ rs) n (later h) = (each-one (Behind x) n.0 h).0
+from_next e [] {q = q} n x'' = elim x'' [ ]
 
 apart : (e : ℕ) (rs : List Row) {r : Row} → Nested rs → Singles e rs → OneOf r rs → Of scalars r.kind → (j : ℕ) {q : Row} → row_at j rs ≡ found q → (Holds q r → ⊥)
     → (q.first + q.size ≤ r.first) ⊎ (r.first + r.size ≤ q.first)
+apart e [] {r = r} n g x6 k j {q = q} f other = elim x6 [ ]
 apart e (x ∷ rs) {r} n g (here h) k zero {q} f other = absurd (own (same f))
   where
     same : found x ≡ found q → q ≡ r

@@ -1,9 +1,8 @@
 -- What is answered for a whole file. Assumes nothing.
-use Prim.Native.Nat.{ℕ, zero, suc, ◌+◌, ◌≤◌, ◌<◌}
-use mathlib.Core.Path.{◌≡◌, refl, sym, ap, ◌∙◌, subst}
-use mathlib.Core.List.{List, [], ◌∷◌, map}
+use Prim.Native.Nat.{ℕ, suc, ◌+◌, ◌≤◌}
+use mathlib.Core.Path.{◌≡◌, refl, sym, ap, ◌∙◌}
+use mathlib.Core.List.{List, [], ◌∷◌}
 use mathlib.Core.Bool.{Bool, true, false}
-use lib.Dec.{leb}
 use lib.ListN.{length, get_or, set}
 use lib.Seq.{get_or-set_same}
 use native.Mathlib.Omega.{arith}
@@ -11,17 +10,16 @@ use Rattle.algebra.specs.Reader.{Res, ok, refuse, pick}
 use Rattle.descriptor.specs.Reading.{Row, descriptor}
 use Rattle.descriptor_judge.specs.Answer.{verdict}
 use Rattle.descriptor_judge.specs.Answer as A
-use Rattle.descriptor_heads.specs.Heads.{Head, root_head, file_heads}
+use Rattle.descriptor_heads.specs.Heads.{Head, root_head}
 use Rattle.descriptor_raw.specs.Raw.{Sees}
 use Rattle.descriptor_raw.specs.declared.RawHead.{RawHead}
 use Rattle.descriptor_columns.specs.Columns.{Columns, nexts_from, depths_of, columns_of}
-use Rattle.descriptor_columns.specs.Filled.{fits, onto, filled, Read}
-use Rattle.descriptor_columns.specs.scaffold.Filling.{Entry, first_in, length_in, next_in, depth_in, kind_in, puts, whole, mark, rest, Done, Rooted, stored, Whole}
+use Rattle.descriptor_columns.specs.Filled.{fits, onto, filled}
+use Rattle.descriptor_columns.specs.scaffold.Filling.{Entry, first_in, length_in, next_in, depth_in, kind_in, puts, whole, mark, rest, Rooted, Whole}
 use Rattle.descriptor_columns.proofs.Reading as R
 use Rattle.descriptor_columns.proofs.Room.{room-on}
 use Rattle.descriptor_columns.proofs.Theorem.{map-length}
 use Rattle.descriptor_check.specs.Check.{begins, begins_all, same, differs, refused, checked}
-use Rattle.descriptor_check.specs.scaffold.Decided.{Decides}
 use Rattle.descriptor_check.proofs.Begun.{both, begins-onto, onto-begins, begins-length}
 use Rattle.descriptor_check.proofs.Turns.{puts-keep, kept, Stays}
 

@@ -1,9 +1,9 @@
 -- The turns of the loop that compares: it is the loop that fills, on runs that stay as they are. Assumes nothing.
-use Prim.Native.Nat.{ℕ, zero, suc, ◌+◌, ◌-◌, ◌≤◌, ◌<◌}
+use Prim.Native.Nat.{ℕ, ◌+◌, ◌-◌, ◌≤◌, ◌<◌}
 use mathlib.Core.Path.{◌≡◌, refl, sym, ap, ◌∙◌, subst}
 use mathlib.Core.List.{List, [], ◌∷◌}
 use lib.Dec.{eqb}
-use lib.ListN.{length, set, get_or, length-set}
+use lib.ListN.{length, set, get_or}
 use lib.Seq.{set-get_or, get_or-set_same, get_or-set_other}
 use native.Mathlib.Omega.{arith}
 use Rattle.algebra.specs.Reader.{pick}

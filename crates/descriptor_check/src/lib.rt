@@ -4,6 +4,7 @@
 // goes over its heads, with a comparison in place of each store; it needs no room but for the open
 // levels.
 #![tactic(auto)]
+
 ghost use Rattle.std.specs.Prelude.{◌≡◌, ◌≤◌, ◌<◌, length, get_or};
 ghost use Rattle.descriptor.specs.Reading.{descriptor};
 ghost use Rattle.descriptor_columns.specs.scaffold.Filling.{Begun, Rooted, rest, Done, Whole};

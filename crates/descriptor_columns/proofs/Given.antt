@@ -6,8 +6,8 @@ use lib.ListN.{length}
 use Rattle.descriptor.specs.Reading.{Row}
 use Rattle.descriptor_heads.specs.Heads.{Head}
 use Rattle.descriptor_heads.specs.Rows.{now_under, rows_from}
-use Rattle.descriptor_columns.specs.Columns.{next_of, nexts_from, depths_of, columns_of, values_of}
-use Rattle.descriptor_columns.specs.scaffold.Filling.{Entry, first_in, length_in, next_in, depth_in, kind_in, value_in, depths, column}
+use Rattle.descriptor_columns.specs.Columns.{nexts_from, depths_of, values_of}
+use Rattle.descriptor_columns.specs.scaffold.Filling.{first_in, length_in, next_in, depth_in, kind_in, value_in, depths, column}
 
 module _ (e : ℕ) where
   pub count-given : (k : ℕ) (up : ℕ → ℕ) (hs : List Head) → length (rows_from e k up hs) ≡ length hs

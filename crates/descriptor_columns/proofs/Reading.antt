@@ -1,21 +1,21 @@
 -- The columns of a whole file, and what reading answers. Assumes nothing.
-use Prim.Native.Nat.{ℕ, zero, suc, ◌+◌, ◌-◌, ◌≤◌, ◌<◌, ◌/◌}
-use mathlib.Core.Path.{◌≡◌, refl, sym, ap, ◌∙◌, subst}
-use mathlib.Core.List.{List, [], ◌∷◌, ◌++◌, map}
+use Prim.Native.Nat.{ℕ, suc, ◌≤◌}
+use mathlib.Core.Path.{◌≡◌, refl, sym, ap, ◌∙◌}
+use mathlib.Core.List.{List, [], ◌∷◌}
 use mathlib.Core.Bool.{Bool, true, false}
 use lib.Dec.{leb}
-use lib.ListN.{length, set, drop}
+use lib.ListN.{length, set}
 use borrow.Author.Tests.{leb-true}
 use native.Mathlib.Omega.{arith}
-use Rattle.algebra.specs.Reader.{Res, ok, refuse, then, pick, field, judged, until, map_res, limit}
-use Rattle.algebra.proofs.Inverse.{clash, then-inv, pick_inv, ended-inv, judged-inv, ok-value}
+use Rattle.algebra.specs.Reader.{Res, ok, refuse, pick, field, judged, until, map_res, limit}
+use Rattle.algebra.proofs.Inverse.{then-inv, pick_inv, ended-inv, judged-inv, ok-value}
 use Rattle.descriptor.specs.Reading.{Row, class, version, descriptor}
 use Rattle.descriptor.proofs.Ends.{accepted}
 use Rattle.descriptor.proofs.Rows.{rows-laid}
 use Rattle.descriptor_judge.specs.Answer.{Verdict, verdict}
 use Rattle.descriptor_judge.specs.Answer as A
 use Rattle.descriptor_heads.specs.Heads.{Due, Head, Opened, over, next_head, settled, after, root_head, whole_heads, file_heads}
-use Rattle.descriptor_heads.specs.Rows.{heads_of, rows_from, rows_of}
+use Rattle.descriptor_heads.specs.Rows.{heads_of, rows_of}
 use Rattle.descriptor_heads.proofs.Past.{root-past}
 use Rattle.descriptor_heads.proofs.Theorem.{rows_are}
 use Rattle.descriptor_raw.specs.Raw.{due_of, Sees}

@@ -2,16 +2,15 @@
 use Prim.Native.Nat.{ℕ, zero, suc, ◌+◌, ◌≤◌, ◌<◌}
 use mathlib.Core.Path.{◌≡◌, refl, sym, ap, ◌∙◌}
 use mathlib.Core.List.{List, [], ◌∷◌, ◌++◌, map}
-use mathlib.Core.Bool.{Bool, true, false}
-use lib.Dec.{leb, ltb, eqb}
-use lib.ListN.{length, get_or, length-append}
-use borrow.Author.Tests.{lt-ltb, le-ltb, le-leb, lt-leb, eq-eqb, ne_eqb}
+use mathlib.Core.Bool.{Bool}
+use lib.ListN.{length, get_or}
+use borrow.Author.Tests.{lt-ltb, le-ltb}
 use native.Mathlib.Omega.{arith}
 use Rattle.algebra.specs.Reader.{ok, pick}
 use Rattle.descriptor.specs.Reading.{Row, descriptor}
 use Rattle.descriptor.specs.Tiles.{Tiled, none, one}
 use Rattle.descriptor.proofs.Rows.{rows-laid}
-use Rattle.descriptor_columns.specs.Columns.{Columns, next_of, nexts_from, depths_of, columns_of, values_of, parent_of, parents_from, parents_of, row_of, rows_from, rows_of}
+use Rattle.descriptor_columns.specs.Columns.{Columns, depths_of, columns_of, values_of, parent_of, parents_from, parents_of, row_of, rows_from, rows_of}
 
 -- ---- parents
 

@@ -1,5 +1,5 @@
 -- The turns of the loop that fills the columns, with its levels in an array. Assumes nothing.
-use Prim.Native.Nat.{ℕ, zero, suc, ◌+◌, ◌-◌, ◌≤◌, ◌<◌}
+use Prim.Native.Nat.{ℕ, suc, ◌+◌, ◌-◌, ◌≤◌, ◌<◌}
 use mathlib.Core.Path.{◌≡◌, refl, sym, ap, ◌∙◌, subst}
 use mathlib.Core.List.{List, [], ◌∷◌}
 use mathlib.Core.Bool.{Bool, true, false}
@@ -7,12 +7,12 @@ use lib.Dec.{eqb}
 use lib.ListN.{length, set, get_or, length-set}
 use native.Mathlib.Omega.{arith}
 use Rattle.algebra.specs.Reader.{pick}
-use Rattle.descriptor_heads.specs.Heads.{Head, Stack, member_head}
+use Rattle.descriptor_heads.specs.Heads.{Head, member_head}
 use Rattle.descriptor_heads.specs.Rows.{row_end}
 use Rattle.descriptor_raw.specs.Raw.{due_of, Sees}
 use Rattle.descriptor_raw.specs.declared.RawHead.{RawHead}
 use Rattle.descriptor_columns.specs.Columns.{next_of}
-use Rattle.descriptor_columns.specs.scaffold.Filling.{first_in, length_in, next_in, depth_in, kind_in, depths, mark, dues, opens, puts, shuts, whole, Begun, rest, Done}
+use Rattle.descriptor_columns.specs.scaffold.Filling.{first_in, length_in, next_in, depth_in, kind_in, depths, mark, dues, opens, puts, whole, Begun, rest, Done}
 use Rattle.descriptor_columns.specs.declared.Level.{Level}
 use Rattle.descriptor_columns.proofs.Levels.{level, nothing, levels, levels-length, levels-push, levels-pop, dues-length}
 use Rattle.descriptor_columns.proofs.Stores.{Before, before_more, length-skips, next-skips, put-head, put-none, put-open, put-shut, shut_none}

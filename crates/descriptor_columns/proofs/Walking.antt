@@ -1,13 +1,13 @@
 -- A loop over the heads of an accepted file: what holds before each head, and each kind of turn. Nothing here stores. Assumes nothing.
 use Prim.Native.Nat.{ℕ, zero, suc, ◌+◌, ◌-◌, ◌≤◌, ◌<◌}
-use mathlib.Core.Path.{◌≡◌, refl, sym, ap, ◌∙◌, subst}
-use mathlib.Core.List.{List, [], ◌∷◌, map}
-use mathlib.Core.Bool.{Bool, true, false}
-use lib.Dec.{leb, eqb}
+use mathlib.Core.Path.{◌≡◌, refl, sym, ap, ◌∙◌}
+use mathlib.Core.List.{List, [], ◌∷◌}
+use mathlib.Core.Bool.{Bool}
+use lib.Dec.{eqb}
 use lib.ListN.{length}
 use borrow.Author.Tests.{le-leb, lt-leb, eq-eqb, ne_eqb}
 use native.Mathlib.Omega.{arith}
-use Rattle.algebra.specs.Reader.{Res, ok, refuse, then, pick, until, map_res}
+use Rattle.algebra.specs.Reader.{Res, ok, refuse, pick, until, map_res}
 use Rattle.algebra.proofs.Inverse.{clash, then-inv, ok-value, ok-place}
 use Rattle.descriptor.proofs.Ends.{accepted}
 use Rattle.descriptor_heads.specs.Heads.{Due, Head, Opened, Stack, over, next_head, settled, after, member_head, head_at}

@@ -5,6 +5,7 @@
 // without judging again. The levels that are open stand in an array, and a level that ends gives its
 // row's length and next sibling.
 #![tactic(auto)]
+
 ghost use Rattle.std.specs.Prelude.{◌≡◌, ◌+◌, ◌≤◌, ◌<◌, eqb, length, set, ◌∷◌, []};
 ghost use Rattle.algebra.specs.Reader.{pick};
 ghost use Rattle.descriptor.specs.Reading.{descriptor};
@@ -18,7 +19,7 @@ use descriptor_judge::Answer;
 
 // A level that is open: what its members are and how many are left, the row in which they stand, and
 // that row's first byte.
-#[derive(Drop)]
+#[derive(Clone, Copy)]
 pub struct Level {
     pub what: u32,
     pub objects: u32,

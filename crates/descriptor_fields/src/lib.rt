@@ -2,6 +2,7 @@
 //
 // Each reader takes any place, and answers where its field ends, or a refusal.
 #![tactic(auto)]
+
 ghost use Rattle.std.specs.Prelude.{◌≡◌, ◌+◌, ◌*◌, ◌<◌, length};
 ghost use Rattle.algebra.specs.Numbers.{num};
 ghost use Rattle.fields.specs.Answer.{told_field_end};

@@ -1,14 +1,14 @@
 -- The walk by next sibling meets exactly the rows of depth 1, in their order. Assumes nothing.
-use Prim.Native.Nat.{ℕ, zero, suc, ◌+◌, ◌-◌, ◌*◌, ◌/◌, ◌≤◌, ◌<◌}
+use Prim.Native.Nat.{ℕ, zero, suc, ◌+◌, ◌-◌, ◌*◌, ◌≤◌, ◌<◌}
 use mathlib.Core.Path.{◌≡◌, refl, sym, ap, ◌∙◌, subst}
-use mathlib.Core.List.{List, [], ◌∷◌, ◌++◌, map}
+use mathlib.Core.List.{List, [], ◌∷◌, ◌++◌}
 use mathlib.Core.Bool.{Bool, true, false}
 use lib.Dec.{leb, ltb, eqb}
 use lib.ListN.{length, get_or, drop}
-use lib.Seq.{drop-nil, drop-cons, drop-drop, drop-length}
+use lib.Seq.{drop-nil, drop-cons, drop-drop}
 use borrow.Author.Tests.{leb-true, leb-false, ltb-true, ltb-false, eq-eqb, ne_eqb}
 use native.Mathlib.Omega.{arith}
-use Rattle.algebra.specs.Reader.{Res, ok, refuse, then, pick, judged, limit}
+use Rattle.algebra.specs.Reader.{Res, ok, pick, judged}
 use Rattle.algebra.proofs.Inverse.{then-inv, ok-value, ok-place}
 use Rattle.descriptor.specs.Reading.{Row, version, object_of, item, root, descriptor}
 use Rattle.descriptor.specs.Tiles.{Tiled, none, one}
@@ -17,8 +17,8 @@ use Rattle.descriptor.proofs.Tiling.{five-each}
 use Rattle.descriptor_columns.specs.Columns.{next_of, nexts_from, depths_of, columns_of}
 use Rattle.descriptor_columns.proofs.Theorem.{get_d_map, map-length}
 use Rattle.descriptor_check.specs.Check.{begins}
-use Rattle.descriptor_check.proofs.Begun.{both, onto-begins, begins-length}
-use Rattle.descriptor_find.specs.Find.{Key, key, has_key, is_member, look_up, row_of}
+use Rattle.descriptor_check.proofs.Begun.{onto-begins, begins-length}
+use Rattle.descriptor_find.specs.Find.{Key, key, has_key, look_up, row_of}
 use Rattle.descriptor_find.specs.Promise.{where_true, members, walk}
 use Rattle.descriptor_find.specs.scaffold.Finding.{Lent, rows_in}
 

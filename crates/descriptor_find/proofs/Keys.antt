@@ -1,22 +1,22 @@
 -- Keys: one after another, counted and compared. Assumes nothing.
 use Prim.Native.Nat.{ℕ, zero, suc, ◌+◌, ◌-◌, ◌*◌, ◌≤◌, ◌<◌}
-use mathlib.Core.Path.{◌≡◌, refl, sym, ap, ap₂, ◌∙◌, subst}
+use mathlib.Core.Path.{◌≡◌, refl, sym, ap, ap₂, ◌∙◌}
 use mathlib.Core.List.{List, [], ◌∷◌, ◌++◌, map}
 use mathlib.Core.Bool.{Bool, true, false}
-use lib.Dec.{leb, eqb}
+use lib.Dec.{eqb}
 use lib.ListN.{length, get_or, set, drop, length-set}
 use lib.Seq.{sets, sets-eq}
 use borrow.Author.Tests.{eqb-true, eqb-false, eq-eqb, ne_eqb, le-leb, lt-leb}
 use native.Mathlib.Omega.{arith}
 use Rattle.algebra.specs.Numbers.{num, nums, Bytes}
-use Rattle.algebra.specs.Reader.{Res, ok, refuse, then, pick, field, body, done, or_zero, at_end, until, many}
+use Rattle.algebra.specs.Reader.{Res, ok, refuse, then, pick, field, body, done, or_zero, at_end, until}
 use Rattle.algebra.proofs.Inverse.{clash, then-inv, field-inv, body-inv, ok-value, ok-place}
-use Rattle.algebra.proofs.Laws.{num-1, field_in, field-short, body-in, body-short}
+use Rattle.algebra.proofs.Laws.{num-1, field_in, body-in, body-short}
 use Rattle.algebra.proofs.Until.{until_stop, until-turn, Went, stopped, spent, went, until-inv}
-use Rattle.descriptor.specs.Reading.{skip, id, Row}
+use Rattle.descriptor.specs.Reading.{id, Row}
 use Rattle.descriptor_columns.specs.Filled.{onto}
-use Rattle.descriptor_find.specs.Find.{Key, body_size, key, keys_of, equal_bytes, matches, has_key, row_of, Answered, answered, refused, among_keys, answering}
-use Rattle.descriptor_find.specs.scaffold.Finding.{Counted, keys, refusal, counted, Keyed, answers_in}
+use Rattle.descriptor_find.specs.Find.{Key, body_size, key, keys_of, equal_bytes, has_key, row_of, Answered, answered, refused, among_keys, answering}
+use Rattle.descriptor_find.specs.scaffold.Finding.{keys, refusal, counted, Keyed, answers_in}
 
 -- ---- one key
 

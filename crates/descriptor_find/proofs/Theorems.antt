@@ -1,13 +1,13 @@
 -- What is promised of keys, besides the contract. Assumes nothing.
 use Prim.Native.Nat.{ℕ}
-use mathlib.Core.Path.{◌≡◌, refl, ap}
+use mathlib.Core.Path.{◌≡◌, refl}
 use mathlib.Core.List.{List, [], ◌∷◌}
-use mathlib.Core.Bool.{Bool, true, false}
+use mathlib.Core.Bool.{false}
 use Rattle.algebra.specs.Chars.{chars}
 use Rattle.algebra.specs.Numbers.{num, nums}
-use Rattle.algebra.specs.Reader.{ok, refuse, pick, field, body, until, ended}
+use Rattle.algebra.specs.Reader.{ok, refuse, field, body, until, ended}
 use Rattle.descriptor.specs.Reading.{id, shut, unicode, class, flag, sort_of, Row, siblings, children, keyed, object_of, item, root, whole, descriptor}
-use Rattle.descriptor_find.specs.Find.{Key, key, keys_of, equal_bytes, matches, has_key, is_member, look_up, row_of}
+use Rattle.descriptor_find.specs.Find.{key, keys_of, equal_bytes, matches, look_up, row_of}
 
 -- a key of length 0 and one of length 4 do not match, whatever bytes they have
 pub zero-is-not-four : (b c : List ℕ) → (matches (0, b) (4, c) ≡ false) × (matches (4, b) (0, c) ≡ false)

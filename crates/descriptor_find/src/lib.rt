@@ -3,6 +3,7 @@
 // The table is compared with the file once. Then all keys are read, and each goes from one child of the
 // root to the next, by the next sibling, up to the first that has it.
 #![tactic(auto)]
+
 ghost use Rattle.std.specs.Prelude.{◌≡◌, ◌+◌, ◌*◌, ◌≤◌, ◌<◌, length};
 ghost use Rattle.algebra.specs.Numbers.{nums};
 ghost use Rattle.descriptor.specs.Reading.{descriptor};

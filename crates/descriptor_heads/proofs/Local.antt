@@ -1,18 +1,18 @@
 -- A head depends only on its own bytes. Assumes nothing.
-use Prim.Native.Nat.{ℕ, suc, ◌+◌, ◌≤◌}
-use mathlib.Core.Path.{◌≡◌, refl, sym, ap, ◌∙◌, subst}
+use Prim.Native.Nat.{ℕ, suc}
+use mathlib.Core.Path.{◌≡◌, refl, sym, ap, ◌∙◌}
 use mathlib.Core.List.{List, [], ◌∷◌}
 use mathlib.Core.Bool.{Bool, true, false}
 use lib.Dec.{leb, eqb}
 use lib.ListN.{length}
 use Rattle.algebra.specs.Chars.{chars}
 use Rattle.algebra.specs.Reader.{Res, ok, refuse, Reader, then, pick, field, body, rule, Judged, fine, fault, judged, give, ◌>>=◌, each, done}
-use Rattle.algebra.specs.Algebra.{Same, Lawful}
+use Rattle.algebra.specs.Algebra.{Lawful}
 use Rattle.algebra.proofs.Inverse.{clash, then-inv, done-inv, ok-place}
 use Rattle.algebra.proofs.Lawful.{judged-lawful, body-lawful, give-lawful, bind-lawful, each-lawful}
 use Rattle.descriptor.specs.Reading.{Known, is, unknown, known, passing, skip, id, shut, closing, unicode, class, boolean, flag, bits, double, enumerated, raw_bytes, unit, array_unit, unit_double, Sort, leaf, list, object, reference, array, types, sort_of, forms, form_of, ref_value, doubles, column, column_type, version}
 use Rattle.descriptor.proofs.Ends.{of-table}
-use Rattle.descriptor_heads.specs.Heads.{Due, items, pairs, forms as formsDue, columns, Opened, bare, opens, item_head, member_head, deepest, head_at, Stack, over, next_head, after, root_head}
+use Rattle.descriptor_heads.specs.Heads.{Due, items, pairs, forms as formsDue, columns, Opened, bare, opens, item_head, member_head, deepest, head_at, Stack, next_head, root_head}
 
 -- ---- laws of combinators
 

@@ -2,25 +2,25 @@
 use Prim.Native.Nat.{ℕ, zero, suc, ◌+◌, ◌-◌, ◌≤◌, ◌<◌}
 use mathlib.Core.Path.{◌≡◌, refl, sym, ap, ap₂, ◌∙◌, subst}
 use mathlib.Core.List.{List, [], ◌∷◌}
-use mathlib.Core.Bool.{Bool, true, false}
+use mathlib.Core.Bool.{Bool, true}
 use lib.Dec.{leb}
-use lib.ListN.{length, get_or}
+use lib.ListN.{length}
 use borrow.Author.Tests.{le-leb}
 use native.Mathlib.Omega.{arith}
 use Rattle.algebra.specs.Chars.{chars}
-use Rattle.algebra.specs.Reader.{Res, ok, refuse, then, pick, field, judged, until, many, map_res, limit}
+use Rattle.algebra.specs.Reader.{Res, ok, refuse, pick, field, judged, until, many, map_res, limit}
 use Rattle.algebra.specs.Algebra.{Same}
 use Rattle.algebra.specs.Refusal.{Of, among}
 use Rattle.algebra.proofs.Inverse.{clash, then-inv, pick_inv, ended-inv, ok-value, ok-place}
-use Rattle.algebra.proofs.Until.{Went, stopped, spent, went, until-inv, until-lawful}
+use Rattle.algebra.proofs.Until.{until-lawful}
 use Rattle.descriptor.specs.Reading.{Row, class, version, descriptor}
 use Rattle.descriptor.proofs.Ends.{accepted}
-use Rattle.descriptor_heads.specs.Heads.{Due, items, pairs, Head, Opened, head_at, Stack, over, next_head, settled, after, root_head, whole_heads, file_heads}
+use Rattle.descriptor_heads.specs.Heads.{Due, Opened, head_at, Stack, over, next_head, settled, after, root_head, whole_heads, file_heads}
 use Rattle.descriptor_heads.specs.Rows.{row_end, now_under, rows_from, heads_of, rows_of}
 use Rattle.descriptor_heads.specs.Changed.{scalars, OneOf, here, later, Changed}
 use Rattle.descriptor_heads.proofs.Past.{head-inv, root-past, head-past}
 use Rattle.descriptor_heads.proofs.Local.{next-lawful, root-lawful}
-use Rattle.descriptor_heads.proofs.Scalars.{Agrees, head-agrees, head-behind}
+use Rattle.descriptor_heads.proofs.Scalars.{head-agrees, head-behind}
 use Rattle.descriptor_heads.proofs.Theorem.{rows_are}
 
 -- ---- levels that are over go, and none comes
@@ -90,6 +90,7 @@ module _ (s u : List ℕ) where
   unfolding rows_from
   stands k up (o ∷ os) r (here e) = this o os (ap (λ (q : Row). q.kind) e) (ap (λ (q : Row). q.value) e) (ap (λ (q : Row). q.first + q.size) e)
   stands k up (o ∷ os) r (later h) = that o os (stands (k + 1) (now_under up (o.head.depth + 1) k) os r h)
+  stands k up [] r x' = elim x' [ ]
 
   -- a row's value begins where its head is read, or behind that
   abbrev Later : ℕ → Stack → Type 0

@@ -1,6 +1,6 @@
 -- The recursive reader of one member reads its head, and then its children. Assumes nothing.
-use Prim.Native.Nat.{ℕ, zero, suc, ◌+◌, ◌-◌}
-use mathlib.Core.Path.{◌≡◌, refl, sym, ap, ◌∙◌}
+use Prim.Native.Nat.{ℕ, suc, ◌+◌, ◌-◌}
+use mathlib.Core.Path.{◌≡◌, refl, ap}
 use mathlib.Core.List.{List, [], ◌∷◌}
 use Rattle.algebra.specs.Reader.{Res, ok, refuse, Reader, then, field, judged}
 use Rattle.descriptor.specs.Reading.{Known, is, unknown, known, id, class, Sort, leaf, list, object, reference, array, sort_of, form_of, Row, headed, plain, siblings, children, ref_value, ref_item, column, column_type, array_pair, array_of, keyed, object_of, value_of, item, pair}

@@ -1,21 +1,20 @@
 -- A head of a kind whose value has one length: what stands before the value decides all of it. Assumes nothing.
 use Prim.Native.Nat.{ℕ, ◌+◌, ◌-◌, ◌≤◌}
 use mathlib.Core.Path.{◌≡◌, refl, sym, ap, ap₂, ◌∙◌, subst}
-use mathlib.Core.List.{List, ◌∷◌}
+use mathlib.Core.List.{List}
 use mathlib.Core.Bool.{Bool, true, false}
 use lib.Dec.{leb, eqb}
 use lib.ListN.{length}
-use borrow.Author.Tests.{eqb-true}
 use native.Mathlib.Omega.{arith}
 use Rattle.algebra.specs.Chars.{chars}
-use Rattle.algebra.specs.Reader.{Res, ok, refuse, Reader, then, pick, field, body, Judged, fine, fault, unless, judged}
+use Rattle.algebra.specs.Reader.{Res, ok, Reader, field, body, fine, unless, judged}
 use Rattle.algebra.specs.Algebra.{Same}
 use Rattle.algebra.specs.Refusal.{Of}
 use Rattle.algebra.proofs.Inverse.{clash, then-inv, done-inv, pick_inv, body-inv, judged-inv, field-inv, ok-value, ok-place}
 use Rattle.algebra.proofs.Lawful.{same_left, same-right}
 use Rattle.algebra.proofs.Placed.{of-each}
-use Rattle.descriptor.specs.Reading.{Known, is, unknown, known, skip, id, boolean, flag, bits, double, unit, unit_double, Sort, leaf, list, object, reference, array, sort_of, form_of, ref_value, column, column_type}
-use Rattle.descriptor_heads.specs.Heads.{Due, items, pairs, forms, columns, Opened, bare, opens, item_head, member_head, deepest, head_at}
+use Rattle.descriptor.specs.Reading.{Known, is, unknown, known, skip, id, boolean, flag, bits, double, unit, unit_double, Sort, leaf, sort_of, form_of, ref_value, column, column_type}
+use Rattle.descriptor_heads.specs.Heads.{Due, items, pairs, forms, columns, Opened, opens, item_head, member_head, deepest, head_at}
 use Rattle.descriptor_heads.specs.Changed.{scalars}
 use Rattle.descriptor_heads.proofs.Local.{field-lawful, id-lawful}
 

@@ -1,5 +1,5 @@
 -- The file as heads one after the other, and the recursive reading, give the same rows and the same refusals, for every byte string. Assumes nothing.
-use Prim.Native.Nat.{ℕ, zero, suc, ◌+◌, ◌-◌, ◌≤◌, ◌<◌}
+use Prim.Native.Nat.{ℕ, suc, ◌+◌}
 use mathlib.Core.Path.{◌≡◌, refl, sym, ap, ◌∙◌}
 use mathlib.Core.List.{List, [], ◌∷◌, ◌++◌, append-nil, map}
 use mathlib.Core.Bool.{Bool, true, false}
@@ -7,16 +7,16 @@ use lib.Dec.{leb, eqb}
 use lib.ListN.{length}
 use native.Mathlib.Omega.{arith}
 use Rattle.algebra.specs.Chars.{chars}
-use Rattle.algebra.specs.Reader.{Res, ok, refuse, Reader, then, pick, field, judged, many, ended, map_res, limit}
+use Rattle.algebra.specs.Reader.{Res, ok, refuse, then, pick, field, judged, many, ended, map_res, limit}
 use Rattle.descriptor.specs.Reading.{Row, class, siblings, children, keyed, item, object_of, headed, version, root, whole, descriptor}
-use Rattle.descriptor.proofs.Ends.{Accepts, yes, no, Past}
-use Rattle.descriptor_heads.specs.Heads.{Due, pairs, Head, Opened, over, next_head, settled, after, root_head, whole_heads, file_heads}
+use Rattle.descriptor.proofs.Ends.{Accepts, yes, Past}
+use Rattle.descriptor_heads.specs.Heads.{pairs, Head, Opened, over, next_head, settled, after, root_head, whole_heads, file_heads}
 use Rattle.descriptor_heads.proofs.Members.{row_at, member}
 use Rattle.descriptor_heads.specs.Rows.{heads_of, rows_from, rows_of, head_of}
 use Rattle.descriptor_heads.proofs.Past.{root-past}
 use Rattle.descriptor.proofs.Rows.{rows-laid}
 use Rattle.descriptor_heads.proofs.Tiles.{tiled-rows}
-use Rattle.descriptor_heads.proofs.Under.{marks, under, heads-under}
+use Rattle.descriptor_heads.proofs.Under.{marks, heads-under}
 
 -- the root's head
 abbrev opening : ℕ → ℕ → ℕ → Res Opened

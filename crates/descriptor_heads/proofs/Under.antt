@@ -1,15 +1,15 @@
 -- Reading members under a stack by the recursive readers, and then the rest of the stack, is reading heads one after the other. Assumes nothing.
 use Prim.Native.Nat.{ℕ, zero, suc, ◌+◌, ◌-◌, ◌≤◌, ◌<◌}
-use mathlib.Core.Path.{◌≡◌, refl, sym, ap, ap₂, ◌∙◌}
+use mathlib.Core.Path.{◌≡◌, refl, sym, ap, ◌∙◌}
 use mathlib.Core.List.{List, [], ◌∷◌, ◌++◌, append_assoc, map}
 use mathlib.Core.Bool.{Bool, true, false}
-use lib.Dec.{leb, ltb}
+use lib.Dec.{leb}
 use lib.ListN.{length, length-append}
 use borrow.Author.Tests.{le-leb, lt-leb}
 use native.Mathlib.Omega.{arith}
 use Rattle.algebra.specs.Reader.{Res, ok, refuse, Reader, then, pick, until, map_res}
 use Rattle.descriptor.specs.Reading.{Row, siblings, item, keyed, ref_item, array_pair}
-use Rattle.descriptor.proofs.Ends.{Accepts, yes, no, Past, accepted}
+use Rattle.descriptor.proofs.Ends.{Accepts, yes, Past}
 use Rattle.descriptor_heads.specs.Heads.{Due, items, pairs, forms, columns, Head, Opened, member_head, deepest, head_at, Stack, over, next_head, settled, after}
 use Rattle.descriptor_heads.specs.Rows.{heads_of, head_of}
 use Rattle.descriptor_heads.proofs.Members.{member, row_at, filled_out, headed-then}

@@ -18,8 +18,8 @@ use Rattle.descriptor.proofs.Placed.{children-placed, ref-placed, array_placed, 
 use Rattle.descriptor_judge.specs.declared.RowsEnd.{RowsEnd}
 use Rattle.descriptor_judge.specs.declared.RowsEnd.TheVariants as vw
 use Rattle.descriptor_judge.specs.scaffold.Cycle.{holder_of, held_of}
-use Rattle.descriptor_judge.specs.scaffold.Counting.{walked, single, own_too, Small, packed, carried, Within}
-use Rattle.descriptor_judge.proofs.Alike.{Alike, alike-walked, Free, alike-siblings}
+use Rattle.descriptor_judge.specs.scaffold.Counting.{walked, single, own_too, Small, packed, Within}
+use Rattle.descriptor_judge.proofs.Alike.{alike-walked, Free, alike-siblings}
 
 -- ---- answers
 

@@ -8,6 +8,7 @@
 // for nothing. The compiler then makes one function of all, and a member without members costs no
 // call.
 #![tactic(auto)]
+
 ghost use Rattle.std.specs.Prelude.{◌≡◌, ◌≤◌, ◌<◌, length};
 ghost use Rattle.fields.specs.Answer.{told_field_end};
 ghost use Rattle.descriptor.specs.Reading.{id, class, children, ref_item, reference_of, array_pair, array_of, item, object_of, root, descriptor};

@@ -4,8 +4,8 @@ use mathlib.Core.Path.{◌≡◌, refl, ap}
 use mathlib.Core.List.{List, [], ◌∷◌}
 use package.types.Run.{OneOf}
 use Rattle.algebra.specs.Chars.{chars}
-use Rattle.algebra.specs.Reader.{Reader, field, or_zero}
-use Rattle.descriptor.specs.Reading.{Sort, is, unknown, leaf, list, object, reference, array, skip, unicode, class, flag, double, enumerated, raw_bytes, unit_double, types, sort_of}
+use Rattle.algebra.specs.Reader.{field, or_zero}
+use Rattle.descriptor.specs.Reading.{is, leaf, list, object, reference, array, skip, unicode, class, flag, double, enumerated, raw_bytes, unit_double, types, sort_of}
 use Rattle.descriptor.proofs.Keys.{at-keys, past-keys, None}
 use Rattle.descriptor_raw.specs.declared.RawHead.{RawHead}
 use Rattle.descriptor_raw.specs.scaffold.Raw.{Values, Leaf, Object, Array}

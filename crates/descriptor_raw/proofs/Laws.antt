@@ -9,7 +9,7 @@ use borrow.Author.Tests.{eq-eqb, ne_eqb, eqb-true, eqb-false}
 use lib.Ieee.{binary64, of_bits}
 use lib.Ieee.Scale.{finite}
 use Rattle.algebra.specs.Chars.{chars}
-use Rattle.algebra.specs.Reader.{Res, Reader, ok, refuse, then, pick, field, body, rule, Judged, fine, fault, unless, judged, each, done, or_zero}
+use Rattle.algebra.specs.Reader.{Res, Reader, ok, refuse, then, pick, field, body, rule, Judged, fine, fault, unless, judged, each, or_zero}
 use Rattle.algebra.proofs.Inverse.{field-inv, body-inv, judged-inv, done-inv, clash, then-inv, ok-value, ok-place, each_none, each-inv}
 use Rattle.descriptor.specs.Reading.{Known, is, unknown, known, Sort, leaf, list, object, reference, array, sort_of, id, skip, shut, unicode, class, raw_bytes, flag, double, is_unit, is_array_unit, unit_double, form_of, ref_value, column}
 use Rattle.descriptor_fields.specs.scaffold.Answer.{reader_of}

@@ -4,6 +4,7 @@
 // These readers are not those of judging: a reader that both call would be a call for every field in
 // both.
 #![tactic(auto)]
+
 ghost use Rattle.std.specs.Prelude.{◌≡◌, ◌+◌, ◌≤◌, ◌<◌, eqb};
 ghost use Rattle.algebra.specs.Reader.{field, or_zero};
 ghost use Rattle.descriptor.specs.Reading.{id, unicode, class, enumerated, raw_bytes};
@@ -23,7 +24,7 @@ use descriptor_judge::LIMIT;
 // A head: its kind, what its children are (0 items, 1 pairs, 2 reference items, 3 the pairs of an
 // object array) with the number of objects, how many there are, where the row's value begins, and
 // where the head ends.
-#[derive(Drop)]
+#[derive(Clone, Copy)]
 pub struct RawHead {
     pub kind: u32,
     pub what: u32,

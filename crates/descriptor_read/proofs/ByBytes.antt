@@ -1,21 +1,21 @@
 -- A value's bytes say what is read of it, by its kind. Assumes nothing.
 -- Few imports, and first by its name: a kind that is read otherwise is refused here, and by nothing before it.
 use Prim.Native.Nat.{ℕ, ◌+◌}
-use mathlib.Core.Path.{◌≡◌, refl, sym, ap, ap₂, ◌∙◌}
-use mathlib.Core.List.{List, [], ◌∷◌, ◌++◌}
+use mathlib.Core.Path.{◌≡◌, refl, ap, ap₂}
+use mathlib.Core.List.{List, [], ◌∷◌}
 use mathlib.Core.Bool.{Bool, true, false, true≢false}
 use lib.Dec.{eqb}
 use lib.Ieee.{binary64, of_bits}
 use native.Mathlib.Omega.{arith}
 use Rattle.algebra.specs.Chars.{chars}
-use Rattle.algebra.specs.Numbers.{num, be, At}
+use Rattle.algebra.specs.Numbers.{be, At}
 use Rattle.algebra.specs.Reader.{pick}
 use Rattle.algebra.specs.Refusal.{one_of}
 use Rattle.algebra.proofs.Places.{length-be, at_left, at_after, num-be}
 use Rattle.descriptor_read.specs.declared.Typed.{Typed}
 use Rattle.descriptor_read.specs.declared.Typed.TheVariants as vt
 use Rattle.descriptor_read.specs.Typed.{typed_in}
-use Rattle.descriptor_read.specs.Kinds.{Says, typed}
+use Rattle.descriptor_read.specs.Kinds.{Says}
 
 -- where a test or others hold in no case, neither does
 neither : (a o : Bool) → pick a true o ≡ false → (a ≡ false) × (o ≡ false)

@@ -1,13 +1,13 @@
 -- The turns of the loop that looks for one row. Assumes nothing.
 use Prim.Native.Nat.{ℕ, zero, suc, ◌+◌, ◌-◌, ◌≤◌, ◌<◌}
 use mathlib.Core.Path.{◌≡◌, refl, sym, ap, ◌∙◌, subst}
-use mathlib.Core.Bool.{Bool, true, false}
+use mathlib.Core.Bool.{Bool}
 use mathlib.Core.List.{List, [], ◌∷◌}
 use lib.Dec.{eqb}
 use lib.ListN.{length, set, get_or, length-set}
 use borrow.Author.Tests.{eq-eqb, ne_eqb}
 use native.Mathlib.Omega.{arith}
-use Rattle.algebra.specs.Reader.{Res, ok, refuse, pick, map_res}
+use Rattle.algebra.specs.Reader.{Res, map_res}
 use Rattle.descriptor.specs.Reading.{Row, descriptor}
 use Rattle.descriptor_heads.specs.Heads.{Head, Opened, member_head, root_head, file_heads}
 use Rattle.descriptor_heads.specs.Rows.{row_end, now_under, rows_from, rows_of, heads_of}
@@ -18,13 +18,13 @@ use Rattle.descriptor.proofs.Ends.{accepted}
 use Rattle.descriptor_judge.specs.Answer as A
 use Rattle.descriptor_raw.specs.Raw.{due_of, Sees}
 use Rattle.descriptor_raw.specs.declared.RawHead.{RawHead}
-use Rattle.descriptor_columns.specs.scaffold.Filling.{dues, Begun, Rooted, rest}
+use Rattle.descriptor_columns.specs.scaffold.Filling.{dues, rest}
 use Rattle.descriptor_columns.specs.declared.Level.{Level}
 use Rattle.descriptor_columns.proofs.Levels.{level, nothing, levels, levels-length, levels-push, levels-pop, dues-length}
 use Rattle.descriptor_columns.proofs.Walking.{Walking, Headed, walk_start, walk-close, walk_end, walk-head, row_closes}
 use Rattle.descriptor_columns.proofs.Reading as R
 use Rattle.descriptor_read.specs.declared.Met.{Met}
-use Rattle.descriptor_read.specs.Values.{RowAnswer, found, missing, row_at, row_in}
+use Rattle.descriptor_read.specs.Values.{row_at, row_in}
 use Rattle.descriptor_read.specs.scaffold.Values.{Extent', is, refused, extent_of}
 use Rattle.descriptor_read.specs.scaffold.Extents.{Accepted, ending, extent_at, extent_in, met_by}
 

@@ -3,6 +3,7 @@
 // A file is judged first. Then a loop goes over its heads, without judging again, up to the row that
 // is asked for, and on to that row's end.
 #![tactic(auto)]
+
 ghost use Rattle.std.specs.Prelude.{◌≡◌, ◌+◌, ◌-◌, ◌≤◌, eqb, length, true};
 ghost use Rattle.std.specs.Float.{binary64};
 ghost use Rattle.std.specs.Float.Ieee.{of_bits};

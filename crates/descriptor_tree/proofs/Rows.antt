@@ -1,13 +1,13 @@
 -- What is promised of the rows of a descriptor file, for every allowed tree and any lent runs. Assumes nothing.
-use Prim.Native.Nat.{ℕ, zero, suc, ◌/◌, ◌≤◌, ◌<◌}
+use Prim.Native.Nat.{◌+◌, ℕ, zero, suc, ◌/◌, ◌≤◌, ◌<◌}
 use mathlib.Core.Path.{◌≡◌, refl, sym, subst, ap, ◌∙◌}
 use mathlib.Core.Bool.{Bool, true, false}
-use mathlib.Core.List.{List, [], ◌∷◌, ◌++◌, map}
+use mathlib.Core.List.{List, [], ◌∷◌, ◌++◌}
 use lib.ListN.{length, get_or, take, drop, length-append}
 use lib.Seq.{take-append_seam, drop-append_seam}
 use native.Mathlib.Omega.{arith}
 use Rattle.algebra.specs.Numbers.{be}
-use Rattle.algebra.specs.Reader.{Res, ok, pick}
+use Rattle.algebra.specs.Reader.{Res, pick}
 use Rattle.descriptor.specs.Reading.{Row, descriptor}
 use Rattle.descriptor.specs.Tiles.{heads, sum}
 use Rattle.descriptor.proofs.Tiling.{heads-sum, heads-length, five-each, five-heads, in_order}
@@ -16,8 +16,8 @@ use Rattle.descriptor_columns.specs.Columns.{nexts_from, depths_of, columns_of, 
 use Rattle.descriptor_columns.specs.Filled.{fits, answered, onto, filled, Read}
 use Rattle.descriptor_columns.proofs.Room.{room-on}
 use Rattle.descriptor_columns.proofs.Theorem.{get_d_map, map-length, parents-are}
-use Rattle.descriptor_tree.specs.Tree.{Descriptor, count, root_head, file_heads, file_rows, file_nexts, row_count, File}
-use Rattle.descriptor_tree.specs.Promise.{Room, Promise}
+use Rattle.descriptor_tree.specs.Tree.{Descriptor, count, root_head, file_heads, file_rows, row_count, File}
+use Rattle.descriptor_tree.specs.Promise.{Promise}
 use Rattle.descriptor_tree.proofs.Nexts.{file-nexts}
 use Rattle.descriptor_tree.proofs.Sizes.{class-size}
 use Rattle.descriptor_tree.proofs.Tiling.{By, file-tiled}
@@ -48,7 +48,7 @@ onto-take col run n e = ap (λ (k : ℕ). take k (onto col run)) (sym e) ∙ tak
 nexts-length : (n k : ℕ) (ds : List ℕ) → length (nexts_from n k ds) ≡ length ds
 unfolding nexts_from
 nexts-length n k [] = refl
-nexts-length n k (d ∷ ds) = ap suc (nexts-length n _ ds)
+nexts-length n k (d ∷ ds) = ap suc (nexts-length n (k + 1) ds)
 
 -- for every allowed tree and its bytes, and any five lent runs
 pub rows-promised : {t : Descriptor} {s : List ℕ} → File t s → (a b c d e : List ℕ) (v : Verdict) (a' b' c' d' e' : List ℕ) → v ≡ answered (descriptor s) (a ∷ b ∷ c ∷ d ∷ e ∷ []) → Read s a b c d e a' b' c' d' e'

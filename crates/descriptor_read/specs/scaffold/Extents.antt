@@ -1,5 +1,5 @@
 -- Scaffolding: one row by the heads of its file.
-use Rattle.std.specs.Prelude.{ℕ, zero, suc, ◌+◌, ◌-◌, ◌≡◌, Bool, List, [], ◌∷◌}
+use Rattle.std.specs.Prelude.{ℕ, zero, suc, ◌+◌, ◌-◌, Bool, List, [], ◌∷◌}
 use Rattle.algebra.specs.Reader.{Res, ok, refuse, pick}
 use Rattle.descriptor_heads.specs.Heads.{Head, Opened}
 use Rattle.descriptor_heads.specs.Rows.{row_end, heads_of}

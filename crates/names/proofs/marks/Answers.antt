@@ -1,4 +1,4 @@
-use Rattle.std.proofs.Common.{arith, rules}
+use Rattle.std.proofs.Common.{arith}
 use Rattle.algebra.proofs.Lanes.{four-marked}
 use Rattle.names.proofs.marks.Goals as goal
 

@@ -1,0 +1,14 @@
+use Prim.Native.Nat.{◌+◌, ◌-◌, ◌*◌}
+use lib.ListN.{length}
+use Rattle.descriptor_columns.specs.scaffold.Filling.{rest}
+use Rattle.descriptor_columns.proofs.Levels.{level}
+use Rattle.descriptor_columns.proofs.Turns.{Loop}
+use Rattle.descriptor_columns.proofs.fill.Given as goal
+
+abbrev pub invariant-loop-left : goal.invariant-loop-left
+invariant-loop-left l =
+    Loop l.file l.rows (rest l.file l.due l.arity l.count l.start) l.initial.first l.initial.size l.initial.next l.initial.depth l.initial.kind l.first l.size l.next l.depth l.kind l.saved l.d (level l.what l.objects l.left l.row l.from) l.k l.at
+
+abbrev pub decreases-loop-left : goal.decreases-loop-left
+decreases-loop-left l =
+    2 * (length l.file - l.at) + l.d

@@ -1,0 +1,8 @@
+use Rattle.descriptor_raw.proofs.Laws as L
+use Rattle.descriptor_raw.proofs.text_end.Goals as goal
+
+-- src/lib.rt:58:1
+pub returns : goal.returns
+returns c =
+    let a = c.args in
+    L.text-ends a.file.now a.at _ c.count_at.ensures.0 c.count_at.ensures.1
