@@ -16,7 +16,7 @@ use Rattle.algebra.proofs.Cuts.{stub-take, bytes_take}
 use Rattle.algebra.proofs.Stops.{each-stops}
 use Rattle.algebra.proofs.Tails.{Tail, tail-left, tail-after, whole-tail}
 use Rattle.acb.specs.Grammar.{Tag, none, spot, process, Ending, tagged, Book, String, AllowedRecord, Allowed, File, file, bytes_of_string, colour_bytes, tag_bytes, ending_bytes, head_bytes, file_bytes}
-use Rattle.acb.specs.Reading.{string, colour, components_of, Numbers, opening, strings, numbers, header, Contents, closing, book, acb, book_of}
+use Rattle.acb.specs.Reading.{string, colour, components_of, Numbers, opening, strings, header, Contents, closing, book, acb, book_of}
 use Rattle.acb.specs.Widths.{head_widths, colour_widths, ending_widths, file_widths}
 use Rattle.acb.specs.Damaged.{CutString, DamagedNumbers, CutColour, DamagedEnd, opened, strings_end, counting, ending, tag_at, Damaged, wrong_opening, string_cut, wrong_numbers, record_cut, wrong_end, left_over, untagged}
 use Rattle.acb.proofs.Laws.{Top, top_bytes, Headed, space-components, string-exact, opening-exact, strings-exact, header-exact, colour-exact}

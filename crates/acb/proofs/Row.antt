@@ -1,10 +1,10 @@
 -- A row's numbers and the way back. Assumes nothing.
-use Prim.Native.Nat.{ℕ, ◌+◌, ◌/◌, ◌≤◌, ◌<◌}
+use Prim.Native.Nat.{ℕ, ◌+◌, ◌≤◌}
 use mathlib.Core.Path.{◌≡◌, refl, sym, ap, ◌∙◌}
 use mathlib.Core.List.{List, [], ◌∷◌, map}
 use lib.ListN.{length, take}
 use native.Mathlib.Omega.{arith}
-use Rattle.algebra.specs.Table.{row_at, whole}
+use Rattle.algebra.specs.Table.{whole}
 use Rattle.algebra.proofs.Places.{joined-map}
 use Rattle.algebra.proofs.Rows.{all_fit}
 use Rattle.algebra.proofs.Table.{whole_back}

@@ -1,5 +1,5 @@
 -- An index compared with a file, entry by entry. Assumes nothing.
-use Prim.Native.Nat.{ℕ, zero, suc, ◌+◌, ◌-◌, ◌*◌, ◌/◌, ◌%◌, ◌≤◌, ◌<◌}
+use Prim.Native.Nat.{ℕ, ◌+◌, ◌-◌, ◌*◌, ◌/◌, ◌≤◌, ◌<◌}
 use mathlib.Core.Path.{◌≡◌, refl, sym, ap, ap₂, ◌∙◌, subst}
 use mathlib.Core.List.{List, []}
 use mathlib.Core.Bool.{Bool, true, false}
@@ -12,18 +12,18 @@ use native.Mathlib.Omega.{arith}
 use native.Mathlib.Numerals.{add-one}
 use native.Mathlib.Nat.{mul_comm, mul-suc, mul-le-mul_left, mul-le-mul_right, div-add-mod'}
 use Rattle.algebra.specs.Numbers.{Bytes}
-use Rattle.algebra.specs.Reader.{Res, ok, refuse, pick}
-use Rattle.algebra.specs.Table.{accepted, refused}
+use Rattle.algebra.specs.Reader.{Res, refuse, pick}
+use Rattle.algebra.specs.Table.{refused}
 use Rattle.algebra.specs.Text.{is_empty}
 use Rattle.acb.specs.Reading.{acb, Contents}
-use Rattle.order.specs.Order.{Order, less, is_less}
+use Rattle.order.specs.Order.{less, is_less}
 use Rattle.order.proofs.Lists.{is-less}
 use Rattle.order.proofs.Heaps.{same_or}
 use Rattle.acb_order.specs.Index.{shown_from, shown_at, by_name, index_of, names_of}
 use Rattle.acb_order.specs.Search.{begins, lowest, searched}
 use Rattle.acb_order.specs.Places.{units_at}
 use Rattle.acb_order.specs.scaffold.Places.{place_order, record_place, Opened, names_read, names_in}
-use Rattle.acb_order.proofs.Index.{Right, right-begins, begins-right}
+use Rattle.acb_order.proofs.Index.{right-begins, begins-right}
 use Rattle.acb_order.proofs.Files.{known, names-count, order_is}
 use Rattle.acb_find.specs.scaffold.Marks.{Spaced, Marked}
 

@@ -4,6 +4,7 @@
 // 4,096 marks, d as small as they allow, so that every other record is less than d, at most 15, steps
 // behind a mark: in books of fewer than 4,096 records none.
 #![tactic(auto)]
+
 ghost use Rattle.std.specs.Prelude.{◌≡◌, [], true, ◌+◌, ◌-◌, ◌*◌, ◌≤◌, ◌<◌, eqb, length, get_or, set};
 ghost use Rattle.algebra.specs.Reader.{pick, limit};
 ghost use Rattle.order.specs.Order.{is_less};

@@ -1,20 +1,19 @@
 -- Sorted keys of the shown records, by their numbers, are the index. Assumes nothing.
-use Prim.Native.Nat.{ℕ, zero, suc, ◌+◌, ◌-◌, ◌*◌, ◌/◌, ◌%◌, ◌≤◌, ◌<◌}
+use Prim.Native.Nat.{ℕ, ◌+◌, ◌-◌, ◌/◌, ◌%◌, ◌≤◌, ◌<◌}
 use mathlib.Core.Path.{◌≡◌, refl, sym, ap, ap₂, ◌∙◌, subst}
-use mathlib.Core.List.{List, [], ◌∷◌, ◌++◌}
+use mathlib.Core.List.{List, [], ◌++◌}
 use mathlib.Core.Bool.{Bool, true, false}
 use mathlib.Core.Logic.{◌⊎◌, inl, inr}
-use lib.Dec.{eqb, ltb, leb}
+use lib.Dec.{eqb, ltb}
 use lib.ListN.{length, get_or, set, drop, length-set}
 use lib.Seq.{get_or-set_same, get_or-set_other}
 use borrow.Author.Tests.{le-leb, lt-leb, eq-eqb, ne_eqb, eqb-false, ltb-true, ltb-false}
 use native.Mathlib.Omega.{arith}
 use Rattle.algebra.specs.Numbers.{Bytes}
-use Rattle.algebra.specs.Reader.{Res, ok, refuse, pick}
+use Rattle.algebra.specs.Reader.{Res, refuse, pick}
 use Rattle.algebra.specs.Table.{accepted, refused}
 use Rattle.acb.specs.Reading.{acb, Contents}
 use Rattle.order.specs.Order.{less, or_else, compare}
-use Rattle.order.specs.Run.{Rearranged, Ordered}
 use Rattle.order.proofs.Orders.{compare-less, compare-more, compare_same}
 use Rattle.order.proofs.Lists.{turned-less}
 use Rattle.order.proofs.Heaps.{same_or}

@@ -5,6 +5,7 @@
 // a record of every 2,048 bytes: a record takes 13 bytes and more, so that the low byte tells it from
 // the others of its 2,048.
 #![tactic(auto)]
+
 ghost use Rattle.std.specs.Prelude.{◌≡◌, ℕ, ◌+◌, ◌*◌, ◌/◌, ◌%◌, ◌≤◌, ◌<◌, eqb, length, get_or, set};
 ghost use Rattle.algebra.specs.Reader.{pick, limit};
 ghost use Rattle.acb.specs.Reading.{acb};

@@ -1,5 +1,6 @@
 // ACB colour books: judging a file by the layout.
 #![tactic(auto)]
+
 ghost use Rattle.std.specs.Prelude.{◌≡◌, ◌≤◌, length, map};
 ghost use Rattle.algebra.specs.Reader.{done, each, judged, map_res};
 ghost use Rattle.algebra.specs.Table.{verdict};
@@ -18,14 +19,14 @@ use fields::{FieldEnd, Number16, Number32, Number64};
 use names::NameAt;
 
 // Where a string lies: the place of its first unit, and its number of units.
-#[derive(Drop)]
+#[derive(Clone, Copy)]
 pub struct Text {
     pub place: usize,
     pub units: u32,
 }
 
 // How a file ends.
-#[derive(Drop)]
+#[derive(Clone, Copy)]
 pub enum Tag {
     None,
     Spot,
@@ -44,7 +45,7 @@ pub fn ink_of(tag: Tag) -> Ink
 }
 
 // What stands before the records, apart from their number.
-#[derive(Drop)]
+#[derive(Clone, Copy)]
 pub struct Header {
     pub identifier: u16,
     pub title: Text,

@@ -1,6 +1,7 @@
 // ACB colour books: the names of records at places of a file, and which of two comes first. Any place
 // is taken: where no count stands a name has no units, and units past the file's end are left out.
 #![tactic(auto)]
+
 ghost use Rattle.std.specs.Prelude.{◌≡◌, ◌+◌, ◌*◌, ◌≤◌, ◌<◌, length};
 ghost use Rattle.algebra.specs.Numbers.{num, nums};
 ghost use Rattle.order.specs.Order.{is_less, or_else};

@@ -3,7 +3,6 @@ use Prim.Native.Nat.{ℕ, zero, suc, ◌+◌, ◌-◌, ◌*◌, ◌/◌, ◌≤�
 use mathlib.Core.Path.{◌≡◌, refl, sym, ap, ap₂, ◌∙◌, subst}
 use mathlib.Core.List.{List, [], ◌∷◌, map}
 use mathlib.Core.Bool.{Bool, true, false}
-use mathlib.Core.Logic.{◌⊎◌, inl, inr}
 use lib.Dec.{leb, eqb, ltb}
 use lib.ListN.{length, get_or, drop}
 use lib.Seq.{drop-cons, drop-length}
@@ -11,7 +10,7 @@ use borrow.Author.Tests.{leb-true, le-leb, ne_eqb, ltb-true, ltb-false}
 use native.Mathlib.Omega.{arith}
 use native.Mathlib.Numerals.{add-one}
 use Rattle.algebra.specs.Numbers.{num, nums, Bytes}
-use Rattle.algebra.specs.Reader.{Res, ok, pick, limit, field, body, each}
+use Rattle.algebra.specs.Reader.{ok, pick, limit, field, body, each}
 use Rattle.algebra.specs.Table.{accepted, verdict}
 use Rattle.algebra.specs.Text.{Name, is_empty}
 use Rattle.algebra.proofs.Inverse.{ok-value, ok-place, then-inv, pick_inv, field-inv, body-inv, each_none, each-inv, each-length}
@@ -23,7 +22,6 @@ use Rattle.acb.proofs.Laws.{components-some, header-exact}
 use Rattle.acb_judge.specs.Answer.{HeaderPlaces, Report, reported, report}
 use Rattle.order.specs.Order.{or_else, compare}
 use Rattle.order.proofs.Orders.{compare-less, compare-more, compare_same}
-use Rattle.order.proofs.Heaps.{same_or}
 use Rattle.acb_order.specs.Names.{compare_names}
 use Rattle.acb_order.specs.Index.{shown_as, shown_from, shown_at, by_name, names_of}
 use Rattle.acb_order.specs.Places.{units_at, name_at}

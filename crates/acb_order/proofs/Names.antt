@@ -1,10 +1,10 @@
 -- Laws of the order of names. Assumes nothing.
-use Prim.Native.Nat.{ℕ, ◌<◌}
+use Prim.Native.Nat.{ℕ}
 use mathlib.Core.Path.{◌≡◌, refl, sym, ap, ap₂, ◌∙◌}
-use mathlib.Core.List.{List, [], ◌∷◌, ◌++◌}
+use mathlib.Core.List.{List, [], ◌∷◌}
 use mathlib.Core.Logic.{◌⊎◌, inl, inr}
 use native.Mathlib.Omega.{arith}
-use Rattle.order.specs.Order.{Order, less, same, greater, or_else, compare}
+use Rattle.order.specs.Order.{Order, less, same, or_else, compare}
 use Rattle.order.specs.scaffold.Total.{turn, Total}
 use Rattle.order.proofs.Orders.{compare-less, compare_same, less-is, same-is, turned-is, turn-else, else_same, else-less}
 use Rattle.acb_order.specs.Names.{compare_names}

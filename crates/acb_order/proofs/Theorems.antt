@@ -1,26 +1,26 @@
 -- What a user of the index may rely on: it is the one rearrangement of a book's shown records in the order of their names, and search finds the lowest of a name.
 -- Assumes nothing.
-use Prim.Native.Nat.{ℕ, zero, suc, ◌+◌, ◌-◌, ◌≤◌, ◌<◌}
+use Prim.Native.Nat.{ℕ, ◌+◌, ◌-◌, ◌≤◌, ◌<◌}
 use mathlib.Core.Path.{◌≡◌, refl, sym, ap, ap₂, ◌∙◌, subst}
 use mathlib.Core.List.{List, [], ◌∷◌, ◌++◌, map, Permᴰ}
 use mathlib.Core.Bool.{Bool, true, false}
-use lib.Dec.{leb, eqb}
+use lib.Dec.{leb}
 use lib.ListN.{length, get_or, take, drop, take-append-drop}
-use borrow.Author.Tests.{leb-true, leb-false, le-leb, eqb-true, eq-eqb}
+use borrow.Author.Tests.{eq-eqb}
 use native.Mathlib.Omega.{arith}
-use Rattle.algebra.specs.Reader.{Res, ok, refuse, pick}
+use Rattle.algebra.specs.Reader.{ok, pick}
 use Rattle.algebra.specs.Table.{Verdict, accepted, refused}
 use Rattle.algebra.specs.Text.{is_empty}
 use Rattle.acb.specs.Reading.{Contents}
 use Rattle.order.specs.Order.{Order, less, same, greater, or_else, compare, is_same_order}
-use Rattle.order.specs.Sorted.{Increasing, In, first, later, sorted}
-use Rattle.order.proofs.Orders.{compare-less, compare_same, less-is, else-less}
-use Rattle.order.proofs.Lists.{sorted-arranges, arranged-only, sorted-increasing}
+use Rattle.order.specs.Sorted.{Increasing, In, first, later}
+use Rattle.order.proofs.Orders.{compare-less, compare_same, less-is}
+use Rattle.order.proofs.Lists.{sorted-arranges, arranged-only}
 use Rattle.acb_order.specs.Names.{compare_names}
 use Rattle.acb_order.specs.Index.{Shown, shown_as, shown_from, shown_at, by_name, index_of, names_of, indexed}
 use Rattle.acb_order.specs.Search.{lowest, begins, searched}
 use Rattle.acb_order.proofs.Names.{names-total}
-use Rattle.acb_order.proofs.Index.{by_name-total, Is, shown-is, is-shown, shown-distinct, index-shown, index-rising, index-length, numbers-back, begins-take, take_begins, increasing-at, lowest-is, lowest-none}
+use Rattle.acb_order.proofs.Index.{by_name-total, shown-is, is-shown, shown-distinct, index-shown, index-rising, numbers-back, begins-take, increasing-at, lowest-none}
 
 -- ---- the order of names
 

@@ -20,7 +20,7 @@ use Rattle.colour.specs.Inks.{ink_number}
 use Rattle.acb.specs.Row.{RecordRow, width, numbers, taken, given_of, tag_ink, stated, records_of}
 use Rattle.acb_judge.specs.Answer.{Report, report}
 use Rattle.acb_read.specs.Table.{entries_of, blank, name_bytes_in}
-use Rattle.acb_read.specs.Answer.{RecordPlaces, record_places, places, with_ink}
+use Rattle.acb_read.specs.Answer.{record_places, places, with_ink}
 use Rattle.acb_read.specs.Walked.{step, passed, walked}
 use Rattle.acb_read.proofs.Walking.{short, walked_all, record-step, name-inside}
 

@@ -4,8 +4,7 @@ use mathlib.Core.Path.{◌≡◌, refl, sym, ap, ap₂, ◌∙◌, subst}
 use mathlib.Core.List.{List, [], ◌∷◌}
 use mathlib.Core.Bool.{Bool, true, false}
 use lib.Dec.{eqb}
-use lib.ListN.{length, get_or, set, get_or-eq_default}
-use lib.Seq.{sets}
+use lib.ListN.{length, get_or, get_or-eq_default}
 use borrow.Author.Tests.{eqb-true, eqb-false}
 use native.Mathlib.Omega.{arith}
 use Rattle.algebra.specs.Numbers.{num, nums}
@@ -18,7 +17,7 @@ use Rattle.algebra.proofs.Inverse.{clash, ok-value, ok-place, done-inv, then-inv
 use Rattle.acb.specs.Reading.{string, Entry, colour, components_of}
 use Rattle.acb.proofs.Laws.{components-some}
 use Rattle.acb_judge.proofs.Judging.{string-is, colour-in}
-use Rattle.acb_read.specs.Answer.{RecordPlaces, record_places}
+use Rattle.acb_read.specs.Answer.{record_places}
 use Rattle.acb_read.specs.Walked.{stepped, step}
 use Rattle.acb_read.specs.scaffold.Parts.{whole_at}
 

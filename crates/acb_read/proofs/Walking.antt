@@ -1,14 +1,13 @@
 -- The records of an accepted file are those that steps give, one after the other. Assumes nothing.
 use Prim.Native.Nat.{ℕ, zero, suc, ◌+◌, ◌*◌, ◌-◌, ◌≤◌, ◌<◌}
 use mathlib.Core.Path.{◌≡◌, refl, sym, ap, ◌∙◌, subst}
-use mathlib.Core.List.{List, [], ◌∷◌, ◌++◌, map}
+use mathlib.Core.List.{List, [], ◌∷◌, map}
 use lib.ListN.{length, get_or, take, drop}
 use lib.Dec.{leb}
 use lib.Seq.{sets, take_all}
 use borrow.Author.Tests.{leb-true}
 use native.Mathlib.Omega.{arith}
-use native.Mathlib.Nat.{zero-add}
-use Rattle.algebra.specs.Numbers.{num, joined}
+use Rattle.algebra.specs.Numbers.{joined}
 use Rattle.algebra.specs.Reader.{Res, ok, refuse, each, limit}
 use Rattle.algebra.specs.Table.{accepted}
 use Rattle.algebra.proofs.Inverse.{ok-value, then-inv, pick_inv, each-inv, each-length}
@@ -17,9 +16,9 @@ use Rattle.acb.specs.Reading.{Entry, colour, components_of, header, Contents, cl
 use Rattle.acb.specs.Row.{RecordRow, width, numbers, given_of}
 use Rattle.acb.proofs.Laws.{components-some}
 use Rattle.acb_read.specs.Table.{blank}
-use Rattle.acb_read.specs.Answer.{RecordPlaces, record_places}
+use Rattle.acb_read.specs.Answer.{record_places}
 use Rattle.acb_read.specs.Walked.{stepped, step, passed, given_in, walked}
-use Rattle.acb_read.proofs.Records.{Recorded, recorded}
+use Rattle.acb_read.proofs.Records.{recorded}
 
 -- ---- a loop over steps
 

@@ -21,7 +21,7 @@ use Rattle.acb.specs.Reading.{components_of}
 use Rattle.acb_judge.specs.Answer.{HeaderPlaces}
 use Rattle.acb.specs.Faults as a
 use Rattle.acb.specs.Faults.{ending_fault, EndingFits, book_fault, BookFits}
-use Rattle.acb_writing.specs.Writing.{units_within, components_in, colour_in, book_in, sizes, string_size, size_within, size, text_fault, byte_fault, head_fault, colour_fault, other_fault, ink_fault, fault}
+use Rattle.acb_writing.specs.Writing.{units_within, components_in, colour_in, book_in, sizes, string_size, size_within, size, text_fault, byte_fault, colour_fault, other_fault, ink_fault, fault}
 use Rattle.acb.specs.Row.{RecordRow}
 use Rattle.acb_write_judge.proofs.Judging.{text_in, text-cut, head-fine}
 use Rattle.acb.proofs.Laws.{components-some}

@@ -1,12 +1,12 @@
 -- The records of an accepted file, from a table to a writer. Assumes nothing.
-use Prim.Native.Nat.{ℕ, zero, suc, ◌+◌, ◌*◌, ◌/◌, ◌^◌, ◌≤◌, ◌<◌}
+use Prim.Native.Nat.{ℕ, zero, suc, ◌+◌, ◌*◌, ◌^◌, ◌≤◌, ◌<◌}
 use mathlib.Core.Path.{◌≡◌, refl, sym, ap, ap₂, ◌∙◌, subst}
-use mathlib.Core.List.{List, [], ◌∷◌, ◌++◌, map}
+use mathlib.Core.List.{List, [], ◌∷◌, map}
 use lib.Dec.{leb}
-use lib.ListN.{length, get_or, take}
+use lib.ListN.{length}
 use native.Mathlib.Omega.{arith}
 use borrow.Author.Tests.{eq-eqb}
-use Rattle.algebra.specs.Numbers.{counted, nums, joined, Bytes, All}
+use Rattle.algebra.specs.Numbers.{nums, Bytes, All}
 use Rattle.algebra.specs.Reader.{Reader, ok, field, body, each, limit}
 use Rattle.algebra.specs.Text.{Name}
 use Rattle.algebra.proofs.Places.{length-nums}

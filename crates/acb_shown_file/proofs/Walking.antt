@@ -1,5 +1,5 @@
 -- Which records of a file or of a table are dummies, and what a page then shows. Assumes nothing.
-use Prim.Native.Nat.{ℕ, zero, suc, ◌+◌, ◌-◌, ◌/◌, ◌≤◌, ◌<◌, min}
+use Prim.Native.Nat.{ℕ, zero, suc, ◌+◌, ◌-◌, ◌/◌, ◌≤◌, min}
 use mathlib.Core.Path.{◌≡◌, refl, sym, ap, ap₂, ◌∙◌, subst}
 use mathlib.Core.List.{List, [], ◌∷◌, map}
 use mathlib.Core.Bool.{Bool}
@@ -8,7 +8,7 @@ use lib.Dec.{eqb, eqb-suc-zero}
 use native.Mathlib.Omega.{arith}
 use native.Mathlib.Nat.{add-zero}
 use Rattle.algebra.specs.Numbers.{counted}
-use Rattle.algebra.specs.Reader.{Res, ok, refuse}
+use Rattle.algebra.specs.Reader.{Res}
 use Rattle.algebra.specs.Table.{refused, verdict, rows}
 use Rattle.algebra.specs.Filling.{Accepted}
 use Rattle.algebra.specs.Text.{is_empty}
@@ -16,7 +16,7 @@ use Rattle.algebra.proofs.Counted.{length-counted}
 use Rattle.algebra.proofs.Exact.{length-map}
 use Rattle.algebra.proofs.Table.{refused-of}
 use Rattle.acb.specs.Reading.{Entry, Contents, acb}
-use Rattle.acb.specs.Row.{RecordRow, width, taken, given_of}
+use Rattle.acb.specs.Row.{width, taken, given_of}
 use Rattle.acb_judge.specs.Answer.{Report, report}
 use Rattle.acb_read.specs.Walked.{passed, walked}
 use Rattle.acb_read.proofs.Walking.{walked_from}

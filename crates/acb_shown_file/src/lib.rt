@@ -1,6 +1,7 @@
 // ACB colour books: what a file shows. A record's components and full name, and a page's sample, which a
 // table of records shows too.
 #![tactic(auto)]
+
 ghost use Rattle.std.specs.Prelude.{◌≡◌, ◌++◌, map, ◌+◌, ◌-◌, ◌*◌, ◌≤◌, min, length};
 ghost use Rattle.std.proofs.lemmas.List.Edits.{sets};
 ghost use Rattle.algebra.specs.Store.{part};

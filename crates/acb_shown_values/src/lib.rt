@@ -1,5 +1,6 @@
 // ACB colour books as they are shown: the texts of the header, components and pages.
 #![tactic(auto)]
+
 mod component;
 mod page;
 mod text;

@@ -1,8 +1,8 @@
 -- The order of keys, and a turn of the second half of sorting: the root of a heap takes the place behind it. Assumes nothing.
 use Prim.Native.Nat.{ℕ, ◌+◌, ◌-◌, ◌/◌, ◌≤◌, ◌<◌}
-use mathlib.Core.Path.{◌≡◌, refl, sym, ap, subst, ◌∙◌}
+use mathlib.Core.Path.{◌≡◌, sym, subst}
 use mathlib.Core.List.{List}
-use lib.ListN.{length, get_or}
+use lib.ListN.{length}
 use native.Mathlib.Omega.{arith}
 use Rattle.order.specs.Run.{Rearranged}
 use Rattle.order.specs.scaffold.Heap.{Heap, Tail, swapped}

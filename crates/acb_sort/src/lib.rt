@@ -1,6 +1,7 @@
 // ACB colour books: records sorted by their names. A record's key is 256 times its place and the low
 // byte of its number. Any keys are taken; where no record stands a name has no units.
 #![tactic(auto)]
+
 ghost use Rattle.std.specs.Prelude.{◌≡◌, true, ◌+◌, ◌*◌, ◌≤◌, ◌<◌, length, set};
 ghost use Rattle.order.specs.Order.{is_less};
 ghost use Rattle.order.specs.Run.{Rearranged, Ordered};

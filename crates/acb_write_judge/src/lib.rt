@@ -1,6 +1,7 @@
 // ACB colour books: a header and the records of a run of numbers, judged as the reader would judge the file made of
 // them.
 #![tactic(auto)]
+
 ghost use Rattle.std.specs.Prelude.{◌≡◌, [], ◌+◌, ◌*◌, ◌≤◌, ◌<◌, leb, length};
 ghost use Rattle.algebra.specs.Reader.{pick, limit};
 ghost use Rattle.algebra.specs.Faults.{faults};
@@ -19,7 +20,7 @@ use acb_judge::{Header, Tag, Text};
 use fields::Written;
 
 // A record of a run: where its name lies, its six code bytes, four components, and its ink.
-#[derive(Drop)]
+#[derive(Clone, Copy)]
 pub struct Record {
     pub name: Text,
     pub code0: u32,
@@ -36,7 +37,7 @@ pub struct Record {
 }
 
 // How a book to be written ends: as a file may end, or with another tag, which is refused.
-#[derive(Drop)]
+#[derive(Clone, Copy)]
 pub enum Ending {
     Tagged(Tag),
     Other,

@@ -1,7 +1,7 @@
 -- In which order the faults of a book are given: the records', then another tag's, then the inks', before the room. Assumes nothing.
 -- Few imports, and first by its name: another order is refused here, and by nothing before it.
 use Prim.Native.Nat.{ℕ, ◌≤◌}
-use mathlib.Core.Path.{◌≡◌, refl, sym, ◌∙◌}
+use mathlib.Core.Path.{◌≡◌, refl, sym}
 use mathlib.Core.List.{List}
 use lib.ListN.{length}
 use borrow.Author.Tests.{le-leb}

@@ -1,6 +1,6 @@
 -- ACO files as byte strings, joined from swatches: what may stand in a file. Nothing here reads.
 -- The spaces and the limits are written here by themselves, from docs/RULES.md, and not taken from the reader's.
-use Rattle.std.specs.Prelude.{ℕ, ◌+◌, ◌-◌, ◌≤◌, ◌<◌, ◌≡◌, List, [], ◌∷◌, ◌++◌, length, get_or}
+use Rattle.std.specs.Prelude.{ℕ, ◌-◌, ◌≤◌, ◌<◌, ◌≡◌, List, [], ◌∷◌, ◌++◌, length, get_or}
 use Rattle.algebra.specs.Numbers.{be, joined, All}
 use Rattle.algebra.specs.Text.{name_bytes, Named}
 

@@ -1,14 +1,13 @@
 -- However a file is cut, the end answers what the whole-file reader answers, and the store holds the colours that sound_colours. Assumes nothing.
-use Prim.Native.Nat.{ℕ, zero, suc, ◌+◌, ◌*◌, ◌-◌, ◌≤◌, ◌<◌}
-use mathlib.Core.Path.{◌≡◌, refl, sym, ap, ap₂, ◌∙◌, subst}
+use Prim.Native.Nat.{ℕ, suc, ◌+◌, ◌-◌, ◌≤◌, ◌<◌}
+use mathlib.Core.Path.{◌≡◌, refl, sym, ap, ◌∙◌, subst}
 use mathlib.Core.List.{List, [], ◌∷◌, ◌++◌, append-nil}
 use mathlib.Core.Bool.{Bool, true, false}
 use lib.Dec.{leb, ltb, eqb}
-use lib.ListN.{length, get_or, take, drop, length-append, length-take, take-append-drop, get_or-append, length-drop}
-use lib.Seq.{get_or-drop, drop-drop, get_or-append_seam, drop-cons, length-take-le}
-use borrow.Author.Tests.{leb-true, leb-false, le-leb, lt-leb, lt-ltb, le-ltb, eqb-true, eqb-false}
+use lib.ListN.{length, get_or, take, drop, length-append, take-append-drop, get_or-append, length-drop}
+use lib.Seq.{get_or-drop, drop-drop, get_or-append_seam, length-take-le}
+use borrow.Author.Tests.{leb-true, leb-false, le-leb, lt-ltb, le-ltb, eqb-true, eqb-false}
 use native.Mathlib.Omega.{arith}
-use native.Mathlib.Numerals.{add-one}
 use native.Mathlib.Nat.{add-zero}
 use native.Mathlib.Decide.{ℕ_discrete}
 use Rattle.algebra.specs.Reader.{pick, refuse, limit}
@@ -18,7 +17,7 @@ use Rattle.aco_judge.specs.Answer.{report}
 use Rattle.aco_judge.proofs.Judging.{aco-long}
 use Rattle.aco_chunks.specs.declared.Stage.{Stage}
 use Rattle.aco_chunks.specs.declared.Stage.TheVariants as v
-use Rattle.aco_chunks.specs.Chunks.{size, item, after, kept, Progress, is_fault, whole, carried_further, unless_fault, limited, byte, chunk, chunks, begin, ending, answer}
+use Rattle.aco_chunks.specs.Chunks.{size, item, after, kept, Progress, is_fault, carried_further, unless_fault, limited, byte, chunk, chunks, begin, ending, answer}
 use Rattle.aco_chunks.specs.Promise.{join, sound_colours, held, AnyCutting}
 use Rattle.algebra.proofs.Alone.{Window}
 use Rattle.aco_chunks.proofs.Items.{Left, item-whole, item-cut, item-limit}

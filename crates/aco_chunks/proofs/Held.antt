@@ -1,9 +1,9 @@
 -- The store while colours are put into it, and what list 2 is compared with. Assumes nothing.
-use Prim.Native.Nat.{ℕ, zero, suc, ◌+◌, ◌*◌, ◌-◌, ◌≤◌, ◌<◌}
-use mathlib.Core.Path.{◌≡◌, refl, sym, ap, ap₂, ◌∙◌}
+use Prim.Native.Nat.{ℕ, ◌+◌, ◌*◌, ◌≤◌, ◌<◌}
+use mathlib.Core.Path.{◌≡◌, sym, ap, ap₂, ◌∙◌}
 use mathlib.Core.List.{List, [], ◌∷◌, ◌++◌}
-use lib.ListN.{length, get_or, take, drop, length-append, length-drop, length-take, get_or-append}
-use lib.Seq.{sets, sets-eq, take_at, drop-append-add, drop-drop, take-add, ext_get_or, get_or-take, get_or-drop}
+use lib.ListN.{length, get_or, take, drop, length-append, length-drop, get_or-append}
+use lib.Seq.{sets-eq, take_at, drop-append-add, drop-drop, take-add, ext_get_or, get_or-take, get_or-drop}
 use native.Mathlib.Omega.{arith}
 use Rattle.algebra.specs.Numbers.{num, nums}
 use Rattle.algebra.specs.Reader.{or_zero, field}
@@ -11,7 +11,6 @@ use Rattle.algebra.proofs.Laws.{field_in}
 use Rattle.algebra.specs.Store.{stored, part}
 use Rattle.algebra.proofs.Places.{length_part, num-cong, num-part}
 use Rattle.algebra.proofs.Stores.{stored-in}
-use Rattle.colour.specs.declared.space.Colour.{Colour}
 use Rattle.aco.specs.Reading.{zero_colour}
 use Rattle.aco.specs.scaffold.Raw.{raw_colours}
 use Rattle.aco.proofs.Raw.{get_d-raw}

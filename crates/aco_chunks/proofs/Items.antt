@@ -1,7 +1,7 @@
 -- What stands between two items of a file, and that a whole item, or the file's end, keeps it. Assumes nothing.
-use Prim.Native.Nat.{ℕ, zero, suc, ◌+◌, ◌*◌, ◌-◌, ◌≤◌, ◌<◌}
+use Prim.Native.Nat.{ℕ, ◌+◌, ◌*◌, ◌-◌, ◌≤◌, ◌<◌}
 use mathlib.Core.Path.{◌≡◌, refl, sym, ap, ap₂, ◌∙◌, subst}
-use mathlib.Core.List.{List, [], ◌∷◌, ◌++◌}
+use mathlib.Core.List.{List, [], ◌∷◌}
 use mathlib.Core.Bool.{Bool, true, false}
 use lib.Dec.{leb, ltb, eqb}
 use lib.ListN.{length, get_or}
@@ -9,19 +9,18 @@ use borrow.Author.Tests.{leb-true, ltb-true, ltb-false, eqb-true, eqb-false}
 use native.Mathlib.Omega.{arith}
 use native.Mathlib.Nat.{add-zero}
 use Rattle.algebra.specs.Numbers.{num}
-use Rattle.algebra.specs.Reader.{Res, ok, refuse, Reader, then, pick, rule, field, Judged, fine, fault, unless, judged, give, each, done}
+use Rattle.algebra.specs.Reader.{Res, ok, refuse, Reader, then, pick, rule, field, Judged, fine, fault, unless, judged, each}
 use Rattle.algebra.specs.Store.{stored}
 use Rattle.algebra.proofs.Laws.{field_in}
 use Rattle.algebra.proofs.Inverse.{then-inv, judged-inv, field-inv, unless-fine, clash}
 use Rattle.colour.specs.declared.space.Colour.{Colour}
 use Rattle.aco.specs.Reading.{most, first_count, second_count, space, sample, samples, colour, heading, field_of, repeated_field, zero_colour, lists}
 use Rattle.aco.specs.Reading as R
-use Rattle.aco.specs.scaffold.Raw.{raw_colours}
-use Rattle.algebra.specs.Table.{accepted, refused, verdict}
+use Rattle.algebra.specs.Table.{refused, verdict}
 use Rattle.aco_judge.specs.Answer.{report}
 use Rattle.aco_chunks.specs.declared.Stage.{Stage}
 use Rattle.aco_chunks.specs.declared.Stage.TheVariants as v
-use Rattle.aco_chunks.specs.Chunks.{FileVerdict, loaded, entry_head, colour_item, excess, size, item, colours, entries, unit_done, next, after, kept, is_fault, cut, second, ending}
+use Rattle.aco_chunks.specs.Chunks.{FileVerdict, loaded, entry_head, colour_item, size, item, colours, entries, unit_done, after, kept, is_fault, cut, ending}
 use Rattle.aco_chunks.specs.Promise.{sound_from, sound_in, sound_colours, held}
 use Rattle.algebra.specs.Reader.{shift}
 use Rattle.algebra.proofs.Alone.{Window, Alone, judged-alone, give-alone, bind-alone, each-alone, field-alone}

@@ -1,5 +1,5 @@
 -- Numbers and places that an item gives are small. Assumes nothing.
-use Prim.Native.Nat.{ℕ, zero, suc, ◌+◌, ◌*◌, ◌-◌, ◌≤◌, ◌<◌}
+use Prim.Native.Nat.{ℕ, zero, suc, ◌+◌, ◌*◌, ◌-◌, ◌≤◌}
 use mathlib.Core.Path.{◌≡◌, refl, sym, ap, ◌∙◌}
 use mathlib.Core.List.{List}
 use lib.Dec.{leb, ltb, eqb}
@@ -7,7 +7,7 @@ use mathlib.Core.Bool.{Bool, true, false}
 use lib.ListN.{length}
 use borrow.Author.Tests.{leb-true}
 use native.Mathlib.Omega.{arith}
-use Rattle.algebra.specs.Reader.{Res, ok, refuse, pick, Judged, fine, fault, unless, field, judged, each, done}
+use Rattle.algebra.specs.Reader.{Res, ok, refuse, pick, unless, field, judged, each}
 use Rattle.algebra.specs.Numbers.{num}
 use Rattle.algebra.specs.Refusal.{among, Placed, ends}
 use Rattle.algebra.proofs.Placed.{unless-numbered, differ-numbered, refusal-placed, placed-then, judged-placed, each_placed}
@@ -15,7 +15,6 @@ use Rattle.aco.specs.Refusals.{refusals}
 use Rattle.aco.proofs.Placed.{colour-placed, heading-placed}
 use Rattle.algebra.proofs.Inverse.{then-inv, judged-inv, unless-fine, clash}
 use Rattle.colour.specs.declared.space.Colour.{Colour}
-use Rattle.colour.specs.Spaces.{known, allowed}
 use Rattle.aco.specs.Reading.{most, colour, heading, field_of, repeated_field, compared, first_count, second_count}
 use Rattle.aco_chunks.specs.declared.Stage.{Stage}
 use Rattle.aco_chunks.specs.declared.Stage.TheVariants as v

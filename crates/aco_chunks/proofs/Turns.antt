@@ -1,7 +1,7 @@
 -- The whole-file reading in tail form: what the whole comes to is what is still to be read from an item, and each item moves it on. Assumes nothing.
-use Prim.Native.Nat.{ℕ, zero, suc, ◌+◌, ◌*◌, ◌-◌, ◌≤◌, ◌<◌}
+use Prim.Native.Nat.{ℕ, suc, ◌+◌, ◌*◌, ◌-◌, ◌≤◌, ◌<◌}
 use mathlib.Core.Path.{◌≡◌, refl, sym, ap, ap₂, ◌∙◌}
-use mathlib.Core.List.{List, [], ◌∷◌}
+use mathlib.Core.List.{List, ◌∷◌}
 use mathlib.Core.Bool.{Bool, true, false}
 use lib.Dec.{leb, ltb, eqb}
 use lib.ListN.{length, get_or, length-map}
@@ -9,19 +9,19 @@ use borrow.Author.Tests.{le-leb, lt-leb, leb-true, leb-false, ltb-true, eq-eqb, 
 use native.Mathlib.Omega.{arith}
 use native.Mathlib.Nat.{sub-zero}
 use Rattle.algebra.specs.Numbers.{num, nums}
-use Rattle.algebra.specs.Reader.{Res, ok, refuse, Reader, then, pick, rule, field, body, Judged, fine, fault, unless, judged, give, ◌>>=◌, each, done, ended}
+use Rattle.algebra.specs.Reader.{Res, ok, refuse, then, pick, rule, body, fine, fault, unless, judged, each, done}
 use Rattle.algebra.specs.Text.{Name, name, closed_units, closed, is_empty, front}
-use Rattle.algebra.proofs.Laws.{done-refuse, done-const, ended-done, each_turn, each-end, then_ok}
+use Rattle.algebra.proofs.Laws.{done-const, ended-done, each_turn, each-end}
 use Rattle.algebra.proofs.Inverse.{then-inv, judged-inv, clash, ok-place, unless-fine}
 use Rattle.colour.specs.declared.space.Colour.{Colour}
 use Rattle.aco.specs.Reading.{colour, heading, first_count, second_count, repeated_field, entry, Entry, Contents, zero_colour, second, unnamed, after, lists}
 use Rattle.aco.specs.scaffold.Raw.{raw_colours}
-use Rattle.aco.proofs.Raw.{colours-raw, colour-moves, length-raw}
+use Rattle.aco.proofs.Raw.{colours-raw, length-raw}
 use Rattle.algebra.specs.Table.{accepted, refused, verdict}
 use Rattle.aco_judge.specs.Answer.{report}
 use Rattle.aco_judge.proofs.Judging.{entry_of, second-lists}
 use Rattle.aco_chunks.specs.Chunks.{FileVerdict, entry_head, colour_item}
-use Rattle.aco_chunks.specs.Promise.{sound_from, sound_by}
+use Rattle.aco_chunks.specs.Promise.{sound_from}
 
 -- ---- what is left
 

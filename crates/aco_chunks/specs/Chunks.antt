@@ -1,6 +1,6 @@
 -- ACO in chunks: what is kept between two of them, what a byte does to it, and what the end answers.
-use Rattle.std.specs.Prelude.{ℕ, ◌+◌, ◌-◌, ◌*◌, ◌≡◌, List, [], ◌∷◌, ◌++◌, Bool, true, false, leb, ltb, eqb, length}
-use Rattle.algebra.specs.Reader.{Res, ok, refuse, Reader, then, pick, field, fine, fault, unless, judged, give, ◌>>=◌, each, or_zero, limit}
+use Rattle.std.specs.Prelude.{ℕ, ◌+◌, ◌-◌, ◌*◌, List, [], ◌∷◌, ◌++◌, Bool, true, false, ltb, eqb, length}
+use Rattle.algebra.specs.Reader.{Res, ok, refuse, Reader, pick, field, unless, judged, give, ◌>>=◌, each, or_zero, limit}
 use Rattle.algebra.specs.Store.{stored}
 use Rattle.colour.specs.declared.space.Colour.{Colour}
 use Rattle.aco.specs.Reading.{colour, heading, first_count, second_count, repeated_field}

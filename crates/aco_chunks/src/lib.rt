@@ -1,6 +1,7 @@
 // ACO swatches that arrive in chunks: the stages of a file.
 // Which item comes next, and what is known of those before it.
 #![tactic(auto)]
+
 #[derive(Drop)]
 pub enum Stage {
     // list 1's version and count

@@ -1,5 +1,6 @@
 // An item of an ACO file, read from its own bytes by the whole-file reader, and the stage behind it.
 #![tactic(auto)]
+
 ghost use Rattle.std.specs.Prelude.{◌≡◌, ◌+◌, ◌-◌, ◌*◌, ◌≤◌, ◌<◌, eqb};
 ghost use Rattle.algebra.specs.Reader.{ok};
 ghost use Rattle.aco_chunks.specs.Chunks.{size, item, kept, entry_head, loaded, colours, entries, unit_done};

@@ -1,15 +1,14 @@
 -- Colours, records and units taken at once are the same taken one after the other. Assumes nothing.
 use Prim.Native.Nat.{ℕ, zero, suc, ◌+◌, ◌*◌, ◌-◌, ◌≤◌, ◌<◌}
 use mathlib.Core.Path.{◌≡◌, refl, sym, ap, ap₂, ◌∙◌, subst}
-use mathlib.Core.List.{List, [], ◌∷◌, ◌++◌}
+use mathlib.Core.List.{List, [], ◌++◌}
 use mathlib.Core.Bool.{Bool, true, false, not}
-use lib.Dec.{ltb, eqb}
+use lib.Dec.{eqb}
 use lib.ListN.{length, take, drop, length-append}
 use lib.Seq.{drop-drop, take-add}
 use borrow.Author.Tests.{lt-ltb}
 use native.Mathlib.Omega.{arith}
 use native.Mathlib.Numerals.{add-one}
-use native.Mathlib.Nat.{add-zero}
 use Rattle.algebra.specs.Numbers.{num, nums}
 use Rattle.algebra.specs.Text.{text, any_zero}
 use Rattle.algebra.specs.Reader.{Res, pick, rule, unless, done, ok, refuse, field, or_zero, limit}
@@ -17,7 +16,7 @@ use Rattle.algebra.proofs.Inverse.{clash}
 use Rattle.algebra.proofs.Laws.{field_in, body-in}
 use Rattle.algebra.specs.Store.{part, stored}
 use Rattle.algebra.proofs.Stores.{length-stored, stored-append}
-use Rattle.algebra.proofs.Places.{length_part, num-part}
+use Rattle.algebra.proofs.Places.{length_part}
 use Rattle.aco_chunks.specs.declared.Stage.{Stage}
 use Rattle.aco_chunks.specs.declared.Stage.TheVariants as v
 use Rattle.aco_chunks.specs.Chunks.{colour_item, colours, entries, after, kept, unit_done}

@@ -4,7 +4,7 @@ use mathlib.Core.Path.{◌≡◌, refl, sym, ap, ap₂, ◌∙◌, subst}
 use mathlib.Core.List.{List, [], ◌∷◌, ◌++◌}
 use mathlib.Core.Bool.{Bool, true, false}
 use lib.Dec.{ltb, eqb}
-use lib.ListN.{length, get_or, take, drop, length-append, length-drop, take-append-drop}
+use lib.ListN.{length, get_or, drop, length-append, length-drop, take-append-drop}
 use lib.Seq.{drop-drop, drop-cons, append_snoc, drop-length}
 use borrow.Author.Tests.{lt-ltb, eq-eqb, ne_eqb}
 use native.Mathlib.Omega.{arith}

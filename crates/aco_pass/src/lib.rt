@@ -1,5 +1,6 @@
 // What stands whole in a chunk, passed at once: colours of list 1, records of list 2, a name's units.
 #![tactic(auto)]
+
 ghost use Rattle.std.specs.Prelude.{◌≡◌, ℕ, ◌+◌, ◌-◌, ◌*◌, ◌≤◌, ◌<◌, List, true, length};
 ghost use Rattle.algebra.specs.Reader.{limit, pick};
 ghost use Rattle.algebra.specs.Numbers.{nums};

@@ -11,7 +11,6 @@ use native.Mathlib.Decide.{ℕ_discrete}
 use Rattle.algebra.specs.Numbers.{joined}
 use Rattle.algebra.specs.Reader.{Res, ok, refuse, pick}
 use Rattle.algebra.specs.Table.{Verdict, accepted, refused, seen}
-use Rattle.algebra.specs.Table as table
 use Rattle.algebra.specs.Filling.{Accepted}
 use Rattle.algebra.proofs.Places.{length-nums}
 use Rattle.algebra.proofs.Table.{record-found}

@@ -5,7 +5,7 @@ use mathlib.Core.List.{List, [], ◌∷◌, map}
 use lib.ListN.{length, get_or, length-append}
 use native.Mathlib.Omega.{arith}
 use native.Mathlib.Decide.{ℕ_discrete}
-use Rattle.algebra.specs.Numbers.{counted, num, nums, joined, Bytes, All}
+use Rattle.algebra.specs.Numbers.{num, nums, joined, Bytes, All}
 use Rattle.algebra.specs.Reader.{ok}
 use Rattle.algebra.proofs.Exact.{all_map, all_both, all-by}
 use Rattle.aco.specs.Grammar.{Swatch, Allowed, Palette, File, plain, named, entry_bytes, list_one, list_two, two_lists}

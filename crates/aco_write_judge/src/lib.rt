@@ -1,5 +1,6 @@
 // ACO swatches: the records of a run of numbers, judged as the reader would judge the file made of them.
 #![tactic(auto)]
+
 ghost use Rattle.std.specs.Prelude.{◌≡◌, true, ◌+◌, ◌*◌, ◌≤◌, ◌<◌, leb, length, get_or};
 ghost use Rattle.algebra.specs.Reader.{pick, limit};
 ghost use Rattle.algebra.specs.Faults.{faults};
@@ -16,7 +17,7 @@ use colour::Ink;
 use fields::{FieldEnd, Written};
 
 // A record of a run: its space, its samples, where its name lies, and its ink.
-#[derive(Drop)]
+#[derive(Clone, Copy)]
 pub struct Record {
     pub space: u32,
     pub sample0: u32,

@@ -1,7 +1,7 @@
 -- What reading into a table answers and leaves, a record by its number, and the records of a run, for rows of any width. Assumes nothing.
-use Prim.Native.Nat.{ℕ, suc, ◌+◌, ◌*◌, ◌/◌, ◌≤◌, ◌<◌}
+use Prim.Native.Nat.{ℕ, ◌+◌, ◌*◌, ◌/◌, ◌≤◌, ◌<◌}
 use mathlib.Core.Path.{◌≡◌, refl, sym, ap, ap₂, ◌∙◌, subst}
-use mathlib.Core.List.{List, [], ◌∷◌, ◌++◌, map}
+use mathlib.Core.List.{List, ◌++◌, map}
 use lib.ListN.{length, get_or, take, drop, get_or-eq_default}
 use lib.Seq.{sets, sets-eq, get_or-take, get_or-drop, take_at, drop_at}
 use borrow.Author.Tests.{le-leb, lt-leb, lt-ltb, le-ltb}

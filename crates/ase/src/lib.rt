@@ -18,7 +18,7 @@ pub const SIGNATURE: u32 = 0x4153_4546;
 
 // A record's numbers in the order of a row: its block's type, where its name lies, and of a colour
 // the tag of its model, the bits of its channels, and its ink.
-#[derive(Drop)]
+#[derive(Clone, Copy)]
 pub struct RowNumbers {
     pub block: u32,
     pub first: u32,

@@ -1,5 +1,6 @@
 // ASE palettes: judging a file by the layout.
 #![tactic(auto)]
+
 ghost use Rattle.std.specs.Prelude.{◌≡◌, ◌+◌, ◌-◌, ◌≤◌, ◌<◌, length};
 ghost use Rattle.algebra.specs.Reader.{done, each, judged, map_res, chain};
 ghost use Rattle.fields.specs.Answer.{told_field_end};

@@ -5,7 +5,7 @@ use mathlib.Core.List.{List, [], ◌∷◌, ◌++◌}
 use lib.ListN.{length, take}
 use native.Mathlib.Omega.{arith}
 use Rattle.algebra.specs.Numbers.{joined}
-use Rattle.algebra.specs.Reader.{Res, ok, refuse}
+use Rattle.algebra.specs.Reader.{Res}
 use Rattle.colour.specs.Inks.{ink_number}
 use Rattle.colour.specs.declared.ink.Ink.{Ink}
 use Rattle.colour.specs.Models.{traits_of, model_of, channels_of}

@@ -1,5 +1,6 @@
 // Lists the ASE file on standard input: its header, a line a block, `end`; or the refusal.
 #![tactic(auto)]
+
 ghost use Rattle.std.specs.Prelude.{◌≡◌, ◌≤◌, ◌<◌, length, take};
 ghost use Rattle.algebra.specs.Numbers.{joined};
 ghost use Rattle.colour.specs.Inks.{ink_number};

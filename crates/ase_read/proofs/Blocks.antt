@@ -1,5 +1,5 @@
 -- The numbers of an accepted block are those that stand at its place. Assumes nothing.
-use Prim.Native.Nat.{ℕ, zero, suc, ◌+◌, ◌*◌, ◌-◌, ◌≤◌, ◌<◌}
+use Prim.Native.Nat.{ℕ, suc, ◌+◌, ◌*◌, ◌-◌, ◌≤◌, ◌<◌}
 use mathlib.Core.Path.{◌≡◌, refl, sym, ap, ◌∙◌, subst}
 use mathlib.Core.List.{List, [], ◌∷◌}
 use mathlib.Core.Bool.{Bool, true, false, true≢false}
@@ -17,7 +17,7 @@ use Rattle.algebra.proofs.Inverse.{ok-value, ok-place, then-inv, rule-inv, unles
 use Rattle.algebra.proofs.Texts.{closed-last, length_front}
 use Rattle.colour.specs.Models.{is_model, channels_of}
 use Rattle.colour.specs.Channels.{allows_bits}
-use Rattle.ase.specs.Reading.{Entry, group_start_read, group_end_read, colour_read, group_content, model, channel, type, colour_content, inside, within, deepest, is_block_type, content, block}
+use Rattle.ase.specs.Reading.{Entry, group_start_read, group_end_read, colour_read, group_content, model, channel, type, colour_content, within, deepest, is_block_type, content, block}
 use Rattle.ase.proofs.Payload.{inside-inv}
 use Rattle.ase.proofs.Laws.{block-inv}
 use Rattle.ase.specs.Row.{RecordRow, given_of}

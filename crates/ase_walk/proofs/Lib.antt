@@ -2,4 +2,3 @@
 pub mod Blocks
 pub mod Walked
 pub mod Stepping
-pub mod Types

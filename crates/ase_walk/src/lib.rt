@@ -1,6 +1,7 @@
 // ASE palettes one a call: a block step and a colour step from any place of any file, and the
 // walker above them.
 #![tactic(auto)]
+
 ghost use Rattle.std.specs.Prelude.{◌≡◌, false, ◌∷◌, [], ◌+◌, ◌-◌, ◌^◌, ◌≤◌, ◌<◌, eqb, length};
 ghost use Rattle.algebra.specs.Reader.{pick, refuse};
 ghost use Rattle.ase.specs.Reading.{ase};
@@ -18,7 +19,7 @@ use colour::{Channels, Ink, Made};
 
 // What a call of the block step gives: a group start with its name's place and number of units, a
 // group end, or a colour with its name, its channels and its ink; done; or a refusal.
-#[derive(Drop)]
+#[derive(Clone, Copy)]
 pub enum Block {
     GroupStart {
         place: usize,
@@ -47,7 +48,7 @@ pub struct BlockStep {
 
 // What a call of the colour step gives: a colour with its name's place and number of units, its
 // channels and its ink; done; or a refusal.
-#[derive(Drop)]
+#[derive(Clone, Copy)]
 pub enum NextColour {
     Colour {
         place: usize,
@@ -63,7 +64,7 @@ pub enum NextColour {
 }
 
 // A call's answer, and the place of the next call.
-#[derive(Drop)]
+#[derive(Clone, Copy)]
 pub struct ColourStep {
     pub given: NextColour,
     pub next: usize,

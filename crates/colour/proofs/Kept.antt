@@ -14,7 +14,6 @@ use Rattle.colour.specs.Channels.{in_unit, allows, channel, of_all, allows_all, 
 use Rattle.colour.specs.declared.model.Model.{Model}
 use Rattle.colour.specs.declared.model.Model.TheVariants as model
 use Rattle.colour.specs.declared.channel.Channels.{Channels}
-use Rattle.colour.specs.declared.channel.Channels.TheVariants.{Rgb, Cmyk, Lab, Gray}
 use Rattle.colour.specs.declared.channel.Made.{Made}
 use Rattle.colour.specs.declared.channel.Made.TheVariants.{Is, Refused}
 use Rattle.colour.proofs.Unit.{unit-finite}

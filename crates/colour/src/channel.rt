@@ -19,7 +19,7 @@ const INFINITY: u32 = 0x7f80_0000;
 const NAN: u32 = 0x7fc0_0000;
 
 // A colour of a model, with its channels.
-#[derive(Drop)]
+#[derive(Clone, Copy)]
 pub enum Channels {
     Rgb(f32, f32, f32),
     Cmyk(f32, f32, f32, f32),
@@ -28,7 +28,7 @@ pub enum Channels {
 }
 
 // A colour, or the number of a refusal.
-#[derive(Drop)]
+#[derive(Clone, Copy)]
 pub enum Made {
     Is(Channels),
     Refused(u32),

@@ -2,7 +2,7 @@
 ghost use Rattle.std.specs.Prelude.{◌≡◌};
 ghost use Rattle.colour.specs.Inks.{ink_number, ink_of};
 
-#[derive(Drop)]
+#[derive(Clone, Copy)]
 pub enum Ink {
     Global,
     Spot,
@@ -11,7 +11,7 @@ pub enum Ink {
     NotStated,
 }
 
-#[derive(Drop)]
+#[derive(Clone, Copy)]
 pub enum KnownInk {
     Is(Ink),
     Unknown,

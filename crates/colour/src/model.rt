@@ -9,7 +9,7 @@ use crate::channel::is_channel;
 
 // What a model has: its four characters as a number, its channels, and its largest sample (in Lab
 // that of the lightness), which is the channel 1 where samples are converted.
-#[derive(Drop)]
+#[derive(Clone, Copy)]
 pub struct Traits {
     pub tag: u32,
     pub channels: u16,
@@ -24,7 +24,7 @@ pub enum Model {
     Gray,
 }
 
-#[derive(Drop)]
+#[derive(Clone, Copy)]
 pub enum KnownModel {
     Is(Model),
     Unknown,

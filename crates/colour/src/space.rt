@@ -20,7 +20,7 @@ const CHROMINANCE_MOST: u16 = 12700;
 const CHROMINANCE_LEAST: u16 = 52736;
 
 // A colour: the number of its space, and its four samples.
-#[derive(Drop)]
+#[derive(Clone, Copy)]
 pub struct Colour {
     pub space: u16,
     pub samples: [u16; 4],

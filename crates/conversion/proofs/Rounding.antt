@@ -142,6 +142,10 @@ pub div-whole : (f : Format) (x y : Float) (a b : ℕ) → HasValue x false a 1 
 unfolding div
 div-whole f (fin true m e) y a b v w B = absurd (true≢false v.0)
 div-whole f (fin false m e) (fin true n d) a b v w B = absurd (true≢false w.0)
+div-whole f nan y a b v w B = elim v [ ]
+div-whole f (inf _) y a b v w B = elim v [ ]
+div-whole f (fin false m e) nan a b v w B = elim w [ ]
+div-whole f (fin false m e) (inf _) a b v w B = elim w [ ]
 div-whole f (fin false m e) (fin false n d) a b v w B =
     cond_no (eqb n 0) (cond (eqb m 0) nan (inf false)) (round f false (m * up e * down d) (n * up d * down e)) (no_zero n (up d) (down d) b B (down_pos d) w.1)
     ∙ round_same f false (m * up e * down d) (n * up d * down e) a b (den-pos' n d w.1) B (cross (m * up e) (n * up d) (down e) (down d) a b v.1 w.1)

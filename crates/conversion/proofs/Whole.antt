@@ -16,7 +16,7 @@ use Rattle.colour.specs.declared.channel.Channels.{Channels}
 use Rattle.colour.specs.declared.channel.Channels.TheVariants.{Rgb, Cmyk, Gray}
 use Rattle.conversion.specs.Convert.{Converted, gives, refused, and_then, channel_at, to_channel, to_channels, Counterparts, lights, inks, grays}
 use Rattle.conversion.specs.Scale.{channel_of}
-use Rattle.colour.proofs.Laws.{Sound, sound-inv, allowed-used, ranged-full}
+use Rattle.colour.proofs.Laws.{sound-inv, allowed-used, ranged-full}
 
 -- where the first sample is refused, so is the colour
 pub whole-refused : (c : Colour) (n : ℕ) → refused n 0 ≡ channel_at c 0 → refused n 0 ≡ to_channels c

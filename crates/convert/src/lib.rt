@@ -1,5 +1,6 @@
 // Samples of ACO spaces to channels of ASE models, and back. Every refusal is at place 0.
 #![tactic(auto)]
+
 mod scale;
 
 ghost use Rattle.std.specs.Prelude.{◌≡◌};

@@ -1,6 +1,6 @@
 -- What reading answers in single turns, whatever stands behind them: a number and a place. Assumes nothing.
 -- Few imports, and first by its name: a turn that is changed in the reading is refused here, and by nothing before it.
-use Prim.Native.Nat.{ℕ, ◌+◌, ◌*◌, ◌-◌, ◌^◌, ◌<◌}
+use Prim.Native.Nat.{ℕ, ◌+◌, ◌*◌, ◌^◌, ◌<◌}
 use mathlib.Core.Path.{◌≡◌, sym, ap}
 use mathlib.Core.List.{List, [], ◌∷◌, ◌++◌}
 use lib.ListN.{length}

@@ -1,10 +1,9 @@
 -- The theorem: the entries of an accepted file, with the file as their text, are built into that file. Assumes nothing.
-use Prim.Native.Nat.{ℕ, zero, suc, ◌+◌, ◌-◌, ◌*◌, ◌^◌, ◌≤◌, ◌<◌}
-use mathlib.Core.Path.{◌≡◌, refl, sym, ap, ap₂, ◌∙◌, subst, subst₂}
+use Prim.Native.Nat.{ℕ, zero, suc, ◌+◌, ◌*◌, ◌≤◌}
+use mathlib.Core.Path.{◌≡◌, refl, sym, ap, ap₂, ◌∙◌, subst}
 use mathlib.Core.List.{List, [], ◌∷◌, ◌++◌, map}
-use mathlib.Core.Bool.{Bool, true, false}
 use lib.Dec.{leb, eqb}
-use lib.ListN.{length, get_or, length-append}
+use lib.ListN.{length, length-append}
 use native.Mathlib.Omega.{arith}
 use borrow.Author.Tests.{leb-true, eqb-true}
 use Rattle.algebra.specs.Chars.{chars}
@@ -17,15 +16,15 @@ use Rattle.algebra.proofs.Table.{whole_back}
 use Rattle.algebra.proofs.Exact.{length-map}
 use Rattle.descriptor.specs.Reading.{Row, descriptor, class, version}
 use Rattle.descriptor.proofs.Ends.{accepted}
-use Rattle.descriptor_heads.specs.Heads.{Due, items, pairs, Head, Opened, Stack, over, next_head, settled, after, root_head, whole_heads, file_heads}
+use Rattle.descriptor_heads.specs.Heads.{Due, items, pairs, Opened, Stack, over, next_head, settled, after, root_head, whole_heads, file_heads}
 use Rattle.descriptor_heads.specs.Rows.{rows_of, heads_of}
 use Rattle.descriptor_columns.proofs.Given.{count-given}
 use Rattle.descriptor_heads.proofs.Past.{root-past}
 use Rattle.descriptor_heads.proofs.Theorem.{rows_are}
-use Rattle.descriptor_entry.specs.Pieces.{Piece, number, size, bytes, Fits}
+use Rattle.descriptor_entry.specs.Pieces.{Piece, size, bytes}
 use Rattle.descriptor_entry.specs.Shapes as sh
 use Rattle.descriptor_entry.specs.Shapes.{width, Entry, number_in, kind_of, count_of, item_shape, fields_of}
-use Rattle.descriptor_entry.specs.Entries.{Words, Rooted, given, root_pieces, field_pieces, member_pieces, root_stack, ending, pieces, ended, build_fault, made}
+use Rattle.descriptor_entry.specs.Entries.{Words, Rooted, given, root_pieces, member_pieces, root_stack, ending, pieces, ended, build_fault, made}
 use Rattle.descriptor_entry.proofs.Laws.{size-append, bytes-length}
 use Rattle.descriptor_entry.proofs.Meeting.{meets-number}
 use Rattle.descriptor_entry.proofs.Whole.{file-meets}
@@ -34,7 +33,7 @@ use Rattle.descriptor_entries.specs.Taken.{put_all, blank, entry_of, members_of,
 use Rattle.descriptor_entries.specs.Answered.{numbers}
 use Rattle.descriptor_entries.specs.Promise.{Builds}
 use Rattle.descriptor_entries.specs.scaffold.Spans.{end_of}
-use Rattle.descriptor_entries.proofs.Held.{HoldsAll, end_later, Stands, stands-append}
+use Rattle.descriptor_entries.proofs.Held.{HoldsAll, Stands, stands-append}
 use Rattle.descriptor_entries.proofs.Shaped.{object-made, class-end}
 use Rattle.descriptor_entries.proofs.Filled.{all_words, all-length, keyed-words}
 use Rattle.descriptor_entries.proofs.Headed.{begun}

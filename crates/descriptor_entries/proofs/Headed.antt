@@ -1,25 +1,23 @@
 -- A head that is accepted, and the entry taken from it: its pieces stand where the head was read, and ask for that head. Assumes nothing.
-use Prim.Native.Nat.{ℕ, zero, suc, ◌+◌, ◌-◌, ◌*◌, ◌^◌, ◌≤◌, ◌<◌}
-use mathlib.Core.Path.{◌≡◌, refl, sym, ap, ap₂, ◌∙◌, subst, subst₂}
-use mathlib.Core.List.{List, [], ◌∷◌, ◌++◌}
-use mathlib.Core.Bool.{Bool, true, false}
+use Prim.Native.Nat.{ℕ, ◌+◌, ◌^◌, ◌≤◌, ◌<◌}
+use mathlib.Core.Path.{◌≡◌, refl, sym, ap, ◌∙◌, subst, subst₂}
+use mathlib.Core.List.{List, [], ◌∷◌}
+use mathlib.Core.Bool.{Bool, true}
 use lib.Dec.{eqb}
 use lib.ListN.{length}
 use native.Mathlib.Omega.{arith}
 use native.Mathlib.Nat.{add-zero}
-use borrow.Author.Tests.{eqb-true}
 use Rattle.algebra.specs.Chars.{chars}
 use Rattle.algebra.specs.Numbers.{num, Bytes}
 use Rattle.algebra.proofs.Places.{num-lt}
-use Rattle.algebra.specs.Reader.{Res, ok, refuse, Reader, then, pick, field, unless, judged}
+use Rattle.algebra.specs.Reader.{ok, Reader, then, pick, field, judged}
 use Rattle.algebra.proofs.Inverse.{clash, ok-value, ok-place, then-inv, unless-fine, field-inv, judged-inv}
-use Rattle.descriptor.specs.Reading.{Known, is, unknown, beside, known, id, class, Sort, sort_of, form_of, ref_value, column, column_type, version}
+use Rattle.descriptor.specs.Reading.{Known, is, unknown, beside, known, id, Sort, sort_of, form_of, ref_value, column, column_type}
 use Rattle.descriptor_heads.specs.Heads as h
 use Rattle.descriptor_heads.specs.Heads.{Due, items, pairs, columns, Head, Opened, Stack, after, opens, item_head, member_head, bare, root_head}
-use Rattle.descriptor_entry.specs.Pieces.{Piece, number, size, fault, Fits}
-use Rattle.descriptor_entry.specs.Shapes as sh
-use Rattle.descriptor_entry.specs.Shapes.{Entry, number_in, kind_of, count_of, item_shapes, form_shapes, shape_in, item_shape, form_shape, column_shape, shape_of, both, pieces_of, fields_of}
-use Rattle.descriptor_entry.specs.Entries.{key_pieces, objects_due, field_pieces, head_pieces, root_pieces, asks, next, Words}
+use Rattle.descriptor_entry.specs.Pieces.{Piece, number, size}
+use Rattle.descriptor_entry.specs.Shapes.{Entry, number_in, kind_of, item_shapes, form_shapes, shape_in, item_shape, form_shape, column_shape, shape_of, both, fields_of}
+use Rattle.descriptor_entry.specs.Entries.{key_pieces, objects_due, field_pieces, head_pieces, next, Words}
 use Rattle.descriptor_entry.specs.declared.Field.{Field}
 use Rattle.descriptor_entry.specs.declared.Field.TheVariants as f
 use Rattle.descriptor_entry.specs.declared.Shape.{Shape}
@@ -28,11 +26,11 @@ use Rattle.descriptor_entry.proofs.Meeting as m
 use Rattle.descriptor_entry.proofs.Meeting.{Meets}
 use Rattle.descriptor_entry.proofs.Suited.{Both, each, neither, paired}
 use Rattle.descriptor_entry.proofs.Headed.{head_meets}
-use Rattle.descriptor_entries.specs.Taken.{span, put, put_all, put_key, blank, entry_of}
+use Rattle.descriptor_entries.specs.Taken.{put_all, put_key, blank, entry_of}
 use Rattle.descriptor_entries.specs.scaffold.Spans.{end_of, key_span}
-use Rattle.descriptor_entries.proofs.Held.{Holds, HoldsAll, end_later, Stands, stands-none, stands-append, number-stands, field-size, field-stands, fields-size, fields-stand}
+use Rattle.descriptor_entries.proofs.Held.{HoldsAll, end_later, Stands, stands-none, stands-append, number-stands, field-size, field-stands, fields-size, fields-stand}
 use Rattle.descriptor_entries.proofs.Filled.{all_words, all-length, keyed-words}
-use Rattle.descriptor_entries.proofs.Shaped.{keyed, Made, Kind, Form, id-end, class-end, column-end, item-kinds, form-kinds, column-made, object-made}
+use Rattle.descriptor_entries.proofs.Shaped.{keyed, Made, Kind, Form, id-end, column-end, item-kinds, form-kinds, column-made}
 
 -- ---- what was read
 

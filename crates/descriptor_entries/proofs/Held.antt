@@ -1,5 +1,5 @@
 -- Entries that hold the numbers of fields as they stand in a file: where the fields end, and that the pieces made of them stand there. Assumes nothing.
-use Prim.Native.Nat.{ℕ, zero, suc, ◌+◌, ◌-◌, ◌*◌, ◌^◌, ◌≤◌, ◌<◌}
+use Prim.Native.Nat.{ℕ, ◌+◌, ◌*◌, ◌^◌, ◌≤◌, ◌<◌}
 use mathlib.Core.Path.{◌≡◌, refl, sym, ap, ap₂, ◌∙◌, subst}
 use mathlib.Core.List.{List, [], ◌∷◌, ◌++◌, append-nil}
 use lib.ListN.{length, get_or}
@@ -7,7 +7,7 @@ use native.Mathlib.Omega.{arith}
 use native.Mathlib.Nat.{add-zero}
 use Rattle.algebra.specs.Numbers.{be, num, joined, At, Bytes}
 use Rattle.algebra.specs.Store.{part}
-use Rattle.algebra.proofs.Places.{length-be, at_in, at_join, at_part, length_part, num-lt, be-num}
+use Rattle.algebra.proofs.Places.{at_join, at_part, length_part, num-lt, be-num}
 use Rattle.descriptor_entry.specs.Pieces.{Piece, number, run, units, doubles, size, bytes, Fits}
 use Rattle.descriptor_entry.specs.Shapes.{Entry, number_in, wide_of, id_length, pieces_of, fields_of}
 use Rattle.descriptor_entry.specs.Entries.{field_pieces}

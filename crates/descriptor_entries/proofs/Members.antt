@@ -1,15 +1,15 @@
 -- The entries of members that are due: their pieces stand to the end of the file, and none is missing or left over. Assumes nothing.
-use Prim.Native.Nat.{ℕ, zero, suc, ◌+◌, ◌-◌, ◌*◌, ◌^◌, ◌≤◌, ◌<◌}
-use mathlib.Core.Path.{◌≡◌, refl, sym, ap, ap₂, ◌∙◌, subst}
+use Prim.Native.Nat.{ℕ, zero, suc, ◌+◌, ◌-◌, ◌≤◌, ◌<◌}
+use mathlib.Core.Path.{◌≡◌, refl, sym, ap, ◌∙◌, subst}
 use mathlib.Core.List.{List, [], ◌∷◌, ◌++◌}
-use mathlib.Core.Bool.{Bool, true, false}
+use mathlib.Core.Bool.{Bool, true}
 use lib.Dec.{leb}
 use lib.ListN.{length}
 use native.Mathlib.Omega.{arith}
 use native.Mathlib.Nat.{add-zero}
 use borrow.Author.Tests.{le-leb}
 use Rattle.algebra.specs.Numbers.{Bytes, All}
-use Rattle.algebra.specs.Reader.{Res, ok, refuse, then, pick, until}
+use Rattle.algebra.specs.Reader.{ok, pick, until}
 use Rattle.algebra.proofs.Inverse.{ok-value, ok-place, then-inv}
 use Rattle.descriptor.proofs.Ends.{accepted}
 use Rattle.descriptor_heads.specs.Heads.{Due, Opened, Stack, over, next_head, after, deepest, head_at, member_head}
@@ -21,7 +21,7 @@ use Rattle.descriptor_entry.proofs.Laws.{size-append}
 use Rattle.descriptor_entry.proofs.Faultless.{AllWords}
 use Rattle.descriptor_entries.specs.Taken.{entry_of, members_of}
 use Rattle.descriptor_entries.proofs.Held.{Stands, stands-none, stands-append}
-use Rattle.descriptor_entries.proofs.Headed.{Taken, taken, head_read, asks-same}
+use Rattle.descriptor_entries.proofs.Headed.{taken, head_read, asks-same}
 
 abbrev pub Sixteen : ℕ → Entry → Type 0
 Sixteen j e = length e ≡ 16

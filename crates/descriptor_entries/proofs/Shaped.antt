@@ -1,13 +1,11 @@
 -- Each kind: where its fields end, as it is read, and that an entry made of them holds them. Assumes nothing.
-use Prim.Native.Nat.{ℕ, zero, suc, ◌+◌, ◌*◌, ◌≤◌, ◌<◌}
-use mathlib.Core.Path.{◌≡◌, refl, sym, ap, ◌∙◌, subst}
+use Prim.Native.Nat.{ℕ, zero, suc, ◌+◌, ◌*◌}
+use mathlib.Core.Path.{◌≡◌, refl, ap, ◌∙◌}
 use mathlib.Core.List.{List, [], ◌∷◌}
-use mathlib.Core.Bool.{Bool, true, false}
-use lib.Dec.{eqb}
 use native.Mathlib.Omega.{arith}
 use Rattle.algebra.specs.Numbers.{num}
-use Rattle.algebra.specs.Reader.{Res, ok, refuse, Reader, then, pick, field, body, rule, unless, judged, give, ◌>>=◌, each, done}
-use Rattle.algebra.proofs.Inverse.{clash, ok-value, ok-place, then-inv, rule-inv, done-inv, field-inv, body-inv, judged-inv, each_none, each-inv}
+use Rattle.algebra.specs.Reader.{ok, Reader, then, field, body, judged, each}
+use Rattle.algebra.proofs.Inverse.{ok-place, then-inv, rule-inv, done-inv, field-inv, body-inv, judged-inv, each_none, each-inv}
 use Rattle.descriptor.specs.Reading as r
 use Rattle.descriptor.specs.Reading.{Known, skip, id, shut, closing, unicode, class, flag, double, enumerated, raw_bytes, array_unit, unit_double, Sort, leaf, list, object, reference, array, types, forms, ref_value, column}
 use Rattle.descriptor_heads.specs.Heads as h
@@ -19,9 +17,9 @@ use Rattle.descriptor_entry.specs.declared.Field.{Field}
 use Rattle.descriptor_entry.specs.declared.Field.TheVariants as f
 use Rattle.descriptor_entry.specs.declared.Shape.{Shape}
 use Rattle.descriptor_entry.proofs.Suited.{Paired, none, row}
-use Rattle.descriptor_entries.specs.Taken.{span, put_all, blank}
+use Rattle.descriptor_entries.specs.Taken.{put_all}
 use Rattle.descriptor_entries.specs.scaffold.Spans.{end_of}
-use Rattle.descriptor_entries.proofs.Held.{Holds, HoldsAll}
+use Rattle.descriptor_entries.proofs.Held.{HoldsAll}
 
 -- ---- what an entry of a kind holds
 

@@ -1,5 +1,5 @@
 -- What the call answers, and what the lent run then holds.
-use Rattle.std.specs.Prelude.{ℕ, ◌*◌, List, [], ◌∷◌, leb, length}
+use Rattle.std.specs.Prelude.{ℕ, ◌*◌, List, leb, length}
 use Rattle.algebra.specs.Numbers.{joined}
 use Rattle.algebra.specs.Reader.{Res, ok, refuse, pick}
 use Rattle.descriptor_heads.specs.Heads.{Opened, file_heads}

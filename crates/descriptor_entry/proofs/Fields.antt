@@ -10,7 +10,7 @@ use lib.Ieee.Scale.{finite}
 use native.Mathlib.Omega.{arith}
 use native.Mathlib.Nat.{add-zero}
 use Rattle.algebra.specs.Numbers.{be, nums, joined, At, Bytes, All}
-use Rattle.algebra.specs.Reader.{Res, ok, refuse, Reader, then, pick, field, body, rule, judged, ◌>>=◌, each, done, number_of}
+use Rattle.algebra.specs.Reader.{Res, ok, refuse, Reader, then, pick, body, rule, judged, ◌>>=◌, each, done, number_of}
 use Rattle.algebra.specs.Store.{part}
 use Rattle.algebra.specs.Faults.{first_of, faults_from}
 use Rattle.algebra.specs.Algebra.{Tells}

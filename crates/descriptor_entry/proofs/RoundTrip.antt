@@ -16,7 +16,7 @@ use Rattle.descriptor.specs.Reading.{descriptor}
 use Rattle.descriptor_heads.specs.Heads.{Opened, file_heads}
 use Rattle.descriptor_heads.specs.Rows.{rows_of}
 use Rattle.descriptor_heads.proofs.Theorem.{rows_are}
-use Rattle.descriptor_entry.specs.Pieces.{number, size, fault, fault_of, Fits}
+use Rattle.descriptor_entry.specs.Pieces.{size, fault, fault_of, Fits}
 use Rattle.descriptor_entry.specs.Shapes.{Entry, kind_of, object}
 use Rattle.descriptor_entry.specs.Entries.{given, field_pieces, root_pieces, member_pieces, root_stack, pieces, asked_heads, ended, build_fault, made, Words, Rooted}
 use Rattle.descriptor_entry.proofs.Laws.{faults-append, bytes-length}

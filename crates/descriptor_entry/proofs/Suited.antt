@@ -1,5 +1,5 @@
 -- The head of a member, where the bytes of an entry stand: each kind by the two tables. Assumes nothing.
-use Prim.Native.Nat.{ℕ, ◌+◌}
+use Prim.Native.Nat.{ℕ}
 use mathlib.Core.Path.{◌≡◌, refl, sym, ap, ◌∙◌, subst, subst₂}
 use mathlib.Core.List.{List, [], ◌∷◌, ◌++◌, append-nil}
 use mathlib.Core.Bool.{Bool, true, false}
@@ -9,14 +9,14 @@ use Rattle.algebra.specs.Numbers.{Bytes, joined}
 use Rattle.algebra.specs.Reader.{ok, Reader, pick, field, give, ◌>>=◌, done}
 use Rattle.algebra.specs.Faults.{faults}
 use Rattle.algebra.proofs.Laws.{body-in}
-use Rattle.descriptor.specs.Reading.{Known, is, unknown, beside, known, skip, id, unicode, class, flag, double, enumerated, raw_bytes, unit_double, Sort, leaf, list, object, reference, array, types, forms, ref_value}
+use Rattle.descriptor.specs.Reading.{Known, is, unknown, beside, skip, id, unicode, class, flag, double, enumerated, raw_bytes, unit_double, Sort, leaf, list, object, reference, array, types, forms, ref_value}
 use Rattle.descriptor_heads.specs.Heads as h
 use Rattle.descriptor_heads.specs.Heads.{Due, items, pairs, columns, opens}
 use Rattle.descriptor_raw.specs.Raw.{due_of}
 use Rattle.descriptor_entry.specs.declared.Field.{Field}
 use Rattle.descriptor_entry.specs.declared.Field.TheVariants as f
 use Rattle.descriptor_entry.specs.declared.Shape.{Shape}
-use Rattle.descriptor_entry.specs.Pieces.{Piece, bytes, Fits}
+use Rattle.descriptor_entry.specs.Pieces.{Piece, Fits}
 use Rattle.descriptor_entry.specs.Shapes as sh
 use Rattle.descriptor_entry.specs.Shapes.{Entry, number_in, wide_of, count_of, objects_of, pieces_of, only, both, classed, holding, item_shapes, form_shapes}
 use Rattle.descriptor_entry.specs.Entries.{field_pieces}

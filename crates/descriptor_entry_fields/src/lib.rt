@@ -1,5 +1,6 @@
 // Descriptors to be built: the numbers of an entry, and the fields that the head of each kind has.
 #![tactic(auto)]
+
 ghost use Rattle.std.specs.Prelude.{◌≡◌, ◌+◌, ◌<◌};
 ghost use Rattle.algebra.specs.Reader.{pick};
 ghost use Rattle.descriptor_raw.specs.Raw.{due_of};

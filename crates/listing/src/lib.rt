@@ -2,6 +2,7 @@
 // input that is too long. The contracts say what a buffer holds: of what C's `read` and `write` do
 // outside the program nothing is assumed, so nothing is said.
 #![tactic(auto)]
+
 ghost use Rattle.std.specs.Prelude.{◌≡◌, ◌%◌, leb, length};
 ghost use Rattle.io.specs.Counts.{IsPrefixLen};
 ghost use Rattle.algebra.specs.Numbers.{joined};
@@ -9,7 +10,10 @@ ghost use Rattle.algebra.specs.Reader.{pick};
 ghost use Rattle.listing.specs.Buffer.{put_byte, put_all};
 ghost use Rattle.listing.specs.Text.{decimal, word, digit, hex, name, bits, refusal};
 
-use libc::{STDIN_FILENO, STDOUT_FILENO};
+// The numbers that every process has its standard input and output by.
+const STDIN_FILENO: i32 = 0;
+
+const STDOUT_FILENO: i32 = 1;
 
 // Puts a byte into the buffer, of which n are full, and answers how many are full then. Of a full
 // buffer all bytes are handed over first, to be written out.

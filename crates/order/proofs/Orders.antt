@@ -1,13 +1,13 @@
 -- Laws of comparisons. Assumes nothing.
-use Prim.Native.Nat.{ℕ, ◌<◌, ◌≤◌}
-use mathlib.Core.Path.{◌≡◌, refl, sym, ap, ap₂, ◌∙◌, subst}
+use Prim.Native.Nat.{ℕ, ◌<◌}
+use mathlib.Core.Path.{◌≡◌, refl, sym, ap, ap₂, ◌∙◌}
 use mathlib.Core.Bool.{Bool, true, false}
 use mathlib.Core.Logic.{◌⊎◌, inl, inr}
 use lib.Dec.{ltb}
 use borrow.Author.Tests.{ltb-true, ltb-false, lt-ltb, le-ltb}
 use native.Mathlib.Omega.{arith}
 use Rattle.algebra.specs.Reader.{pick}
-use Rattle.order.specs.Order.{Order, less, same, greater, or_else, is_less, compare}
+use Rattle.order.specs.Order.{Order, less, same, greater, or_else, compare}
 use Rattle.order.specs.scaffold.Total.{turn, Total}
 
 -- ---- numbers

@@ -1,5 +1,5 @@
 -- Lists in order, and lists of the same elements.
-use Rattle.std.specs.Prelude.{ℕ, ◌≡◌, List, [], ◌∷◌, Bool}
+use Rattle.std.specs.Prelude.{◌≡◌, List, [], ◌∷◌}
 use Rattle.algebra.specs.Reader.{pick}
 use Rattle.order.specs.Order.{Order, less, is_less}
 

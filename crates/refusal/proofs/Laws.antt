@@ -2,15 +2,14 @@
 use Prim.Native.Nat.{ℕ, ◌+◌, ◌≤◌, ◌<◌}
 use mathlib.Core.Path.{◌≡◌, refl, sym, ap, ◌∙◌}
 use mathlib.Core.List.{List, ◌++◌}
-use mathlib.Core.Bool.{Bool, true, false}
+use mathlib.Core.Bool.{Bool}
 use lib.ListN.{length, drop}
 use lib.Seq.{sets-eq}
-use lib.Dec.{ltb}
 use borrow.Author.Tests.{le-ltb}
 use native.Mathlib.Omega.{arith}
 use Rattle.algebra.specs.Reader.{pick}
 use Rattle.algebra.specs.Store.{stored}
-use Rattle.algebra.specs.Writing.{Outcome, bytes, refused, writes}
+use Rattle.algebra.specs.Writing.{bytes, refused, writes}
 use Rattle.algebra.proofs.Stores.{stored-in}
 use Rattle.algebra.proofs.Writing.{needs-no, needs-all, writes-no, writes-none, writes-all}
 use Rattle.refusal.specs.Sentences.{sentence, number_fault, written}

@@ -1,5 +1,6 @@
 // The refusal table in words: the sentence of each number, in ASCII in lent bytes.
 #![tactic(auto)]
+
 ghost use Rattle.std.specs.Prelude.{◌≡◌, length};
 ghost use Rattle.algebra.specs.Writing.{writes};
 ghost use Rattle.fields.specs.Answer.{told_written};

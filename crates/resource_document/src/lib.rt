@@ -1,5 +1,6 @@
 // Photoshop documents: where the resource section lies, from the document's first bytes.
 #![tactic(auto)]
+
 ghost use Rattle.std.specs.Prelude.{◌≡◌};
 ghost use Rattle.algebra.specs.Reader.{done, judged};
 ghost use Rattle.algebra.specs.Table.{verdict};

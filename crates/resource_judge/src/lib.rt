@@ -1,5 +1,6 @@
 // Image resource blocks: judging a section by the layout.
 #![tactic(auto)]
+
 ghost use Rattle.std.specs.Prelude.{◌≡◌, ◌+◌, ◌%◌, ◌<◌, length};
 ghost use Rattle.algebra.specs.Reader.{done, then, map_res};
 ghost use Rattle.algebra.specs.Table.{verdict};

@@ -14,7 +14,7 @@ use Rattle.resource.specs.Tiling.{even}
 use Rattle.resource.specs.declared.Record.{Record}
 use Rattle.resource.proofs.Lies.{run_lies, counted-lies, block-lies}
 use Rattle.resource.proofs.Whole.{block-moves, blocks-no}
-use Rattle.resource_read.specs.scaffold.Parts.{Sound, behind}
+use Rattle.resource_read.specs.scaffold.Parts.{Sound}
 
 module _ (s : List ℕ) where
   -- a length is the number of the bytes behind it

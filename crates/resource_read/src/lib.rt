@@ -1,6 +1,7 @@
 // Image resource blocks: a section's records into a lent table, a record by its number, views of
 // its name and data, and the first block with an ID.
 #![tactic(auto)]
+
 ghost use Rattle.std.specs.Prelude.{◌≡◌, map, ◌+◌, ◌*◌, ◌≤◌, ◌<◌, length, get_or};
 ghost use Rattle.std.proofs.lemmas.List.Edits.{sets};
 ghost use Rattle.algebra.specs.Numbers.{joined};

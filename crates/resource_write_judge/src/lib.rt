@@ -1,5 +1,6 @@
 // Image resource blocks: the records of a run of numbers, judged as a section made of them would be.
 #![tactic(auto)]
+
 ghost use Rattle.std.specs.Prelude.{◌≡◌, [], ◌+◌, ◌*◌, ◌%◌, ◌≤◌, ◌<◌, leb, length};
 ghost use Rattle.algebra.specs.Reader.{pick, limit};
 ghost use Rattle.algebra.specs.Table.{row_at};

@@ -1,20 +1,15 @@
 -- Units one after the other, and the bytes of a scalar value. Assumes nothing.
-use Prim.Native.Nat.{ℕ, zero, suc, ◌+◌, ◌-◌, ◌*◌, ◌/◌, ◌%◌, ◌≤◌, ◌<◌}
+use Prim.Native.Nat.{ℕ, suc, ◌+◌, ◌-◌, ◌/◌, ◌%◌, ◌≤◌, ◌<◌}
 use mathlib.Core.Path.{◌≡◌, refl, sym, ap, ap₂, ◌∙◌}
-use mathlib.Core.List.{List, [], ◌∷◌, ◌++◌, append_assoc}
+use mathlib.Core.List.{List, [], ◌∷◌, ◌++◌}
 use mathlib.Core.Bool.{Bool, true, false, ◌&&◌}
-use lib.ListN.{length, get_or, drop, set, length-append, length-drop, drop_of_length-le, get_or-eq_default}
-use lib.Seq.{sets, drop-cons, drop-drop, get_or-drop}
-use lib.Dec.{leb, ltb, eqb}
-use borrow.Author.Tests.{le-leb, lt-leb, leb-true, leb-false, lt-ltb, le-ltb, ltb-true, ltb-false, eq-eqb, ne_eqb}
+use lib.ListN.{length, get_or, drop, drop_of_length-le}
+use lib.Seq.{drop-cons, drop-drop, get_or-drop}
+use lib.Dec.{leb, ltb}
+use borrow.Author.Tests.{le-leb, lt-leb, leb-true, lt-ltb, le-ltb}
 use native.Mathlib.Omega.{arith}
-use native.Mathlib.Numerals.{add-one, unary_clauses}
-use native.Mathlib.Nat.{add-zero}
-use Rattle.algebra.specs.Reader.{pick, field, or_zero}
-use Rattle.algebra.specs.Numbers.{joined, num, nums}
-use Rattle.algebra.proofs.Laws.{field_in, field-short}
-use Rattle.algebra.proofs.Places.{length-nums, getD-nums}
-use Rattle.unicode_text.specs.Grammar.{Units}
+use Rattle.algebra.specs.Reader.{pick}
+use Rattle.algebra.specs.Numbers.{joined}
 use Rattle.unicode_text.specs.Reading.{is_high, is_low, paired, single, scalars, scalar_bytes, utf8}
 use Rattle.unicode_text.specs.scaffold.Steps.{is_pair, scalar_at, taken}
 

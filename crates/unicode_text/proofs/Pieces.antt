@@ -1,18 +1,18 @@
 -- The reading of units and the grammar of pieces; the bytes of scalar values and the table of well-formed sequences. Assumes nothing.
-use Prim.Native.Nat.{ℕ, zero, suc, ◌+◌, ◌-◌, ◌*◌, ◌/◌, ◌%◌, ◌≤◌, ◌<◌}
+use Prim.Native.Nat.{ℕ, ◌+◌, ◌-◌, ◌*◌, ◌/◌, ◌%◌, ◌≤◌, ◌<◌}
 use mathlib.Core.Path.{◌≡◌, refl, sym, ap, ap₂, subst, ◌∙◌}
-use mathlib.Core.List.{List, [], ◌∷◌, ◌++◌, map}
+use mathlib.Core.List.{List, [], ◌∷◌, ◌++◌}
 use mathlib.Core.Bool.{Bool, true, false, ◌&&◌}
-use lib.ListN.{length, get_or, drop}
+use lib.ListN.{get_or, drop}
 use lib.Dec.{leb, ltb}
 use borrow.Author.Tests.{lt-ltb, le-ltb, ltb-true, ltb-false}
 use native.Mathlib.Omega.{arith}
 use native.Mathlib.Nat.{div-div-eq-div-mul}
 use Rattle.algebra.specs.Reader.{pick}
 use Rattle.algebra.specs.Numbers.{joined}
-use Rattle.unicode_text.specs.Grammar.{Scalar, below, above, utf16, Scalars, Units, Piece, scalar, high, low, units_held, text_units, shown_as, Sound, NoLow, Apart, Text}
-use Rattle.unicode_text.specs.Reading.{is_high, is_low, paired, single, scalars, scalar_bytes, utf8}
-use Rattle.unicode_text.specs.Bytes.{From, Tail, Sequence, ascii, two, lowest_three, three, before_surrogates, highest_three, lowest_four, four, highest_four, tails, lead, decoded_from, decoded}
+use Rattle.unicode_text.specs.Grammar.{Scalar, below, above, utf16, Piece, scalar, high, low, text_units, NoLow, Text}
+use Rattle.unicode_text.specs.Reading.{is_high, is_low, paired, single, scalars, scalar_bytes}
+use Rattle.unicode_text.specs.Bytes.{From, Tail, Sequence, ascii, two, lowest_three, three, before_surrogates, highest_three, lowest_four, four, highest_four, decoded_from, decoded}
 use Rattle.unicode_text.specs.scaffold.Steps.{is_pair, scalar_at, taken}
 use Rattle.unicode_text.proofs.Laws as laws
 use Rattle.unicode_text.proofs.Laws.{and_no, within, past, bounds, front-step, ascii-bytes, bytes-two, bytes-three, bytes-four}

@@ -1,21 +1,21 @@
 -- What a user cares about: the reading of units is that of the grammar, and the bytes are well-formed and spell what was read. Assumes nothing.
-use Prim.Native.Nat.{ℕ, zero, suc, ◌+◌, ◌-◌, ◌*◌, ◌/◌, ◌%◌, ◌≤◌, ◌<◌}
+use Prim.Native.Nat.{ℕ, suc, ◌+◌, ◌-◌, ◌*◌, ◌/◌, ◌%◌, ◌≤◌, ◌<◌}
 use mathlib.Core.Path.{◌≡◌, refl, sym, ap, ap₂, subst, ◌∙◌}
 use mathlib.Core.List.{List, [], ◌∷◌, ◌++◌, map}
 use mathlib.Core.Bool.{Bool, true, false, ◌&&◌}
-use lib.ListN.{length, get_or, drop}
+use lib.ListN.{length, get_or}
 use lib.Dec.{leb, ltb}
 use borrow.Author.Tests.{leb-false, ltb-true, ltb-false}
 use native.Mathlib.Omega.{arith}
 use Rattle.algebra.specs.Reader.{pick}
 use Rattle.algebra.specs.Numbers.{joined}
-use Rattle.unicode_text.specs.Grammar.{Scalar, below, above, utf16, Scalars, Paired, Units, Piece, scalar, high, low, units_held, text_units, shown_as, Sound, NoLow, Apart, Text}
+use Rattle.unicode_text.specs.Grammar.{Scalar, below, above, utf16, Scalars, Paired, Units, Piece, scalar, high, low, text_units, shown_as, NoLow, Text}
 use Rattle.unicode_text.specs.Reading.{is_high, is_low, paired, single, scalars, scalar_bytes, utf8}
-use Rattle.unicode_text.specs.Bytes.{From, Tail, Sequence, ascii, two, lowest_three, three, before_surrogates, highest_three, lowest_four, four, highest_four, WellFormed, none, more, decoded_from, decoded}
+use Rattle.unicode_text.specs.Bytes.{Sequence, ascii, two, lowest_three, three, before_surrogates, highest_three, lowest_four, four, highest_four, WellFormed, none, more, decoded_from, decoded}
 use Rattle.unicode_text.specs.scaffold.Steps.{is_pair}
 use Rattle.unicode_text.proofs.Laws as laws
 use Rattle.unicode_text.proofs.Laws.{and-true, within, past, bounds, ascii-bytes, bytes-two, bytes-three, bytes-four}
-use Rattle.unicode_text.proofs.Pieces.{not-high, before-low, basic, beyond, no_surrogate, scalar-lt, scalar-first, first-not-low, no-low, sequence-of, decoded-first, by-64, by-4096}
+use Rattle.unicode_text.proofs.Pieces.{not-high, before-low, basic, beyond, scalar-lt, scalar-first, first-not-low, no-low, sequence-of, decoded-first, by-64, by-4096}
 use Rattle.unicode_text.proofs.Short as shorter
 
 -- ---- units and the grammar

@@ -1,5 +1,5 @@
 -- Places of every d-th record, from which the others are near, and what is known on the way of a binary search.
-use Rattle.std.specs.Prelude.{ℕ, ◌+◌, ◌*◌, ◌<◌, ◌≤◌, ◌≡◌, List, [], Bool, true, false, get_or}
+use Rattle.std.specs.Prelude.{ℕ, ◌*◌, ◌<◌, ◌≤◌, ◌≡◌, List, [], Bool, true, false, get_or}
 use Rattle.order.specs.Order.{Order, less, same, greater}
 use Rattle.acb_order.specs.Names.{compare_names}
 use Rattle.acb_order.specs.scaffold.Places.{record_place}

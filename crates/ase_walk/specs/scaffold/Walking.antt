@@ -1,5 +1,5 @@
 -- Scaffolding: the form in which the code goes; cited by private contracts and by proofs.
-use Rattle.std.specs.Prelude.{ℕ, ◌-◌, ◌≡◌, List}
+use Rattle.std.specs.Prelude.{ℕ, ◌≡◌, List}
 use Rattle.algebra.specs.Reader.{ok}
 use Rattle.ase.specs.Reading.{Entry}
 use Rattle.ase_walk.specs.Walking.{block_from}

@@ -1,4 +1,4 @@
-use Rattle.std.proofs.Common.{sym, ◌∙◌, rules}
+use Rattle.std.proofs.Common.{sym, ◌∙◌}
 use Rattle.algebra.proofs.Lanes.{four-found, tail-left}
 use Rattle.names.proofs.any_in_few.Goals as goal
 

@@ -1,4 +1,4 @@
-use Rattle.std.proofs.Common.{◌≡◌, ◌+◌, ◌-◌, ◌*◌, ◌≤◌, true, sym, ◌∙◌, arith, rules}
+use Rattle.std.proofs.Common.{sym, ◌∙◌, arith}
 use Rattle.algebra.specs.Lanes.{any_high_bit, every}
 use Rattle.algebra.proofs.Lanes.{fours-start, fours-on, fours-end}
 use Rattle.names.proofs.any_in_fours.Goals as goal

@@ -1,8 +1,8 @@
-use Rattle.std.proofs.Common.{◌≡◌, ◌+◌, ◌-◌, ◌*◌, ◌≤◌, true, sym, ◌∙◌, arith, rules}
+use Rattle.std.proofs.Common.{◌≡◌, ◌+◌, ◌-◌, ◌*◌, ◌≤◌, true}
 use Rattle.algebra.specs.Numbers.{nums}
 use Rattle.algebra.specs.Reader.{pick}
 use Rattle.algebra.specs.Text.{any_zero}
-use Rattle.algebra.specs.Lanes.{any_high_bit, every}
+use Rattle.algebra.specs.Lanes.{any_high_bit}
 use Rattle.names.proofs.any_in_fours.Given as goal
 
 abbrev pub invariant-loop-i : goal.invariant-loop-i

@@ -1,4 +1,4 @@
-use Rattle.std.proofs.Common.{sym, ◌∙◌, rules}
+use Rattle.std.proofs.Common.{sym, ◌∙◌}
 use Rattle.algebra.proofs.Lanes.{clear-left}
 use Rattle.names.proofs.any_zero.Goals as goal
 

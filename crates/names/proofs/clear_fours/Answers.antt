@@ -1,5 +1,5 @@
-use Rattle.std.proofs.Common.{◌≡◌, ◌-◌, ◌*◌, ◌≤◌, false, arith, rules}
-use Rattle.algebra.proofs.Lanes.{not-false, clear-start, clear-join}
+use Rattle.std.proofs.Common.{arith}
+use Rattle.algebra.proofs.Lanes.{clear-start, clear-join}
 use Rattle.names.proofs.clear_fours.Goals as goal
 
 pub loop-i-init : goal.loop-i-init

@@ -1,4 +1,4 @@
-use Rattle.std.proofs.Common.{◌≡◌, ◌-◌, ◌*◌, ◌≤◌, false, arith, rules}
+use Rattle.std.proofs.Common.{◌≡◌, ◌-◌, ◌*◌, ◌≤◌, false}
 use Rattle.algebra.specs.Numbers.{nums}
 use Rattle.algebra.specs.Text.{any_zero}
 use Rattle.names.proofs.clear_fours.Given as goal

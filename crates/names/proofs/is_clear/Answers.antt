@@ -1,4 +1,4 @@
-use Rattle.std.proofs.Common.{◌≡◌, ◌+◌, ◌-◌, ◌*◌, ◌≤◌, false, sym, ◌∙◌, arith, rules}
+use Rattle.std.proofs.Common.{sym, ◌∙◌, arith}
 use Rattle.algebra.proofs.Lanes.{clear-start, glance-on, glance-end}
 use Rattle.names.proofs.is_clear.Goals as goal
 

@@ -1,4 +1,4 @@
-use Rattle.std.proofs.Common.{not, sym, ap, ◌∙◌, arith, rules, eq-eqb, ne_eqb}
+use Rattle.std.proofs.Common.{not, sym, ap, ◌∙◌, arith, eq-eqb, ne_eqb}
 use Rattle.algebra.proofs.Texts.{swapped-zero, closed_none, closed-open, closed_is}
 use Rattle.names.proofs.is_closed.Goals as goal
 

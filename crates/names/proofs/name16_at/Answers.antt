@@ -1,4 +1,4 @@
-use Rattle.std.proofs.Common.{sym, ap, ◌∙◌, arith, rules}
+use Rattle.std.proofs.Common.{sym, ap, ◌∙◌, arith}
 use Rattle.fields.specs.Answer.{told16}
 use Rattle.algebra.proofs.Laws.{field_next}
 use Rattle.algebra.proofs.Texts.{name-short, name-counted}

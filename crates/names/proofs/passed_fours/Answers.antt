@@ -1,4 +1,4 @@
-use Rattle.std.proofs.Common.{arith, rules}
+use Rattle.std.proofs.Common.{arith}
 use Rattle.algebra.proofs.Lanes.{clear-join}
 use Rattle.names.proofs.passed_fours.Goals as goal
 

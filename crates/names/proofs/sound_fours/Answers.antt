@@ -1,4 +1,4 @@
-use Rattle.std.proofs.Common.{◌≡◌, ◌-◌, ◌*◌, ◌≤◌, false, sym, ◌∙◌, arith, rules}
+use Rattle.std.proofs.Common.{sym, ◌∙◌, arith}
 use Rattle.algebra.proofs.Lanes.{clear-start, clear-join}
 use Rattle.names.proofs.sound_fours.Goals as goal
 

@@ -1,4 +1,4 @@
-use Rattle.std.proofs.Common.{◌≡◌, ◌-◌, ◌*◌, ◌≤◌, false, sym, ◌∙◌, arith, rules}
+use Rattle.std.proofs.Common.{◌≡◌, ◌-◌, ◌*◌, ◌≤◌, false}
 use Rattle.algebra.specs.Numbers.{nums}
 use Rattle.algebra.specs.Text.{any_zero}
 use Rattle.names.proofs.sound_fours.Given as goal

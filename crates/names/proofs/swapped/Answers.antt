@@ -1,4 +1,4 @@
-use Rattle.std.proofs.Common.{arith, rules}
+use Rattle.std.proofs.Common.{arith}
 use Rattle.algebra.proofs.Laws.{num-2}
 use Rattle.names.proofs.swapped.Goals as goal
 

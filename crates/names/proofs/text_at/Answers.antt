@@ -1,4 +1,4 @@
-use Rattle.std.proofs.Common.{sym, ◌∙◌, arith, rules}
+use Rattle.std.proofs.Common.{sym, ◌∙◌, arith}
 use Rattle.algebra.proofs.Texts.{text-none, text-short, text-zero, text-fine}
 use Rattle.names.proofs.text_at.Goals as goal
 

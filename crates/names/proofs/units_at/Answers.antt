@@ -1,4 +1,4 @@
-use Rattle.std.proofs.Common.{sym, ◌∙◌, arith, rules}
+use Rattle.std.proofs.Common.{sym, ◌∙◌, arith}
 use Rattle.algebra.proofs.Texts.{closed_none, units_cut, units_open, units-is}
 use Rattle.names.proofs.units_at.Goals as goal
 

@@ -1,0 +1,13 @@
+use Prim.Native.Nat.{◌-◌, ◌+◌, ◌≤◌}
+use mathlib.Core.Path.{◌≡◌}
+use lib.ListN.{length, drop}
+use Rattle.acb_order.specs.Index.{shown_from}
+use Rattle.acb_order.specs.scaffold.Places.{record_place, names_in}
+use Rattle.acb_find.proofs.Checking.{Marking}
+use Rattle.acb_find.proofs.survey.Given as goal
+
+abbrev pub invariant-loop-i : goal.invariant-loop-i
+invariant-loop-i l = (l.i ≤ l.count) × (l.at ≡ record_place l.n l.file l.first l.i) × (l.shown ≤ l.i) × (l.shown + length (shown_from l.i (drop l.i (names_in l.file))) ≡ length (shown_from 0 (names_in l.file))) × Marking l.file l.n l.first l.d l.i l.j l.due l.marks
+
+abbrev pub decreases-loop-i : goal.decreases-loop-i
+decreases-loop-i l = l.count - l.i

@@ -1,0 +1,17 @@
+use Prim.Native.Nat.{◌+◌, ◌*◌, ◌-◌, ◌≤◌}
+use mathlib.Core.Path.{◌≡◌}
+use mathlib.Core.List.{[], map}
+use lib.ListN.{length}
+use lib.Seq.{sets}
+use Rattle.algebra.specs.Numbers.{joined}
+use Rattle.algebra.specs.Table.{rows}
+use Rattle.aco.specs.Grammar.{colour_bytes}
+use Rattle.aco.specs.Row.{width, taken}
+use Rattle.aco_writing.specs.Writing.{swatch_in}
+use Rattle.aco_write.proofs.put_colours.Given as goal
+
+abbrev pub invariant-loop-i : goal.invariant-loop-i
+invariant-loop-i l = (l.i ≤ l.n) × (l.p ≡ l.at + 10 * l.i) × (sets l.initial.out l.at (joined colour_bytes (map (swatch_in []) (rows width taken l.run l.n 0))) ≡ sets l.out l.p (joined colour_bytes (map (swatch_in []) (rows width taken l.run (l.n - l.i) l.i)))) × (length l.out ≡ length l.initial.out)
+
+abbrev pub decreases-loop-i : goal.decreases-loop-i
+decreases-loop-i l = l.n - l.i

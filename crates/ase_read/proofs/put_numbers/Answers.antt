@@ -1,0 +1,34 @@
+use lib.ListN.{length-set}
+use native.Mathlib.Omega.{arith}
+use native.Mathlib.Numerals.{unary_clauses}
+use Rattle.ase_read.proofs.put_numbers.Goals as goal
+
+pub bounds-table-to-2 : goal.bounds-table-to-2
+bounds-table-to-2 c = simp length-set (omega arith)
+
+pub bounds-table-to-3 : goal.bounds-table-to-3
+bounds-table-to-3 c = simp length-set (omega arith)
+
+pub bounds-table-to-4 : goal.bounds-table-to-4
+bounds-table-to-4 c = simp length-set (omega arith)
+
+pub bounds-table-to-5 : goal.bounds-table-to-5
+bounds-table-to-5 c = simp length-set (omega arith)
+
+pub bounds-table-to-6 : goal.bounds-table-to-6
+bounds-table-to-6 c = simp length-set (omega arith)
+
+pub bounds-table-to-7 : goal.bounds-table-to-7
+bounds-table-to-7 c = simp length-set (omega arith)
+
+pub bounds-table-to-8 : goal.bounds-table-to-8
+bounds-table-to-8 c = simp length-set (omega arith)
+
+pub bounds-table-to-9 : goal.bounds-table-to-9
+bounds-table-to-9 c = simp length-set (omega arith)
+
+pub shape_of-table : goal.shape_of-table
+shape_of-table c = simp length-set
+
+pub returns : goal.returns
+returns c = simp unary_clauses

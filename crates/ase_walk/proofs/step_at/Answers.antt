@@ -1,0 +1,39 @@
+use mathlib.Core.Path.{refl, sym, ap, ◌∙◌}
+use native.Mathlib.Omega.{arith}
+use Rattle.ase.specs.Row.{RecordRow}
+use Rattle.walk.specs.Walk.{Call}
+use Rattle.ase_walk.specs.Answer.{call_and_place}
+use Rattle.ase_walk.proofs.Stepping.{passes_on, ends-here}
+use Rattle.ase_walk.proofs.step_at.Goals as goal
+
+pub loop-p-init : goal.loop-p-init
+loop-p-init c = refl
+
+pub given_of-given-requires : goal.given_of-given-requires
+given_of-given-requires c =
+    sym c.is_group.ensures ∙ c.if-not-is_group.true
+
+pub returns-then-not-is_group : goal.returns-then-not-is_group
+returns-then-not-is_group c =
+    let b = c.block_at-step in
+    ap (λ (x : Call RecordRow). (x, b.result.next)) c.given_of-given.ensures
+    ∙ ends-here c.args.file.now c.loop-p.p _ _ (sym c.is_group.ensures ∙ c.if-not-is_group.true) b.ensures ∙ sym (ap call_and_place c.loop-p.invariant)
+
+pub loop-p-smaller : goal.loop-p-smaller
+loop-p-smaller c =
+    let b = c.block_at-step in
+    let m = passes_on c.args.file.now c.loop-p.p _ _ (sym c.is_group.ensures ∙ c.if-not-is_group.false) b.ensures in
+    omega (arith, m.1, m.2)
+
+pub loop-p-preserved : goal.loop-p-preserved
+loop-p-preserved c =
+    let b = c.block_at-step in
+    let m = passes_on c.args.file.now c.loop-p.p _ _ (sym c.is_group.ensures ∙ c.if-not-is_group.false) b.ensures in
+    c.loop-p.invariant ∙ m.0
+
+pub ended_at-requires : goal.ended_at-requires
+ended_at-requires c = omega (arith, c.loop-p-test.false)
+
+pub returns : goal.returns
+returns c =
+    c.ended_at.ensures ∙ sym (ap call_and_place c.loop-p.invariant)

@@ -1,0 +1,6 @@
+use Rattle.listing.proofs.Putting.{put_both, put_last}
+use Rattle.listing.proofs.put_refusal.Goals as goal
+
+pub returns : goal.returns
+returns c =
+    put_last _ _ _ (put_both _ _ _ (put_both _ _ _ (put_both _ _ _ c.put_text-at.ensures c.put_word-at.ensures) c.put_text-at-2.ensures) c.put_word-at-2.ensures) c.put.ensures

@@ -1,0 +1,16 @@
+use native.Mathlib.Omega.{arith}
+use Rattle.resource_write.proofs.Puts.{part-place, part-lent}
+use Rattle.resource_write.proofs.part_of.Goals as goal
+
+pub overflow_add-end : goal.overflow_add-end
+overflow_add-end c =
+    omega (arith, part-place c.args.text.now c.args.first c.args.n c.requires c.if-n-eq0.false)
+
+pub slice_bounds-result-end-2 : goal.slice_bounds-result-end-2
+slice_bounds-result-end-2 c =
+    omega (arith, part-place c.args.text.now c.args.first c.args.n c.requires c.if-n-eq0.false)
+
+pub returns : goal.returns
+returns c =
+    let a = c.args in
+    part-lent a.text.now a.first a.n
