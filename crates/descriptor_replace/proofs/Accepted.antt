@@ -1,20 +1,19 @@
 -- A file in which one value of one length is replaced by another that is read is accepted, with the same rows. Assumes nothing.
 use Prim.Native.Nat.{ℕ, zero, suc, ◌+◌, ◌-◌, ◌≤◌, ◌<◌}
-use mathlib.Core.Path.{◌≡◌, refl, sym, ap, ap₂, ◌∙◌, subst}
+use mathlib.Core.Path.{◌≡◌, refl, sym, ap, ◌∙◌, subst}
 use mathlib.Core.List.{List, [], ◌∷◌}
-use mathlib.Core.Bool.{Bool, true, false}
+use mathlib.Core.Bool.{Bool, true}
 use lib.Dec.{leb, eqb}
-use lib.ListN.{length, get_or}
+use lib.ListN.{length}
 use borrow.Author.Tests.{eq-eqb}
 use native.Mathlib.Omega.{arith}
-use Rattle.algebra.specs.Chars.{chars}
 use Rattle.algebra.specs.Reader.{Res, ok, refuse, Reader, then, pick, until, many, ended, map_res, limit}
 use Rattle.algebra.specs.Algebra.{Same}
 use Rattle.algebra.specs.Refusal.{Of}
 use Rattle.algebra.proofs.Until.{until-turn, until-lawful}
 use Rattle.descriptor.specs.Reading.{is, leaf, sort_of, Row, descriptor}
 use Rattle.descriptor.proofs.Ends.{accepted}
-use Rattle.descriptor_heads.specs.Heads.{Due, Head, Opened, head_at, Stack, over, next_head, settled, after, root_head, whole_heads, file_heads}
+use Rattle.descriptor_heads.specs.Heads.{Due, Opened, head_at, Stack, over, next_head, settled, after, root_head, whole_heads, file_heads}
 use Rattle.descriptor_heads.specs.Rows.{row_end, now_under, rows_from, heads_of, rows_of}
 use Rattle.descriptor_heads.specs.Changed.{scalars, OneOf, here, later, Changed}
 use Rattle.descriptor_heads.proofs.Past.{head-inv, root-past, head-past}
@@ -33,6 +32,7 @@ stands : (e k : ℕ) (up : ℕ → ℕ) (os : List Opened) (r : Row) → OneOf r
 unfolding rows_from
 stands e k up (o ∷ os) r (here h) = this o os (ap (λ (q : Row). q.kind) h) (ap (λ (q : Row). q.value) h) (ap (λ (q : Row). q.first + q.size) h)
 stands e k up (o ∷ os) r (later h) = that o os (stands e (k + 1) (now_under up (o.head.depth + 1) k) os r h)
+stands e k up [] r x' = elim x' [ ]
 
 none-stands : {e : ℕ} {r : Row} {os : List Opened} → [] ≡ os → Stands e r os → ⊥
 none-stands e (this o more a b c) = let z : ◌≡◌ {A = ℕ} 0 1 = cc in omega arith

@@ -1,25 +1,24 @@
 -- What is promised of a file with one value replaced. Assumes nothing.
-use Prim.Native.Nat.{ℕ, zero, suc, ◌+◌, ◌-◌, ◌*◌, ◌^◌, ◌≤◌, ◌<◌}
-use mathlib.Core.Path.{◌≡◌, refl, sym, ap, ◌∙◌, subst}
+use Prim.Native.Nat.{ℕ, zero, suc, ◌+◌, ◌-◌, ◌^◌, ◌≤◌, ◌<◌}
+use mathlib.Core.Path.{◌≡◌, refl, sym, ap, ◌∙◌}
 use mathlib.Core.List.{List, [], ◌∷◌, ◌++◌}
 use mathlib.Core.Bool.{Bool, true, false}
-use lib.Dec.{leb, eqb}
-use lib.ListN.{length, get_or, take, drop, length-append, length-take, length-drop, take-append-drop}
-use lib.Seq.{length-take-le, take_at, get_or-take, get_or-drop, get_or-append-add, drop-drop}
+use lib.Dec.{leb}
+use lib.ListN.{length, get_or, take, drop, length-append, length-drop, take-append-drop}
+use lib.Seq.{length-take-le, get_or-take, get_or-drop, get_or-append-add, drop-drop}
 use lib.Ieee.{binary64, of_bits}
 use lib.Ieee.Scale.{finite}
 use borrow.Author.Tests.{eqb-true}
 use native.Mathlib.Omega.{arith}
 use Rattle.algebra.specs.Chars.{chars}
 use Rattle.algebra.specs.Numbers.{num, be, At}
-use Rattle.algebra.specs.Reader.{Res, ok, Reader, then, pick, field, Judged, fine, unless, judged, done}
-use Rattle.algebra.specs.Refusal.{Of}
+use Rattle.algebra.specs.Reader.{Res, ok, Reader, then, pick, Judged, fine, unless, judged, done}
 use Rattle.algebra.specs.Store.{part}
 use Rattle.algebra.proofs.Laws.{field_in, body-done, judged-ok}
-use Rattle.algebra.proofs.Places.{length-be, at-whole, at_left, at_right, at_after, at_take, num-be}
-use Rattle.descriptor.specs.Reading.{is, leaf, sort_of, skip, boolean, flag, bits, double, is_unit, unit, unit_double, Row, descriptor}
+use Rattle.algebra.proofs.Places.{length-be, at-whole, at_left, at_after, at_take, num-be}
+use Rattle.descriptor.specs.Reading.{is, leaf, sort_of, boolean, flag, bits, double, is_unit, unit, unit_double, Row, descriptor}
 use Rattle.descriptor.proofs.Rows.{rows-laid}
-use Rattle.descriptor_heads.specs.Changed.{scalars, OneOf, Changed}
+use Rattle.descriptor_heads.specs.Changed.{OneOf, Changed}
 use Rattle.descriptor_read.specs.Values.{found, value_size, value_in}
 use Rattle.descriptor_changed.proofs.Nested.{each-one, Within, within}
 use Rattle.descriptor_changed.proofs.Singles.{width_of, singles}

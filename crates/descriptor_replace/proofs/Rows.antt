@@ -1,14 +1,14 @@
 -- The call, by the row and what the table says of it. Assumes nothing.
-use Prim.Native.Nat.{ℕ, zero, suc, ◌+◌, ◌-◌, ◌≤◌, ◌<◌}
+use Prim.Native.Nat.{ℕ, zero, suc, ◌+◌, ◌≤◌, ◌<◌}
 use mathlib.Core.Path.{◌≡◌, refl, sym, ap, ap₂, ◌∙◌, subst}
 use mathlib.Core.List.{List, [], ◌∷◌, ◌++◌, append_assoc}
 use mathlib.Core.Bool.{Bool, true, false}
-use lib.Dec.{leb, eqb}
-use lib.ListN.{length, get_or, take, drop, length-append, length-drop}
+use lib.Dec.{leb}
+use lib.ListN.{length, get_or, take, drop, length-append}
 use lib.Seq.{sets, sets-eq, take-append-le, drop-append-le}
-use borrow.Author.Tests.{ne_eqb, eq-eqb, le-leb, lt-leb}
+use borrow.Author.Tests.{ne_eqb, le-leb, lt-leb}
 use native.Mathlib.Omega.{arith}
-use Rattle.algebra.specs.Reader.{Res, ok, refuse, pick}
+use Rattle.algebra.specs.Reader.{pick}
 use Rattle.algebra.specs.Refusal.{Of}
 use Rattle.algebra.specs.Store.{stored}
 use Rattle.algebra.specs.Writing.{Outcome, bytes, refused, writes}
@@ -16,15 +16,15 @@ use Rattle.algebra.proofs.Stores.{stored-in}
 use Rattle.descriptor.specs.Reading.{Row, descriptor}
 use Rattle.descriptor.proofs.Rows.{of-root, rows-laid}
 use Rattle.descriptor_heads.specs.Changed.{scalars, OneOf, here, later}
-use Rattle.descriptor_columns.specs.Columns.{Columns, columns_of}
+use Rattle.descriptor_columns.specs.Columns.{columns_of}
 use Rattle.descriptor_columns.proofs.Theorem.{get_d_map, map-length}
 use Rattle.descriptor_read.specs.Values.{RowAnswer, found, missing, row_at, row_in}
 use Rattle.descriptor_check.specs.Check as C
 use Rattle.descriptor_check.specs.Check.{begins_all, checked}
-use Rattle.descriptor_check.proofs.Begun.{both, onto-begins, begins-length}
+use Rattle.descriptor_check.proofs.Begun.{onto-begins, begins-length}
 use Rattle.descriptor_changed.proofs.Nested.{each-one, found-one, Within, within}
 use Rattle.descriptor_changed.proofs.Singles.{width_of, Singles, singles}
-use Rattle.descriptor_replace.specs.Replace.{is_kind, fault_of, bytes_of, new_file, row_fault, fault}
+use Rattle.descriptor_replace.specs.Replace.{is_kind, fault_of, bytes_of, new_file, row_fault}
 use Rattle.descriptor_replace.specs.scaffold.Replacing.{Owned}
 use Rattle.descriptor_replace.specs.declared.Replacement.{Replacement}
 use Rattle.descriptor_replace.proofs.Values.{kind-scalar}
@@ -45,6 +45,7 @@ row-past (r ∷ rs) (suc i) l = row-past rs i (omega arith)
 pub one_single : (e : ℕ) (rs : List Row) {r : Row} → Singles e rs → OneOf r rs → Of scalars r.kind → r.value + width_of r.kind ≡ r.first + r.size
 one_single e (x ∷ rs) {r} g (here h) k = subst (λ (z : Row). z.value + width_of z.kind ≡ z.first + z.size) h (g.0 (subst (Of scalars) (ap (λ (z : Row). z.kind) (sym h)) k)).0
 one_single e (x ∷ rs) g (later h) k = one_single e rs g.1 h k
+one_single e [] {r = r} g x3 k = elim x3 [ ]
 
 get_d-begins : (column run : List ℕ) → C.begins column run ≡ true → (j : ℕ) → j < length column → get_or run j 0 ≡ get_or column j 0
 get_d-begins column run h j l = ap (λ (x : List ℕ). get_or x j 0) (sym (onto-begins column run h)) ∙ left column (drop (length column) run) j l

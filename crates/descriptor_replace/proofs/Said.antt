@@ -1,5 +1,5 @@
 -- A replaced row says what was given, and a row replaced by what it says keeps its bytes. Assumes nothing.
-use Prim.Native.Nat.{ℕ, zero, suc, ◌+◌, ◌-◌, ◌^◌, ◌≤◌, ◌<◌}
+use Prim.Native.Nat.{ℕ, zero, suc, ◌+◌, ◌^◌, ◌≤◌, ◌<◌}
 use mathlib.Core.Path.{◌≡◌, refl, sym, ap, ◌∙◌, subst}
 use mathlib.Core.List.{List, [], ◌∷◌, ◌++◌}
 use mathlib.Core.Bool.{Bool, true, false, true≢false, not}
@@ -27,7 +27,6 @@ use Rattle.descriptor_heads.specs.Changed.{OneOf, here, later}
 use Rattle.descriptor_read.specs.Values.{RowAnswer, found, missing, row_at, row_in, value_size, value_in}
 use Rattle.descriptor_read.specs.Typed.{typed_in, typed_of}
 use Rattle.descriptor_read.specs.Kinds.{Says, typed}
-use Rattle.descriptor_read.specs.declared.Typed.{Typed}
 use Rattle.descriptor_read.specs.declared.Typed.TheVariants as vt
 use Rattle.descriptor_read.proofs.ByBytes.{typed-said}
 use Rattle.descriptor_read.proofs.Typing as T'
@@ -197,6 +196,7 @@ module _ (s : List ℕ) (b : Bytes s) where
   leafed : (rs : List Row) {r : Row} → AllLeafed s rs → OneOf r rs → Leafed s r.kind r.value
   leafed (q ∷ rs) a (here h) = subst (λ (x : Row). Leafed s x.kind x.value) h a.0
   leafed (q ∷ rs) a (later h) = leafed rs a.1 h
+  leafed [] {r = r} a x'' = elim x'' [ ]
 
   -- a row of one of the five kinds, replaced by what it says, is taken, and the file stays as it is
   pub own_same : (i : ℕ) (r : Row) → row_in i (descriptor s) ≡ found r → one_of typed r.kind ≡ true

@@ -1,5 +1,5 @@
 -- Words of the theorems: how wide the numbers of a replacement are, and replacements as values that a row says.
-use Rattle.std.specs.Prelude.{ℕ, ◌^◌, ◌<◌, eqb}
+use Rattle.std.specs.Prelude.{◌^◌, ◌<◌, eqb}
 use Rattle.std.specs.Float.{binary64}
 use Rattle.std.specs.Float.Ieee.{of_bits, to_bits}
 use Rattle.algebra.specs.Reader.{pick}

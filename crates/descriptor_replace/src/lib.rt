@@ -4,6 +4,7 @@
 // row ends, so that its place comes from the table: the file is copied, and the new value stored over
 // the old.
 #![tactic(auto)]
+
 ghost use Rattle.std.specs.Prelude.{◌≡◌, ◌+◌, ◌≤◌, ◌<◌, length};
 ghost use Rattle.std.proofs.lemmas.List.Edits.{sets};
 ghost use Rattle.algebra.specs.Numbers.{be};
@@ -20,7 +21,7 @@ use fields::Written;
 // A value of a kind: of `bool`, `long`, `comp` and `doub` its bits, of `UntF` a unit and the bits of a
 // double; or one of no kind that can be replaced. `bool` and `long` are as given, and judged in their
 // turn.
-#[derive(Drop)]
+#[derive(Clone, Copy)]
 pub enum Replacement {
     Bool(u64),
     Long(u64),
