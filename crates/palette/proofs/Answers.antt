@@ -1,18 +1,16 @@
 -- What the answers of the code come to. Assumes nothing.
 use Prim.Native.Nat.{ℕ}
-use mathlib.Core.Path.{◌≡◌, refl, sym, ap, ap₂, ◌∙◌}
+use mathlib.Core.Path.{◌≡◌, refl, sym, ap, ◌∙◌}
 use mathlib.Core.List.{List, [], ◌∷◌}
 use lib.ListN.{length}
 use native.Mathlib.Omega.{arith}
-use Rattle.algebra.specs.Reader.{Res, ok, refuse, map_res}
-use Rattle.algebra.specs.Table.{Verdict, accepted, refused, verdict}
+use Rattle.algebra.specs.Reader.{Res, map_res}
+use Rattle.algebra.specs.Table.{accepted, refused, verdict}
 use Rattle.algebra.proofs.Table.{accepted-of, refused-of}
 use Rattle.algebra.proofs.Exact.{length-map}
-use Rattle.colour.specs.declared.space.Colour.{Colour}
 use Rattle.aco.specs.Reading.{Contents, aco}
 use Rattle.aco_judge.specs.Answer.{report}
 use Rattle.ase.specs.Reading.{Entry as AseEntry, group_start_read, group_end_read, colour_read, ase}
-use Rattle.ase.specs.Row.{RecordRow}
 use Rattle.ase_judge.specs.Answer.{colours as counted, report as reportAse}
 use Rattle.walk.specs.Walk.{Call}
 use Rattle.aco_walk.specs.Walking.{walk}
@@ -23,7 +21,7 @@ use Rattle.aco.specs.Reading.{Entry}
 use Rattle.ase_walk.specs.Answer.{told_next_colour as toldNextAse, told_colour_step as toldAseStep, call_and_place as aseCall}
 use Rattle.ase_walk.specs.declared.NextColour.{NextColour as NextAse}
 use Rattle.ase_walk.specs.declared.ColourStep.{ColourStep as AseColourStep}
-use Rattle.palette.specs.Palette.{PaletteColour, aco_colour, aco_colours, ase_colours, colours}
+use Rattle.palette.specs.Palette.{aco_colour, aco_colours, ase_colours, colours}
 use Rattle.palette.specs.PaletteStep.{view_of, aco_step, ase_step, step_of}
 use Rattle.palette.specs.declared.Kind.{Kind}
 use Rattle.palette.specs.declared.Kind.TheVariants.{Aco, Ase}

@@ -7,7 +7,6 @@ use lib.Seq.{get_or-take}
 use native.Mathlib.Omega.{arith}
 use Rattle.algebra.specs.Numbers.{be, joined, nums, Bytes, All}
 use Rattle.algebra.specs.Reader.{ok}
-use Rattle.algebra.specs.Store.{part}
 use Rattle.algebra.specs.Text.{Name, name, front}
 use Rattle.algebra.proofs.Inverse.{name-inv, front-nums}
 use Rattle.algebra.proofs.Places.{length-nums, nums-cong, nums-lt, part-nums}

@@ -1,5 +1,5 @@
 -- A call from the place of colour i gives colour i. Assumes nothing.
-use Prim.Native.Nat.{ℕ, zero, suc, ◌+◌, ◌*◌, ◌-◌, ◌≤◌, ◌<◌, ◌^◌}
+use Prim.Native.Nat.{ℕ, zero, suc, ◌+◌, ◌≤◌, ◌<◌}
 use mathlib.Core.Path.{◌≡◌, refl, sym, ap, ap₂, ◌∙◌, subst}
 use mathlib.Core.List.{List, [], ◌∷◌, map}
 use mathlib.Core.Bool.{Bool, true, false, true≢false}
@@ -8,22 +8,21 @@ use lib.ListN.{length, get_or, take, get_or-map}
 use borrow.Author.Tests.{lt-ltb, leb-true}
 use native.Mathlib.Omega.{arith}
 use native.Mathlib.Numerals.{add-one}
-use Rattle.algebra.specs.Numbers.{num, nums, Bytes, be, joined, All}
-use Rattle.algebra.specs.Reader.{Res, ok, refuse, Reader, then, pick, rule, unless, judged, each, map_res, limit}
-use Rattle.algebra.specs.Text.{Name, name}
+use Rattle.algebra.specs.Numbers.{nums, Bytes}
+use Rattle.algebra.specs.Reader.{Res, ok, refuse, then, pick, rule, unless, judged, each, map_res, limit}
+use Rattle.algebra.specs.Text.{name}
 use Rattle.algebra.proofs.Inverse.{then-inv, rule-inv, pick_inv, ok-value, ok-place}
 use Rattle.algebra.proofs.Exact.{length-map}
 use Rattle.colour.specs.Models.{is_model, model_of, channels_of}
 use Rattle.colour.specs.declared.space.Colour.{Colour}
 use Rattle.aco.specs.Reading.{colour, Entry, Contents, unnamed, lists, aco, zero_colour}
 use Rattle.aco.proofs.Raw.{colour-inv}
-use Rattle.ase.specs.Reading.{Entry as AseEntry, group_start_read, group_end_read, colour_read, group_content, colour_content, model, channel, type, inside, within, content, deepest, palette, ase}
+use Rattle.ase.specs.Reading.{Entry as AseEntry, group_start_read, group_end_read, colour_read, group_content, colour_content, model, channel, type, within, content, deepest, palette, ase}
 use Rattle.ase.specs.Row.{four_of}
 use Rattle.ase.proofs.Laws.{block-inv}
 use Rattle.ase.proofs.Payload.{inside-inv}
 use Rattle.ase_read.proofs.Blocks.{blocked}
-use Rattle.walk.specs.Walk.{Call, gives, over, refused, Step, place_after, call, in_turn, only}
-use Rattle.walk.specs.Names.{name_part}
+use Rattle.walk.specs.Walk.{Call, gives, over, Step, place_after, call, in_turn, only}
 use Rattle.walk.proofs.Calls.{in-turn-is, step-read}
 use Rattle.aco_walk.specs.Walking.{is_plain, first_place, named_entry, labelled, swatch_from, walk}
 use Rattle.aco_walk.specs.Answer.{call_and_place}
@@ -31,9 +30,9 @@ use Rattle.aco_walk.proofs.Walked.{colours-in-turn, given-allowed}
 use Rattle.ase_walk.specs.Walking.{block_from, is_a_colour, walk as aseWalk, first_place as aseFirst}
 use Rattle.ase_walk.specs.Answer.{call_and_place as aseCall}
 use Rattle.ase_walk.proofs.Walked.{colours-in-turn as ase-in-turn, given-allowed as ase-given}
-use Rattle.palette.specs.Palette.{Value, samples, channels, PaletteColour, aco_colour, aco_colours, ase_colours, colours}
-use Rattle.palette.specs.PaletteStep.{first_at, view_of, five, colour_numbers, aco_step, ase_step, step_of}
-use Rattle.palette.specs.scaffold.Turn.{list_of, colours_in, no_colour_at, place_of, kind_seen, value_numbers, SoundValue, Turn}
+use Rattle.palette.specs.Palette.{channels, PaletteColour, aco_colour, aco_colours, ase_colours, colours}
+use Rattle.palette.specs.PaletteStep.{first_at, view_of, aco_step, ase_step, step_of}
+use Rattle.palette.specs.scaffold.Turn.{list_of, colours_in, no_colour_at, place_of, kind_seen, Turn}
 use Rattle.palette.specs.declared.Kind.{Kind}
 use Rattle.palette.specs.declared.Kind.TheVariants.{Aco, Ase}
 use Rattle.palette.specs.declared.View.{View}

@@ -1,5 +1,5 @@
 -- What each answer of the code says.
-use Rattle.std.specs.Prelude.{ℕ, length, List}
+use Rattle.std.specs.Prelude.{ℕ}
 use Rattle.algebra.specs.Table.{Verdict, accepted, refused}
 use Rattle.palette.specs.declared.Answer.{Answer}
 use Rattle.palette.specs.declared.Answer.TheVariants as va

@@ -1,6 +1,7 @@
 // Palettes: the colours of an ACO or an ASE file, groups left aside, judged and handed out one a
 // call in one form for both.
 #![tactic(auto)]
+
 ghost use Rattle.std.specs.Prelude.{◌≡◌, length};
 ghost use Rattle.algebra.specs.Table.{verdict};
 ghost use Rattle.aco_walk.specs.Walking.{walk};
