@@ -2,8 +2,7 @@
 use Prim.Native.Nat.{ℕ, ◌+◌, ◌*◌, ◌≤◌, ◌<◌}
 use mathlib.Core.Path.{◌≡◌, refl, sym, ap, ap₂, ◌∙◌, subst}
 use mathlib.Core.List.{List, [], ◌∷◌, ◌++◌, append_assoc}
-use mathlib.Core.Bool.{Bool, true, false}
-use lib.Dec.{ltb, leb}
+use mathlib.Core.Bool.{Bool, true}
 use lib.ListN.{length, take, drop, take-append-drop}
 use lib.Seq.{length-take-le, drop-append-le}
 use native.Mathlib.Omega.{arith}
@@ -18,9 +17,9 @@ use Rattle.aco.proofs.Placed.{refused-placed}
 use Rattle.algebra.specs.Table.{verdict}
 use Rattle.aco_judge.specs.Answer.{report}
 use Rattle.aco_stream.specs.declared.Stream.{Stream}
-use Rattle.aco_chunks.specs.Chunks.{FileVerdict, Progress, chunk, chunks, begin, answer}
+use Rattle.aco_chunks.specs.Chunks.{FileVerdict, Progress, chunks, begin, answer}
 use Rattle.aco_chunks.specs.Promise.{join, sound_colours, held}
-use Rattle.aco_stream.specs.Answer.{progress, usable, roomy, room, known, Starts, StartsBy, Feeds, FeedsBy, Finishes, FinishesBy}
+use Rattle.aco_stream.specs.Answer.{progress, usable, roomy, room, known, Starts, StartsBy, FeedsBy, Finishes, FinishesBy}
 use Rattle.aco_stream.specs.Promise.{Runs, Agrees}
 use Rattle.aco_stream.proofs.Calls.{is-roomy, known-near}
 use Rattle.aco_chunks.proofs.Cutting.{any-cutting}

@@ -5,6 +5,7 @@
 // list 2's heading, its records, each up to its name's units, and the units. Bytes of an item that
 // is not whole yet are carried. An item is read from its bytes alone, by the whole-file reader.
 #![tactic(auto)]
+
 ghost use Rattle.std.specs.Prelude.{◌≡◌, ◌+◌, ◌-◌, ◌≤◌, ◌<◌, length, false};
 ghost use Rattle.algebra.specs.Reader.{limit};
 ghost use Rattle.aco_chunks.specs.Chunks.{size, item, next, after, kept, chunk, cut, ending};

@@ -2,4 +2,3 @@
 pub mod Swatches
 pub mod Walked
 pub mod Stepping
-pub mod Types

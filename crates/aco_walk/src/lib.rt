@@ -1,5 +1,6 @@
 // ACO swatches one a call: a step from any place of any file, and the walker above it.
 #![tactic(auto)]
+
 ghost use Rattle.std.specs.Prelude.{◌≡◌, length};
 ghost use Rattle.colour.specs.declared.space.Colour.{Colour};
 ghost use Rattle.algebra.specs.Reader.{refuse};
@@ -15,7 +16,7 @@ use names::NameAt;
 
 // What a call gives: a colour, whose name lies at a place and has a number of units, with its ink;
 // done; or a refusal.
-#[derive(Drop)]
+#[derive(Clone, Copy)]
 pub enum NextColour {
     Colour { place: usize, units: u32, ink: Ink },
     Done,
@@ -23,7 +24,7 @@ pub enum NextColour {
 }
 
 // A call's answer, its colour by value, all zeros where it gives none, and the place of the next call.
-#[derive(Drop)]
+#[derive(Clone, Copy)]
 pub struct ColourStep {
     pub colour: Colour,
     pub given: NextColour,

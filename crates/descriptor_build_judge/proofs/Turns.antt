@@ -1,9 +1,9 @@
 -- A loop over entries: what holds before each, and each kind of turn. Assumes nothing.
-use Prim.Native.Nat.{ℕ, zero, suc, ◌+◌, ◌-◌, ◌*◌, ◌≤◌, ◌<◌}
-use mathlib.Core.Path.{◌≡◌, refl, sym, ap, ap₂, ◌∙◌, subst, subst₂}
+use Prim.Native.Nat.{ℕ, zero, suc, ◌+◌, ◌-◌, ◌≤◌, ◌<◌}
+use mathlib.Core.Path.{◌≡◌, refl, sym, ap, ap₂, ◌∙◌}
 use mathlib.Core.List.{List, [], ◌∷◌, ◌++◌}
 use mathlib.Core.Bool.{Bool, true, false}
-use lib.Dec.{leb, ltb, eqb}
+use lib.Dec.{ltb}
 use lib.ListN.{length, get_or, set, length-set}
 use borrow.Author.Tests.{le-leb, lt-leb, ltb-true, ltb-false}
 use native.Mathlib.Omega.{arith}
@@ -15,13 +15,13 @@ use Rattle.algebra.specs.Faults.{first_of, faults}
 use Rattle.algebra.specs.Writing.{Outcome, refused, needs}
 use Rattle.algebra.proofs.Counted.{counted-turn, counted-end, counted_start}
 use Rattle.algebra.proofs.Writing.{needs-no}
-use Rattle.descriptor_heads.specs.Heads.{Due, Opened, Stack, settled, after, deepest}
+use Rattle.descriptor_heads.specs.Heads.{Due, Stack, settled, deepest}
 use Rattle.descriptor_raw.specs.Raw.{due_of}
 use Rattle.descriptor_columns.specs.scaffold.Filling.{dues}
 use Rattle.descriptor_columns.specs.declared.Level.{Level}
 use Rattle.descriptor_columns.proofs.Levels.{level, nothing, levels, levels-length, levels-push, levels-pop, dues-length}
 use Rattle.descriptor_entry.specs.Pieces.{Piece, size, fault, fault_of}
-use Rattle.descriptor_entry.specs.Shapes.{width, Entry, kind_of, count_of, object, shape_of}
+use Rattle.descriptor_entry.specs.Shapes.{width, Entry, kind_of, object, shape_of}
 use Rattle.descriptor_entry.specs.Entries.{head_pieces, root_pieces, asks, next, member_pieces, ending, root_stack, pieces, ended, build_fault, needed}
 use Rattle.descriptor_entry.proofs.Laws.{first-assoc, size-append, faults-append}
 use Rattle.descriptor_entry_judge.specs.declared.Judged.{Judged}

@@ -3,6 +3,7 @@
 // One loop goes over the entries. The levels that still want members stand in an array, as where
 // columns are filled.
 #![tactic(auto)]
+
 ghost use Rattle.std.specs.Prelude.{◌≡◌, ◌+◌, ◌*◌, ◌≤◌, length, ltb};
 ghost use Rattle.algebra.specs.Table.{row_at, rows};
 ghost use Rattle.algebra.specs.Writing.{needs};

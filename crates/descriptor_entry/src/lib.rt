@@ -10,7 +10,7 @@ pub const WIDTH: usize = 16;
 
 // A field of a head, by the number of the entry that it takes: a word as it is, a unit, one of object
 // arrays, a `bool`, 64 bits, a double, an ID, a Unicode string, a run of bytes, doubles.
-#[derive(Drop)]
+#[derive(Clone, Copy)]
 pub enum Field {
     Nothing,
     Word(usize),
@@ -27,7 +27,7 @@ pub enum Field {
 
 // The fields behind a kind, in their order; whether the kind is known, whether its row has children,
 // and what they are: 0 items, 1 pairs, 2 reference items, 3 the pairs of an object array.
-#[derive(Drop)]
+#[derive(Clone, Copy)]
 pub struct Shape {
     pub known: bool,
     pub first: Field,

@@ -1,7 +1,7 @@
 -- What is found of one head. Assumes nothing.
-use Prim.Native.Nat.{ℕ, zero, suc, ◌+◌, ◌*◌, ◌≤◌, ◌<◌}
-use mathlib.Core.Path.{◌≡◌, refl, sym, ap, ap₂, ◌∙◌, subst}
-use mathlib.Core.List.{List, [], ◌∷◌, ◌++◌}
+use Prim.Native.Nat.{ℕ, zero, suc, ◌+◌, ◌≤◌, ◌<◌}
+use mathlib.Core.Path.{◌≡◌, refl, sym, ap, ap₂, ◌∙◌}
+use mathlib.Core.List.{List, ◌∷◌, ◌++◌}
 use mathlib.Core.Bool.{Bool, true, false}
 use lib.Dec.{eqb}
 use borrow.Author.Tests.{eq-eqb, ne_eqb}
@@ -16,7 +16,7 @@ use Rattle.descriptor_entry.specs.declared.Field.{Field}
 use Rattle.descriptor_entry.specs.declared.Field.TheVariants as f
 use Rattle.descriptor_entry.specs.declared.Shape.{Shape}
 use Rattle.descriptor_entry.specs.Pieces.{Piece, number, size, fault, fault_of}
-use Rattle.descriptor_entry.specs.Shapes.{Entry, number_in, kind_of, count_of, objects_of, pieces_of, object, shape_of}
+use Rattle.descriptor_entry.specs.Shapes.{Entry, number_in, kind_of, count_of, pieces_of, object, shape_of}
 use Rattle.descriptor_entry.specs.Entries.{key_pieces, objects_due, field_pieces, head_pieces, root_pieces, asks}
 use Rattle.descriptor_entry.proofs.Laws.{size-append, faults-append}
 use Rattle.descriptor_entry_fields.proofs.Tables.{any-shape}

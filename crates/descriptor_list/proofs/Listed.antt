@@ -1,11 +1,10 @@
 -- Kinds, rows in runs and their lines. Assumes nothing.
-use Prim.Native.Nat.{ℕ, zero, suc, ◌+◌, ◌-◌, ◌≤◌, ◌<◌, ◌/◌}
+use Prim.Native.Nat.{ℕ, zero, suc, ◌+◌, ◌-◌, ◌≤◌, ◌<◌}
 use mathlib.Core.Path.{◌≡◌, refl, sym, ap, ap₂, ◌∙◌}
 use mathlib.Core.List.{List, [], ◌∷◌, ◌++◌, map}
 use lib.ListN.{length, get_or, take, drop, length-append, length-drop, drop_of_length-le}
 use lib.Seq.{get_or-take, get_or-drop, length-take-le, drop-cons, take-append_seam}
-use mathlib.Core.Bool.{Bool, true, false}
-use lib.Dec.{leb}
+use mathlib.Core.Bool.{Bool, true}
 use borrow.Author.Tests.{eq-eqb, ne_eqb, le-leb}
 use native.Mathlib.Omega.{arith}
 use native.Mathlib.Numerals.{add-one}
@@ -19,7 +18,7 @@ use Rattle.descriptor_columns.specs.Filled.{fits, answered, onto, filled, Read, 
 use Rattle.descriptor_columns.proofs.Room.{room-on}
 use Rattle.descriptor_columns.proofs.Theorem.{get_d_map, map-length, parents-are}
 use Rattle.listing.specs.Buffer.{Buffer, put_all}
-use Rattle.listing.specs.Text.{ascii, decimal, word, lines, refusal}
+use Rattle.listing.specs.Text.{ascii, word, lines, refusal}
 use Rattle.listing.proofs.Putting.{items-turn, items-end, lines-turn, lines_none}
 use Rattle.descriptor_list.specs.scaffold.Held.{spare, Given, Held}
 use Rattle.descriptor_list.specs.Listing.{kept, kind, line, heading, listing}

@@ -1,5 +1,6 @@
 // Lists the descriptor on standard input: its header, a line a row, `end`; or the refusal.
 #![tactic(auto)]
+
 ghost use Rattle.std.specs.Prelude.{◌≡◌, List, ◌++◌, ◌≤◌, ◌<◌, length, take, drop};
 ghost use Rattle.algebra.specs.Numbers.{joined};
 ghost use Rattle.descriptor.specs.Reading.{Row, descriptor};
