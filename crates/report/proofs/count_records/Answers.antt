@@ -1,4 +1,4 @@
-use Prim.Native.Nat.{ℕ, ◌-◌}
+use Prim.Native.Nat.{ℕ}
 use mathlib.Core.Path.{sym, ap, ◌∙◌}
 use Rattle.acb_read.specs.Answer.{RecordPlaces}
 use Rattle.acb_read.specs.Walked.{name_place_of}

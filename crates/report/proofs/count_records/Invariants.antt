@@ -1,4 +1,4 @@
-use Prim.Native.Nat.{ℕ, ◌-◌}
+use Prim.Native.Nat.{◌-◌}
 use Rattle.report.specs.scaffold.Parts.{Shelved}
 use Rattle.report.proofs.count_records.Given as goal
 
