@@ -1,6 +1,6 @@
 /* Lists an ACO or ASE palette: list_palette FILE
  *
- *     rt staticlib khuyurek
+ *     tools/build khuyurek
  *     cc -std=c99 -Iinclude examples/list_palette.c target/staticlib/libkhuyurek.a -o list_palette
  *
  * The status is 0, or 1 where the file is refused, or 2 where it cannot be read or listed. */

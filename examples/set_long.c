@@ -1,6 +1,6 @@
 /* Changes one `long` of a descriptor and writes the file back: set_long ROW NUMBER < FILE > NEW
  *
- *     rt staticlib khuyurek
+ *     tools/build khuyurek
  *     cc -std=c99 -Iinclude examples/set_long.c target/staticlib/libkhuyurek.a -o set_long
  *
  * Rows are counted from 0, the root; `./khuyurek FILE` lists them in this order. All other bytes of the

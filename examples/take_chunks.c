@@ -1,6 +1,6 @@
 /* Takes an ACO palette from standard input in chunks, as they arrive: take_chunks [BYTES]
  *
- *     rt staticlib khuyurek
+ *     tools/build khuyurek
  *     cc -std=c99 -Iinclude examples/take_chunks.c target/staticlib/libkhuyurek.a -o take_chunks
  *
  * No more than BYTES of the file are held at a time, 1500 where none are given, beside the store for

@@ -1,6 +1,6 @@
 /* Khuyurek for C: colour files judged, read and written.
  *
- * Link target/staticlib/libkhuyurek.a, which `rt staticlib khuyurek` makes.
+ * Link target/staticlib/libkhuyurek.a, which `tools/build khuyurek` makes.
  * No call allocates, keeps a pointer or changes a buffer on a refusal; the
  * store of a palette in chunks has its own rule, see there.
  * docs/INTERFACE.md has every function with its refusals, and

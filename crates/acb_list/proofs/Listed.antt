@@ -4,22 +4,22 @@ use mathlib.Core.Path.{◌≡◌, refl, sym, ap, ap₂, ◌∙◌, subst}
 use mathlib.Core.List.{List, [], ◌∷◌, ◌++◌, map}
 use mathlib.Core.Bool.{Bool, true}
 use lib.ListN.{length, drop}
-use lib.Dec.{leb, eqb}
+use lib.Dec.{leb}
 use borrow.Author.Tests.{le-leb, eq-eqb, ne_eqb}
 use native.Mathlib.Omega.{arith}
 use Rattle.algebra.specs.Numbers.{joined, Bytes, All}
 use Rattle.algebra.specs.Reader.{Res, ok, refuse, pick}
-use Rattle.algebra.specs.Table.{Verdict, accepted, refused as refusedFile, verdict, filled}
+use Rattle.algebra.specs.Table.{Verdict, accepted, refused as refusedFile, filled}
 use Rattle.algebra.proofs.Exact.{length-map}
 use Rattle.algebra.proofs.Firsts.{all-source}
-use Rattle.acb.specs.Grammar.{Tag, Book, AllowedRecord, Allowed, File, file}
+use Rattle.acb.specs.Grammar.{Book, AllowedRecord, Allowed, File, file}
 use Rattle.acb.specs.Reading.{Entry, Contents, components_of, acb, colour_of, book_of}
 use Rattle.colour.specs.Inks.{ink_number}
 use Rattle.acb.specs.Row.{RecordRow, width, numbers, given_of, tag_ink, stated, records_of}
 use Rattle.acb.proofs.Row.{six-back, four-back}
 use Rattle.acb.proofs.Laws.{components-some, space-components}
 use Rattle.acb.proofs.RoundTrip.{accepted-allowed, thirteen-each}
-use Rattle.acb_judge.specs.Answer.{HeaderPlaces, Report, reported, report}
+use Rattle.acb_judge.specs.Answer.{Report, report}
 use Rattle.acb_read.specs.Walked.{walked}
 use Rattle.acb_read.proofs.Walking.{walked_all}
 use Rattle.acb_shown_file.specs.View.{dummy, dummies_in}

@@ -1,6 +1,7 @@
 // Lists the ACB file on standard input: its header, its shown texts, a line a record, a line a page,
 // `end`; or the refusal.
 #![tactic(auto)]
+
 ghost use Rattle.std.specs.Prelude.{◌≡◌, ◌≤◌, ◌<◌, length, take};
 ghost use Rattle.algebra.specs.Numbers.{joined};
 ghost use Rattle.acb.specs.Reading.{components_of, acb};

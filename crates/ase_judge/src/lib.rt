@@ -16,7 +16,7 @@ use fields::{FieldEnd, Number16, Number32};
 use names::NameAt;
 
 // How many blocks a file has, and how many of them are colours; or a refusal.
-#[derive(Drop)]
+#[derive(Clone, Copy)]
 pub enum Answer {
     Accepted { blocks: usize, colours: usize },
     Refused { number: u32, place: usize },
@@ -24,7 +24,7 @@ pub enum Answer {
 
 // The next block's place, how many groups then stand open, and how many colours were passed; or a
 // refusal.
-#[derive(Drop)]
+#[derive(Clone, Copy)]
 pub enum Passed {
     Next {
         next: usize,
@@ -38,7 +38,7 @@ pub enum Passed {
 }
 
 // The block count and the first block's place, or a refusal.
-#[derive(Drop)]
+#[derive(Clone, Copy)]
 pub enum Heading {
     Is(u32, usize),
     Refused(u32, usize),

@@ -31,7 +31,7 @@ const STOP: u32 = ase::GROUP_END as u32;
 
 // A record: a group start with its name's place and number of units, a group end, or a colour with
 // its name, its channels and its ink; or a refusal.
-#[derive(Drop)]
+#[derive(Clone, Copy)]
 pub enum Record {
     GroupStart {
         place: usize,

@@ -40,7 +40,7 @@ pub enum Block {
 }
 
 // A call's answer, and the place of the next call.
-#[derive(Drop)]
+#[derive(Clone, Copy)]
 pub struct BlockStep {
     pub block: Block,
     pub next: usize,
@@ -71,7 +71,7 @@ pub struct ColourStep {
 }
 
 // Where a walk of a file starts, or the file's refusal.
-#[derive(Drop)]
+#[derive(Clone, Copy)]
 pub enum WalkStart {
     At(usize),
     Refused { number: u32, place: usize },
@@ -310,7 +310,7 @@ fn lent(file: &[u8]) -> &[u8]
 // ---- the walker
 
 // A walker: the lent file, and the place of the next block.
-#[derive(Drop)]
+#[derive(Clone, Copy)]
 pub struct Walker<'a> {
     pub file: &'a [u8],
     pub at: usize,
@@ -327,7 +327,7 @@ pub fn start<'a>(file: &'a [u8]) -> Walker<'a>
 }
 
 // What a call of `next` hands back: what it gave, and the walker that follows.
-#[derive(Drop)]
+#[derive(Clone, Copy)]
 pub struct WalkerStep<'a> {
     pub step: ColourStep,
     pub walker: Walker<'a>,

@@ -1,6 +1,6 @@
 -- The root and then the members; and what writing answers. Assumes nothing.
-use Prim.Native.Nat.{ℕ, ◌+◌, ◌-◌, ◌*◌, ◌/◌, ◌≤◌, ◌<◌}
-use mathlib.Core.Path.{◌≡◌, refl, sym, ap, ap₂, ◌∙◌, subst}
+use Prim.Native.Nat.{ℕ, ◌+◌, ◌-◌, ◌/◌, ◌≤◌}
+use mathlib.Core.Path.{◌≡◌, sym, ap, ◌∙◌, subst}
 use mathlib.Core.List.{List, [], ◌∷◌, ◌++◌}
 use lib.ListN.{length, get_or, drop}
 use lib.Seq.{sets, sets-eq}
@@ -18,7 +18,7 @@ use Rattle.descriptor_heads.specs.Heads.{Stack, pairs, settled}
 use Rattle.descriptor_entry.specs.Pieces.{Piece, size, bytes}
 use Rattle.descriptor_entry.specs.Shapes.{width, Entry, count_of}
 use Rattle.descriptor_entry.specs.Entries.{given, root_pieces, member_pieces, ending, root_stack, pieces, ended, build_fault, made, needed, built, Words}
-use Rattle.descriptor_entry.proofs.Laws.{bytes-append, bytes-length, fits-left}
+use Rattle.descriptor_entry.proofs.Laws.{bytes-append, bytes-length}
 use Rattle.descriptor_entry.proofs.Faultless.{pieces-fit, given-words}
 use Rattle.descriptor_entry.proofs.RoundTrip.{sound}
 use Rattle.descriptor_build.specs.scaffold.Putting.{Ready, Stored, Begun, Whole}

@@ -1,9 +1,8 @@
 -- A loop that stores entries: what holds before each, and each kind of turn. Assumes nothing.
-use Prim.Native.Nat.{ℕ, zero, suc, ◌+◌, ◌-◌, ◌*◌, ◌≤◌, ◌<◌}
+use Prim.Native.Nat.{ℕ, zero, suc, ◌+◌, ◌-◌, ◌≤◌, ◌<◌}
 use mathlib.Core.Path.{◌≡◌, refl, sym, ap, ap₂, ◌∙◌, subst}
 use mathlib.Core.List.{List, [], ◌∷◌, ◌++◌}
-use mathlib.Core.Bool.{Bool, true, false}
-use lib.Dec.{leb}
+use mathlib.Core.Bool.{Bool}
 use lib.ListN.{length, get_or, set, length-set}
 use lib.Seq.{sets}
 use borrow.Author.Tests.{lt-leb, le-leb}
@@ -14,7 +13,7 @@ use Rattle.algebra.specs.Reader.{pick}
 use Rattle.algebra.specs.Table.{row_at, rows}
 use Rattle.algebra.proofs.Counted.{counted-turn, counted-end}
 use Rattle.algebra.proofs.Storing.{peel}
-use Rattle.descriptor_heads.specs.Heads.{Due, pairs, Opened, Stack, settled, deepest}
+use Rattle.descriptor_heads.specs.Heads.{Due, pairs, Stack, settled, deepest}
 use Rattle.descriptor_raw.specs.Raw.{due_of}
 use Rattle.descriptor_columns.specs.scaffold.Filling.{dues}
 use Rattle.descriptor_columns.specs.declared.Level.{Level}
@@ -29,8 +28,8 @@ use Rattle.descriptor_entry.proofs.Laws.{size-append, bytes-append, bytes-length
 use Rattle.descriptor_entry_fields.proofs.Tables.{any-shape}
 use Rattle.descriptor_build_judge.proofs.Turns.{entries_from, due, one-pieces, one-ending}
 use Rattle.descriptor_build.specs.declared.Put.{Put}
-use Rattle.descriptor_build.specs.scaffold.Putting.{Ready, Stored, PutHead, Begun}
-use Rattle.descriptor_build.proofs.Puts.{ready-left, ready-right, stored-join, AtReady, AtPut}
+use Rattle.descriptor_build.specs.scaffold.Putting.{Ready, Begun}
+use Rattle.descriptor_build.proofs.Puts.{ready-left, ready-right, AtReady, AtPut}
 
 abbrev pub lv : ℕ → ℕ → ℕ → Level
 lv what objects left = due what objects left

@@ -1,10 +1,10 @@
 -- Stores of an entry's fields, one after the other. Assumes nothing.
-use Prim.Native.Nat.{ℕ, zero, suc, ◌+◌, ◌-◌, ◌*◌, ◌/◌, ◌%◌, ◌^◌, ◌≤◌, ◌<◌}
+use Prim.Native.Nat.{ℕ, zero, suc, ◌+◌, ◌-◌, ◌*◌, ◌/◌, ◌%◌, ◌≤◌, ◌<◌}
 use mathlib.Core.Path.{◌≡◌, refl, sym, ap, ap₂, ◌∙◌, subst}
-use mathlib.Core.List.{List, [], ◌∷◌, ◌++◌, append-nil, append_assoc}
-use mathlib.Core.Bool.{Bool, true, false}
+use mathlib.Core.List.{List, [], ◌∷◌, ◌++◌, append-nil}
+use mathlib.Core.Bool.{true, false}
 use lib.Dec.{eqb}
-use lib.ListN.{length, set, take, drop, length-append, length-take, length-drop}
+use lib.ListN.{length, set, take, drop, length-take, length-drop}
 use lib.Seq.{sets}
 use native.Mathlib.Omega.{arith}
 use native.Mathlib.Nat.{add-zero}
@@ -14,12 +14,11 @@ use Rattle.algebra.specs.Reader.{pick}
 use Rattle.algebra.specs.Store.{stored, part}
 use Rattle.descriptor_raw.specs.Raw.{due_of}
 use Rattle.algebra.proofs.Places.{length-be, be-1}
-use Rattle.algebra.proofs.Stores.{sets-append}
 use Rattle.algebra.proofs.Storing.{as-sets, peel, peel-be, length-kept}
 use Rattle.descriptor_entry.specs.declared.Field.{Field}
 use Rattle.descriptor_entry.specs.declared.Field.TheVariants as f
 use Rattle.descriptor_entry.specs.declared.Shape.{Shape}
-use Rattle.descriptor_entry.specs.Pieces.{Piece, number, run, units, doubles, size, bytes, bytes_of, Fit, Fits}
+use Rattle.descriptor_entry.specs.Pieces.{Piece, number, size, bytes, bytes_of, Fits}
 use Rattle.descriptor_entry.specs.Shapes.{Entry, number_in, kind_of, count_of, id_length, pieces_of, object, shape_of}
 use Rattle.descriptor_entry.specs.Entries.{keyed, key_pieces, field_pieces, head_pieces, root_pieces, asks}
 use Rattle.descriptor_entry_fields.proofs.Tables.{key-pieces, no_key}

@@ -1,6 +1,6 @@
 -- The entries of a whole file in a run, and what the call answers. Assumes nothing.
-use Prim.Native.Nat.{ℕ, zero, suc, ◌+◌, ◌-◌, ◌*◌, ◌/◌, ◌≤◌, ◌<◌}
-use mathlib.Core.Path.{◌≡◌, refl, sym, ap, ap₂, ◌∙◌, subst}
+use Prim.Native.Nat.{ℕ, suc, ◌+◌, ◌*◌, ◌/◌, ◌≤◌, ◌<◌}
+use mathlib.Core.Path.{◌≡◌, sym, ap, ap₂, ◌∙◌, subst}
 use mathlib.Core.List.{List, [], ◌∷◌, ◌++◌}
 use mathlib.Core.Bool.{Bool, true, false}
 use lib.Dec.{leb}
@@ -26,7 +26,7 @@ use Rattle.descriptor_entries.specs.Taken.{entry_of, members_of, entries_of}
 use Rattle.descriptor_entries.specs.Answered.{numbers, answered, entered}
 use Rattle.descriptor_entries.specs.scaffold.Spans.{end_of}
 use Rattle.descriptor_entries_read.specs.scaffold.Filling.{Inside, head_with, waiting, behind, Begun, rest}
-use Rattle.descriptor_entries.proofs.Built.{Root, root-read, object-is, taken-length}
+use Rattle.descriptor_entries.proofs.Built.{root-read, object-is, taken-length}
 use Rattle.descriptor_entries_read.proofs.Turns.{entry_length, same-entry}
 
 module _ (s : List ℕ) where

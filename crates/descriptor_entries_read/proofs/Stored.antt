@@ -1,13 +1,13 @@
 -- What single stores leave. Assumes nothing.
-use Prim.Native.Nat.{ℕ, zero, suc, ◌+◌, ◌-◌, ◌*◌, ◌^◌, ◌≤◌, ◌<◌}
+use Prim.Native.Nat.{ℕ, zero, suc, ◌+◌, ◌*◌, ◌≤◌}
 use mathlib.Core.Path.{◌≡◌, refl, sym, ap, ap₂, ◌∙◌, subst}
-use mathlib.Core.List.{List, [], ◌∷◌}
+use mathlib.Core.List.{List, ◌∷◌}
 use lib.ListN.{length, get_or, set, length-set}
 use lib.Seq.{set_out}
 use native.Mathlib.Omega.{arith}
 use native.Mathlib.Nat.{add-zero}
 use Rattle.algebra.specs.Numbers.{num}
-use Rattle.algebra.specs.Reader.{Res, field, or_zero}
+use Rattle.algebra.specs.Reader.{field, or_zero}
 use Rattle.algebra.proofs.Laws.{field_in}
 use Rattle.descriptor_raw.specs.Raw.{due_of}
 use Rattle.descriptor_heads.specs.Heads.{Due, items, pairs, forms, columns}

@@ -1,12 +1,12 @@
 -- The turns of the loop that stores entries: what holds before each head of an accepted file, and each kind of turn. Assumes nothing.
 use Prim.Native.Nat.{ℕ, zero, suc, ◌+◌, ◌-◌, ◌*◌, ◌≤◌, ◌<◌}
 use mathlib.Core.Path.{◌≡◌, refl, sym, ap, ◌∙◌, subst}
-use mathlib.Core.List.{List, [], ◌∷◌, ◌++◌}
+use mathlib.Core.List.{List, [], ◌∷◌}
 use lib.ListN.{length, set, get_or, length-set}
 use lib.Seq.{sets, length-sets}
 use native.Mathlib.Omega.{arith}
 use Rattle.algebra.specs.Numbers.{joined}
-use Rattle.algebra.specs.Reader.{Res, ok, refuse, then, until}
+use Rattle.algebra.specs.Reader.{ok, until}
 use Rattle.algebra.proofs.Inverse.{then-inv, ok-value, ok-place}
 use Rattle.algebra.proofs.Stores.{sets-append}
 use Rattle.descriptor.proofs.Ends.{accepted}

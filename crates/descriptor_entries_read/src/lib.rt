@@ -5,6 +5,7 @@
 // without judging again, with the levels that are open in an array. An entry is made in an array of
 // its own, by the fields of its kind, and stored as a row.
 #![tactic(auto)]
+
 ghost use Rattle.std.specs.Prelude.{◌≡◌, ◌+◌, ◌*◌, ◌≤◌, ◌<◌, length, set};
 ghost use Rattle.std.proofs.lemmas.List.Edits.{sets};
 ghost use Rattle.algebra.specs.Numbers.{num};

@@ -16,7 +16,7 @@ ghost use Rattle.palette.specs.declared.View.TheVariants.{Samples, Counterparts}
 
 use colour::{Channels, Colour, Made};
 
-#[derive(Drop)]
+#[derive(Clone, Copy)]
 pub enum Kind {
     Aco,
     Ase,
@@ -24,7 +24,7 @@ pub enum Kind {
 
 // Which numbers a step gives of a colour: an ACO colour's samples, the channels that it converts to,
 // or an ASE colour's channels.
-#[derive(Drop)]
+#[derive(Clone, Copy)]
 pub enum View {
     Samples,
     Counterparts,
@@ -32,7 +32,7 @@ pub enum View {
 }
 
 // How many colours a palette has, or its refusal, with the record and field of 7.
-#[derive(Drop)]
+#[derive(Clone, Copy)]
 pub enum Answer {
     Accepted {
         colours: usize,
@@ -46,7 +46,7 @@ pub enum Answer {
 }
 
 // A colour: its space and samples, or its model's tag and the bits of its channels.
-#[derive(Drop)]
+#[derive(Clone, Copy)]
 pub struct Numbers {
     pub tag: u32,
     pub number0: u32,
@@ -56,7 +56,7 @@ pub struct Numbers {
 }
 
 // A colour, where its name lies, and the place of the next call.
-#[derive(Drop)]
+#[derive(Clone, Copy)]
 pub struct PaletteStep {
     pub numbers: Numbers,
     pub place: usize,

@@ -1,6 +1,6 @@
 -- The loop over both palettes. Assumes nothing.
 use Prim.Native.Nat.{ℕ, ◌+◌, ◌*◌, ◌≤◌, ◌<◌}
-use mathlib.Core.Path.{◌≡◌, refl, sym, ap, ap₂, ◌∙◌, subst, subst₂}
+use mathlib.Core.Path.{◌≡◌, sym, ap, ap₂, ◌∙◌, subst, subst₂}
 use mathlib.Core.List.{List, [], ◌∷◌}
 use mathlib.Core.Bool.{Bool, true, false}
 use lib.Dec.{eqb}
@@ -9,14 +9,13 @@ use lib.Seq.{sets}
 use native.Mathlib.Omega.{arith}
 use Rattle.algebra.specs.Numbers.{Bytes}
 use Rattle.algebra.specs.Reader.{pick, limit}
-use Rattle.palette.specs.Palette.{PaletteColour}
 use Rattle.palette.specs.PaletteStep.{first_at, view_of, step_of, told_palette_step}
 use Rattle.palette.specs.scaffold.Turn.{colours_in, place_of, kind_seen}
 use Rattle.palette.specs.declared.Kind.{Kind}
 use Rattle.palette.specs.declared.View.{View}
 use Rattle.palette.specs.declared.PaletteStep.{PaletteStep}
 use Rattle.palette.proofs.Turns.{in-turn, few, seen-kind, first-place}
-use Rattle.palette_compare.specs.Compare.{kinds, rows}
+use Rattle.palette_compare.specs.Compare.{rows}
 use Rattle.palette_compare.specs.scaffold.Parts.{kinds_in, kind_at, StoredTo, Both}
 use Rattle.palette_compare.proofs.Laws.{kind-turn, kinds-at, kinds-below, stored-start, stored-turn}
 

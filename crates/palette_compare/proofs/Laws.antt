@@ -3,14 +3,13 @@ use Prim.Native.Nat.{ℕ, zero, suc, ◌+◌, ◌*◌, ◌-◌, ◌≤◌, ◌<�
 use mathlib.Core.Path.{◌≡◌, refl, sym, ap, ap₂, ◌∙◌, subst}
 use mathlib.Core.List.{List, [], ◌∷◌, ◌++◌}
 use mathlib.Core.Bool.{Bool, true, false, ◌&&◌}
-use lib.Dec.{eqb, leb}
+use lib.Dec.{eqb}
 use lib.ListN.{length, get_or, drop, set, replicate, drop_of_length-le}
 use lib.Seq.{sets, sets-eq, drop-cons, length-sets}
 use lib.Bits.{bit_or, or_add_and, and_le_l, and_le_r}
 use borrow.Author.Tests.{eq-eqb, ne_eqb, eqb-true, eqb-false, le-leb, lt-leb}
 use native.Mathlib.Numerals.{add-one}
 use native.Mathlib.Omega.{arith}
-use Rattle.algebra.specs.Numbers.{be, joined, All}
 use Rattle.algebra.specs.Reader.{pick, limit}
 use Rattle.algebra.proofs.Stores.{sets-append}
 use Rattle.colour.specs.Models.{traits_of}
@@ -20,11 +19,10 @@ use Rattle.colour.specs.declared.channel.Channels.TheVariants as vc
 use Rattle.conversion.specs.Convert.{Converted, gives, refused, to_channels}
 use Rattle.walk.specs.Names.{name_part}
 use Rattle.palette.specs.Palette.{Value, samples, channels, PaletteColour}
-use Rattle.palette.specs.PaletteStep.{view_of, five, counterpart_of, step_of, told_numbers, told_palette_step}
-use Rattle.palette.specs.scaffold.Turn.{colours_in, no_colour_at, place_of, value_numbers, SoundValue, Turn}
+use Rattle.palette.specs.PaletteStep.{view_of, five, counterpart_of, step_of, told_palette_step}
+use Rattle.palette.specs.scaffold.Turn.{colours_in, no_colour_at, value_numbers, SoundValue, Turn}
 use Rattle.palette.specs.declared.Kind.{Kind}
 use Rattle.palette.specs.declared.Kind.TheVariants.{Aco, Ase}
-use Rattle.palette.specs.declared.View.{View}
 use Rattle.palette.specs.declared.PaletteStep.{PaletteStep}
 use Rattle.palette_compare.specs.Compare.{same_numbers, converts_to, same_value, kind_by, kind_of, kinds, differences, rows, Comparison, compared, refused_by, filled}
 use Rattle.palette_compare.specs.scaffold.Parts.{kinds_in, kind_at, StoredTo, Positions}

@@ -1,19 +1,18 @@
 -- What is promised of two palettes that are compared. Assumes nothing.
-use Prim.Native.Nat.{ℕ, zero, suc, ◌+◌}
+use Prim.Native.Nat.{ℕ, ◌+◌}
 use mathlib.Core.Path.{◌≡◌, refl, sym, ap, ap₂, ◌∙◌, subst}
 use mathlib.Core.List.{List, [], ◌∷◌, map}
 use mathlib.Core.Bool.{Bool, true, false, ◌&&◌, true≢false}
 use lib.Dec.{eqb}
 use borrow.Author.Tests.{eqb-true, eq-eqb}
 use native.Mathlib.Omega.{arith}
-use Rattle.algebra.specs.Reader.{Res, ok, refuse, pick}
+use Rattle.algebra.specs.Reader.{pick}
 use Rattle.colour.specs.Models.{traits_of}
 use Rattle.colour.specs.Channels.{bits_of, model_in}
 use Rattle.colour.specs.declared.channel.Channels.{Channels}
 use Rattle.conversion.specs.Convert.{Converted, gives, refused, to_channels}
-use Rattle.palette.specs.Palette.{Value, samples, channels, PaletteColour, colours}
-use Rattle.palette.specs.declared.Kind.{Kind}
-use Rattle.palette_compare.specs.Compare.{same_numbers, converts_to, same_value, kind_by, kind_of, kinds, differences, filled, comparison}
+use Rattle.palette.specs.Palette.{Value, samples, channels, PaletteColour}
+use Rattle.palette_compare.specs.Compare.{same_numbers, converts_to, same_value, kind_by, kind_of, kinds, differences}
 use Rattle.palette_compare.specs.Promise.{Counterpart, SameColour, itself, first_converts, second_converts, SamePalette, none, one, exchanged}
 use Rattle.palette_compare.proofs.Same.{both, and-true, symmetric, same-is, same-itself, same_of, same-turned}
 

@@ -5,7 +5,7 @@ use mathlib.Core.List.{List}
 use lib.ListN.{length}
 use native.Mathlib.Omega.{arith}
 use Rattle.algebra.specs.Numbers.{Bytes}
-use Rattle.algebra.specs.Reader.{Res, ok, limit}
+use Rattle.algebra.specs.Reader.{Res, limit}
 use Rattle.algebra.specs.Filling.{Accepted}
 use Rattle.algebra.specs.Table.{refused, verdict}
 use Rattle.algebra.proofs.Table.{refused-of}
@@ -13,7 +13,7 @@ use Rattle.palette.specs.Palette.{PaletteColour, colours}
 use Rattle.palette.specs.scaffold.Turn.{list_of, colours_in}
 use Rattle.palette.specs.declared.Kind.{Kind}
 use Rattle.palette.proofs.Turns.{few}
-use Rattle.palette_compare.specs.Compare.{Comparison, kinds, refused_by, filled, comparison}
+use Rattle.palette_compare.specs.Compare.{kinds, refused_by, filled, comparison}
 use Rattle.palette_compare.specs.scaffold.Parts.{kinds_in}
 
 pub many : (k : Kind) (s : List ℕ) {n : ℕ} → Accepted length (colours k s) n → length (colours_in k s) ≡ n

@@ -1,5 +1,6 @@
 // Two palettes, ACO or ASE each, compared by position into a lent table.
 #![tactic(auto)]
+
 ghost use Rattle.std.specs.Prelude.{◌≡◌, ◌+◌, ◌*◌, ◌-◌, ◌^◌, ◌≤◌, ◌<◌, eqb, length, drop, replicate};
 ghost use Rattle.std.proofs.lemmas.List.Edits.{sets};
 ghost use Rattle.algebra.specs.Reader.{pick};
@@ -16,7 +17,7 @@ use walk::name_part;
 
 // How many positions the longer palette has and how many of them differ; or a refusal: of file 1, of
 // file 2, or 0 for the table's, with the record and field of 7.
-#[derive(Drop)]
+#[derive(Clone, Copy)]
 pub enum Compared {
     Is {
         positions: usize,

@@ -1,31 +1,30 @@
 -- An ACO palette whose colours all have counterparts, converted and written as ASE, shows no difference to what was written. Assumes nothing.
 use Prim.Native.Nat.{ℕ}
-use mathlib.Core.Path.{◌≡◌, refl, sym, ap, ap₂, ◌∙◌, subst}
+use mathlib.Core.Path.{◌≡◌, refl, sym, ap, ◌∙◌, subst}
 use mathlib.Core.List.{List, [], ◌∷◌, map}
 use lib.ListN.{length, take}
 use native.Mathlib.Omega.{arith}
 use Rattle.algebra.specs.Numbers.{Bytes}
-use Rattle.algebra.specs.Reader.{Res, ok, map_res}
+use Rattle.algebra.specs.Reader.{ok, map_res}
 use Rattle.algebra.specs.Table.{whole}
 use Rattle.algebra.specs.Writing.{bytes}
 use Rattle.colour.specs.Models.{traits_of}
 use Rattle.colour.specs.Channels.{bits_of, model_in}
 use Rattle.colour.specs.declared.channel.Channels.{Channels}
 use Rattle.colour.specs.declared.channel.Channels.TheVariants as vc
-use Rattle.conversion.specs.Convert.{gives, to_channels}
 use Rattle.aco.specs.Reading.{Entry, Contents, aco}
-use Rattle.ase.specs.Grammar.{Block, group_start, group_end, colour}
-use Rattle.ase.specs.Reading.{Entry as AseEntry, group_start_read, group_end_read, colour_read, block_of, ase}
-use Rattle.ase.specs.Row.{RecordRow, width, taken, four_of}
+use Rattle.ase.specs.Grammar.{colour}
+use Rattle.ase.specs.Reading.{Entry as AseEntry, group_start_read, group_end_read, colour_read, block_of}
+use Rattle.ase.specs.Row.{width, taken, four_of}
 use Rattle.ase_writing.specs.Writing.{block_by_row, written}
-use Rattle.ase_roundtrip.specs.Tie.{Words, Holds}
+use Rattle.ase_roundtrip.specs.Tie.{Words}
 use Rattle.ase_roundtrip.proofs.RoundTrip.{written-holds}
 use Rattle.palette.specs.Palette.{samples, channels, PaletteColour, aco_colour, aco_colours, ase_colours, colours}
 use Rattle.palette.specs.declared.Kind.TheVariants.{Ase}
 use Rattle.palette_compare.specs.Compare.{kinds, differences}
-use Rattle.palette_compare.specs.Promise.{SamePalette, none, one, SameColour, first_converts}
+use Rattle.palette_compare.specs.Promise.{SamePalette, none, one, first_converts}
 use Rattle.palette_compare.proofs.Theorems.{none-differ-where-same}
-use Rattle.palette_roundtrip.specs.Promise.{block_for, ConvertedTo}
+use Rattle.palette_roundtrip.specs.Promise.{ConvertedTo}
 
 -- the four places of a record have the bits of its channels
 four-bits : (c : Channels) → four_of (take (traits_of (model_in c)).channels (bits_of c)) ≡ bits_of c

@@ -1,5 +1,5 @@
 -- An ACO palette's records as the blocks of an ASE palette: words of the theorem.
-use Rattle.std.specs.Prelude.{ℕ, ◌≡◌, List, [], ◌∷◌, take}
+use Rattle.std.specs.Prelude.{◌≡◌, List, [], ◌∷◌, take}
 use Rattle.colour.specs.Models.{traits_of}
 use Rattle.colour.specs.Channels.{bits_of, model_in}
 use Rattle.colour.specs.declared.channel.Channels.{Channels}

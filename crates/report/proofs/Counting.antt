@@ -1,5 +1,5 @@
 -- What the loops over a file count. Assumes nothing.
-use Prim.Native.Nat.{ℕ, zero, suc, ◌+◌, ◌-◌, ◌*◌, ◌≤◌, ◌<◌}
+use Prim.Native.Nat.{ℕ, suc, ◌+◌, ◌-◌, ◌*◌, ◌≤◌, ◌<◌}
 use mathlib.Core.Path.{◌≡◌, refl, sym, ap, ap₂, ◌∙◌, subst}
 use mathlib.Core.List.{List, [], ◌∷◌, map}
 use mathlib.Core.Bool.{Bool, true, false}
@@ -18,15 +18,15 @@ use Rattle.acb_read.specs.Walked.{step, given_in, walked}
 use Rattle.acb_read.proofs.Walking.{walked_start, walked-turn, walked_end}
 use Rattle.palette.specs.Palette.{Value, samples, channels, PaletteColour}
 use Rattle.palette.specs.PaletteStep.{first_at, view_of, step_of, told_palette_step}
-use Rattle.palette.specs.scaffold.Turn.{colours_in, no_colour_at, place_of, kind_seen, value_numbers, SoundValue, Turn}
+use Rattle.palette.specs.scaffold.Turn.{colours_in, no_colour_at, place_of, kind_seen, value_numbers, SoundValue}
 use Rattle.palette.specs.declared.Kind.{Kind}
 use Rattle.palette.specs.declared.Kind.TheVariants.{Aco, Ase}
 use Rattle.palette.specs.declared.View.{View}
 use Rattle.palette.specs.declared.PaletteStep.{PaletteStep}
 use Rattle.palette.proofs.Turns.{in-turn, few, seen-kind, first-place}
-use Rattle.report.specs.Report.{none, many, one, plus, sum, book_place, value_place, name_place, colour_totals, record_totals, palette_totals}
+use Rattle.report.specs.Report.{many, one, plus, sum, book_place, value_place, name_place, colour_totals, record_totals, palette_totals}
 use Rattle.report.specs.scaffold.Parts.{Low, tag_place, units_place, book_row, row_of, Counting, Shelved}
-use Rattle.report.proofs.Laws.{plus-joined, plus_none, none-plus, plus-low, two-small, one-small, one-low, lower, by-totals, plus-at, length-plus, length-many}
+use Rattle.report.proofs.Laws.{plus-joined, plus_none, plus-low, two-small, one-small, one-low, lower, by-totals, plus-at, length-plus, length-many}
 
 -- ---- a total begun at zero
 

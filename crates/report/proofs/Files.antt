@@ -1,13 +1,12 @@
 -- One file's report. Assumes nothing.
-use Prim.Native.Nat.{ℕ, ◌+◌, ◌*◌, ◌≤◌, ◌<◌, ◌^◌}
-use mathlib.Core.Path.{◌≡◌, refl, sym, ap, ap₂, ◌∙◌, subst}
+use Prim.Native.Nat.{ℕ, ◌≤◌, ◌<◌}
+use mathlib.Core.Path.{◌≡◌, refl, sym, ap, ap₂, ◌∙◌}
 use mathlib.Core.List.{List, map}
 use lib.Dec.{leb}
 use lib.ListN.{length}
 use native.Mathlib.Omega.{arith}
 use Rattle.algebra.specs.Numbers.{num, Bytes}
 use Rattle.algebra.specs.Reader.{Res, ok, refuse, field, judged, each, limit}
-use Rattle.algebra.specs.Filling.{Accepted}
 use Rattle.algebra.specs.Table.{accepted, refused, verdict}
 use Rattle.algebra.proofs.Inverse.{then-inv, pick_inv, field-inv, each-length, ok-value}
 use Rattle.algebra.proofs.Places.{num-lt}
@@ -19,7 +18,7 @@ use Rattle.acb_read.specs.Walked.{walked}
 use Rattle.acb_read.proofs.Walking.{walked_all}
 use Rattle.descriptor.specs.Reading.{Row, descriptor}
 use Rattle.descriptor.proofs.Rows.{of-root, rows-laid}
-use Rattle.descriptor_judge.specs.Answer.{Verdict, accepted as acceptedRows, refused as refusedRows, verdict as rowsVerdict}
+use Rattle.descriptor_judge.specs.Answer.{accepted as acceptedRows, refused as refusedRows, verdict as rowsVerdict}
 use Rattle.palette.specs.Palette.{PaletteColour, colours}
 use Rattle.palette.specs.scaffold.Turn.{list_of, colours_in}
 use Rattle.palette.specs.declared.Kind.{Kind}

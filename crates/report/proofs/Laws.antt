@@ -1,18 +1,18 @@
 -- Totals added: order does not matter, and no part passes what the whole does not. Assumes nothing.
-use Prim.Native.Nat.{ℕ, zero, suc, ◌+◌, ◌-◌, ◌*◌, ◌≤◌, ◌<◌}
+use Prim.Native.Nat.{ℕ, zero, suc, ◌+◌, ◌≤◌, ◌<◌}
 use mathlib.Core.Path.{◌≡◌, refl, sym, ap, ap₂, ◌∙◌, subst}
-use mathlib.Core.List.{List, [], ◌∷◌, map}
+use mathlib.Core.List.{List, [], ◌∷◌}
 use mathlib.Core.Bool.{Bool, true, false, ◌&&◌, true≢false}
 use lib.Dec.{leb, ltb, eqb}
 use lib.ListN.{length, get_or, set, length-set, get_or-eq_default}
 use lib.Seq.{ext_get_or, get_or-set_same, get_or-set_other}
-use borrow.Author.Tests.{eqb-true, eqb-false, eq-eqb, ne_eqb, le-leb, lt-leb, leb-true, ltb-true, ltb-false}
+use borrow.Author.Tests.{eqb-true, eqb-false, ne_eqb, le-leb, leb-true, ltb-true, ltb-false}
 use native.Mathlib.Omega.{arith}
 use native.Mathlib.Nat.{add_comm, add_assoc, zero-add}
 use Rattle.algebra.specs.Numbers.{counted}
 use Rattle.algebra.specs.Reader.{pick}
 use Rattle.algebra.proofs.Counted.{length-counted, getD-counted}
-use Rattle.report.specs.Report.{totals, bound, none, many, one, plus, sum, fits, merged}
+use Rattle.report.specs.Report.{bound, none, many, one, plus, sum, fits, merged}
 use Rattle.report.specs.scaffold.Parts.{Low, Adding}
 
 -- ---- by their places

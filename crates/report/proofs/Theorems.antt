@@ -1,11 +1,11 @@
 -- What is promised of reports. Assumes nothing.
-use Prim.Native.Nat.{ℕ, ◌+◌, ◌≤◌, ◌<◌}
+use Prim.Native.Nat.{ℕ}
 use mathlib.Core.Path.{◌≡◌, refl, sym, ap, ap₂, ◌∙◌}
 use mathlib.Core.List.{List, [], ◌∷◌, ◌++◌, map}
-use mathlib.Core.Bool.{Bool, true, false}
-use lib.ListN.{length, get_or}
-use Rattle.algebra.specs.Reader.{Res, ok, refuse, pick}
-use Rattle.report.specs.Report.{none, one, plus, sum, FileReport, report_of, file_report, fits, merged, added}
+use mathlib.Core.Bool.{true, false}
+use lib.ListN.{length}
+use Rattle.algebra.specs.Reader.{Res, refuse}
+use Rattle.report.specs.Report.{none, one, plus, sum, FileReport, report_of, fits, merged, added}
 use Rattle.report.specs.Promise.{File, totals_of, reported, season, sum_of_files, Rearranged, nothing, keep, swap, both}
 use Rattle.report.proofs.Laws.{plus-joined, plus-swap, plus-turned, none-plus, plus_none, length-plus, length_none, length-sum, fits-part, merged-fits, merged-full}
 

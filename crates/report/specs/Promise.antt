@@ -1,6 +1,6 @@
 -- Reports over lists of files: words of the theorems.
 use Rattle.std.specs.Prelude.{ℕ, List, [], ◌∷◌, map}
-use Rattle.report.specs.Report.{none, sum, file_report, merged, added}
+use Rattle.report.specs.Report.{none, sum, file_report, added}
 use Rattle.report.specs.declared.Kind.{Kind}
 
 -- a file with the kind that the caller says

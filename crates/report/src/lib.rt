@@ -1,5 +1,6 @@
 // A season's report: exact totals over files, a file a call.
 #![tactic(auto)]
+
 ghost use Rattle.std.specs.Prelude.{◌≡◌, true, map, ◌+◌, ◌<◌, ◌^◌, length, get_or};
 ghost use Rattle.acb.specs.Reading.{acb};
 ghost use Rattle.acb_read.specs.Walked.{walked};
@@ -15,7 +16,7 @@ use acb_read::text_place;
 use colour::Model;
 use palette::{View, first_at, step_at, view_of};
 
-#[derive(Drop)]
+#[derive(Clone, Copy)]
 pub enum Kind {
     Aco,
     Ase,
@@ -26,14 +27,14 @@ pub enum Kind {
 // 0 accepted; 1 to 14 refused by that number; 15 to 19 ACO colours of space 0, 1, 2, 7, 8; 20 to 23
 // ASE colours RGB, CMYK, LAB, Gray; 24 to 26 ACB colours of space 0, 2, 7; 27 named; 28 unnamed; 29
 // dummies; 30 descriptor rows.
-#[derive(Drop)]
+#[derive(Clone, Copy)]
 pub struct Report {
     pub totals: [u32; 31],
 }
 
 // The call's own number, the file's number and place, and the report with the file or, for 5, as it
 // was.
-#[derive(Drop)]
+#[derive(Clone, Copy)]
 pub struct Added {
     pub number: u32,
     pub refusal: u32,
@@ -42,14 +43,14 @@ pub struct Added {
 }
 
 // The sum, or 5 and the first report.
-#[derive(Drop)]
+#[derive(Clone, Copy)]
 pub struct Merged {
     pub number: u32,
     pub report: Report,
 }
 
 // One file's number, place and totals.
-#[derive(Drop)]
+#[derive(Clone, Copy)]
 struct FileTotals {
     number: u32,
     place: usize,

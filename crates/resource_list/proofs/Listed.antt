@@ -17,7 +17,7 @@ use Rattle.algebra.specs.Table.{Verdict, accepted, refused, verdict}
 use Rattle.algebra.proofs.Laws.{num-1}
 use Rattle.algebra.proofs.Inverse.{clash, ok-value, then-inv, field-inv, judged-inv, body-inv}
 use Rattle.algebra.proofs.Places.{length-nums}
-use Rattle.resource.specs.Reading.{Part, Entry, block_part, pad, padded_part, sized_part, is_signature, block, blocks, resources}
+use Rattle.resource.specs.Reading.{Part, Entry, block_part, pad, padded_part, sized_part, is_signature, block, resources}
 use Rattle.resource.specs.Rows.{to_record}
 use Rattle.resource.specs.declared.Record.{Record}
 use Rattle.resource.proofs.Lies.{block-lies}

@@ -1,6 +1,7 @@
 // Lists the resource section on standard input, or that of the document there: its header, a line a
 // block, `end`; or the refusal.
 #![tactic(auto)]
+
 ghost use Rattle.std.specs.Prelude.{◌≡◌, ◌+◌, ◌≤◌, ◌<◌, length, take};
 ghost use Rattle.algebra.specs.Table.{verdict};
 ghost use Rattle.resource.specs.Reading.{resources};

@@ -48,9 +48,9 @@ fn pages(root: &Path) -> Vec<String> {
 /// Each form is refused where its name is not there, and taken where it is.
 fn missing_is_seen(tree: &Tree) {
     for (there, line) in [
-        (true, "aco/Reading `repeatedField`, `entry` and `second`"),
+        (true, "aco/Reading `repeated_field`, `entry` and `second`"),
         (false, "aco/Nothing"),
-        (false, "aco/Reading `repeatedField`, `nothing`"),
+        (false, "aco/Reading `repeated_field`, `nothing`"),
         (true, "`aco_judge::judge`"),
         (false, "`aco_judge::nothing`"),
         (false, "`aco_judge::judge`, `nothing`"),
@@ -58,7 +58,7 @@ fn missing_is_seen(tree: &Tree) {
         (false, "`put_row` of `aco_judge`"),
         (false, "`put_row` of `aco_read` and `aco_judge`"),
         (true, "`refused-placed` of aco/Placed and ase/Placed"),
-        (false, "`repeatedField` of aco/Placed"),
+        (false, "`repeated_field` of aco/Placed"),
         (true, "aco/one_colour_more"),
         (false, "aco/one_colour_less"),
         (false, "`no-such-theorem`"),

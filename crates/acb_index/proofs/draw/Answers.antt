@@ -20,7 +20,7 @@ pub overflow_mul-at : goal.overflow_mul-at
 overflow_mul-at c =
     let a = c.args in
     let s = a.file.now in
-    let bs : Bytes s = λ j. omega (arith, c.shared_slice_known-1.given j) in
+    let bs : Bytes s = λ j. omega (arith, c.type_inv.file j) in
     let l = c.loop-i in
     let i = l.invariant in
     let h : l.i < a.count = c.loop-i-test.true in
@@ -32,7 +32,7 @@ pub overflow_add-at : goal.overflow_add-at
 overflow_add-at c =
     let a = c.args in
     let s = a.file.now in
-    let bs : Bytes s = λ j. omega (arith, c.shared_slice_known-1.given j) in
+    let bs : Bytes s = λ j. omega (arith, c.type_inv.file j) in
     let l = c.loop-i in
     let i = l.invariant in
     let h : l.i < a.count = c.loop-i-test.true in
@@ -44,7 +44,7 @@ pub overflow_cast-at : goal.overflow_cast-at
 overflow_cast-at c =
     let a = c.args in
     let s = a.file.now in
-    let bs : Bytes s = λ j. omega (arith, c.shared_slice_known-1.given j) in
+    let bs : Bytes s = λ j. omega (arith, c.type_inv.file j) in
     let l = c.loop-i in
     let i = l.invariant in
     let h : l.i < a.count = c.loop-i-test.true in
@@ -56,7 +56,7 @@ pub put_if-k-requires : goal.put_if-k-requires
 put_if-k-requires c =
     let a = c.args in
     let s = a.file.now in
-    let bs : Bytes s = λ j. omega (arith, c.shared_slice_known-1.given j) in
+    let bs : Bytes s = λ j. omega (arith, c.type_inv.file j) in
     let l = c.loop-i in
     let i = l.invariant in
     let h : l.i < a.count = c.loop-i-test.true in
@@ -70,7 +70,7 @@ pub next_place-at-requires : goal.next_place-at-requires
 next_place-at-requires c =
     let a = c.args in
     let s = a.file.now in
-    let bs : Bytes s = λ j. omega (arith, c.shared_slice_known-1.given j) in
+    let bs : Bytes s = λ j. omega (arith, c.type_inv.file j) in
     let l = c.loop-i in
     let i = l.invariant in
     let h : l.i < a.count = c.loop-i-test.true in
@@ -82,7 +82,7 @@ pub loop-i-preserved : goal.loop-i-preserved
 loop-i-preserved c =
     let a = c.args in
     let s = a.file.now in
-    let bs : Bytes s = λ j. omega (arith, c.shared_slice_known-1.given j) in
+    let bs : Bytes s = λ j. omega (arith, c.type_inv.file j) in
     let l = c.loop-i in
     let i = l.invariant in
     let h : l.i < a.count = c.loop-i-test.true in
@@ -107,7 +107,7 @@ pub returns : goal.returns
 returns c =
     let a = c.args in
     let s = a.file.now in
-    let bs : Bytes s = λ j. omega (arith, c.shared_slice_known-1.given j) in
+    let bs : Bytes s = λ j. omega (arith, c.type_inv.file j) in
     let l = c.loop-i in
     let i = l.invariant in
     let e : l.i ≡ a.count = omega (arith, c.loop-i-test.false, i.0) in

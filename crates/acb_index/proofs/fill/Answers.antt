@@ -7,12 +7,12 @@ pub number-requires : goal.number-requires
 number-requires c =
     let a = c.args in
     let s = a.file.now in
-    let bs : Bytes s = λ j. omega (arith, c.shared_slice_known-1.given j) in
+    let bs : Bytes s = λ j. omega (arith, c.type_inv.file j) in
     (c.requires.0, c.tabulate.ensures, sorted-keys s bs a.count a.first a.n c.requires.0 _ _ _ c.sort.new.run c.requires.1 c.draw.ensures c.draw.auto.run c.sort.ensures)
 
 pub returns : goal.returns
 returns c =
     let a = c.args in
     let s = a.file.now in
-    let bs : Bytes s = λ j. omega (arith, c.shared_slice_known-1.given j) in
+    let bs : Bytes s = λ j. omega (arith, c.type_inv.file j) in
     filled_is s bs a.count a.first a.n c.requires.0 _ _ _ _ c.requires.1 c.draw.ensures c.draw.auto.run c.sort.ensures c.number.ensures

@@ -22,7 +22,7 @@ pub next_place-at-requires : goal.next_place-at-requires
 next_place-at-requires c =
     let a = c.args in
     let s = a.file.now in
-    let bs : Bytes s = λ j. omega (arith, c.shared_slice_known-1.given j) in
+    let bs : Bytes s = λ j. omega (arith, c.type_inv.file j) in
     let l = c.loop-i in
     let i = l.invariant in
     let h : l.i < a.count = c.loop-i-test.true in
@@ -34,7 +34,7 @@ pub loop-i-preserved : goal.loop-i-preserved
 loop-i-preserved c =
     let a = c.args in
     let s = a.file.now in
-    let bs : Bytes s = λ j. omega (arith, c.shared_slice_known-1.given j) in
+    let bs : Bytes s = λ j. omega (arith, c.type_inv.file j) in
     let l = c.loop-i in
     let i = l.invariant in
     let h : l.i < a.count = c.loop-i-test.true in
@@ -49,7 +49,7 @@ pub returns : goal.returns
 returns c =
     let a = c.args in
     let s = a.file.now in
-    let bs : Bytes s = λ j. omega (arith, c.shared_slice_known-1.given j) in
+    let bs : Bytes s = λ j. omega (arith, c.type_inv.file j) in
     let l = c.loop-i in
     let i = l.invariant in
     let e : l.i ≡ a.count = omega (arith, c.loop-i-test.false, i.0) in

@@ -17,7 +17,7 @@ pub overflow_cast-table : goal.overflow_cast-table
 overflow_cast-table c =
     let a = c.args in
     let s = a.file.now in
-    let bs : Bytes s = λ j. omega (arith, c.shared_slice_known-1.given j) in
+    let bs : Bytes s = λ j. omega (arith, c.type_inv.file j) in
     let l = c.loop-i in
     let i = l.invariant in
     let h : l.i < a.count = c.loop-i-test.true in
@@ -28,7 +28,7 @@ pub offset_bounds-table-at : goal.offset_bounds-table-at
 offset_bounds-table-at c =
     let a = c.args in
     let s = a.file.now in
-    let bs : Bytes s = λ j. omega (arith, c.shared_slice_known-1.given j) in
+    let bs : Bytes s = λ j. omega (arith, c.type_inv.file j) in
     let l = c.loop-i in
     let i = l.invariant in
     let h : l.i < a.count = c.loop-i-test.true in
@@ -39,7 +39,7 @@ pub bounds-table-at : goal.bounds-table-at
 bounds-table-at c =
     let a = c.args in
     let s = a.file.now in
-    let bs : Bytes s = λ j. omega (arith, c.shared_slice_known-1.given j) in
+    let bs : Bytes s = λ j. omega (arith, c.type_inv.file j) in
     let l = c.loop-i in
     let i = l.invariant in
     let h : l.i < a.count = c.loop-i-test.true in
@@ -50,7 +50,7 @@ pub next_place-at-requires : goal.next_place-at-requires
 next_place-at-requires c =
     let a = c.args in
     let s = a.file.now in
-    let bs : Bytes s = λ j. omega (arith, c.shared_slice_known-1.given j) in
+    let bs : Bytes s = λ j. omega (arith, c.type_inv.file j) in
     let l = c.loop-i in
     let i = l.invariant in
     let h : l.i < a.count = c.loop-i-test.true in
@@ -62,7 +62,7 @@ pub loop-i-preserved : goal.loop-i-preserved
 loop-i-preserved c =
     let a = c.args in
     let s = a.file.now in
-    let bs : Bytes s = λ j. omega (arith, c.shared_slice_known-1.given j) in
+    let bs : Bytes s = λ j. omega (arith, c.type_inv.file j) in
     let l = c.loop-i in
     let i = l.invariant in
     let h : l.i < a.count = c.loop-i-test.true in

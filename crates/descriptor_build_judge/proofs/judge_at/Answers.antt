@@ -6,7 +6,6 @@ use mathlib.Core.Path.{◌≡◌, subst}
 use native.Mathlib.Omega.{arith}
 use Rattle.descriptor_build_judge.proofs.judge_at.Goals as goal
 
--- src/lib.rt:316:1
 pub returns : goal.returns
 returns c =
     let a = c.args in

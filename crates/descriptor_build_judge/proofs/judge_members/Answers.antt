@@ -3,13 +3,11 @@ use native.Mathlib.Omega.{arith}
 use Rattle.descriptor_build_judge.proofs.Turns as W
 use Rattle.descriptor_build_judge.proofs.judge_members.Goals as goal
 
--- src/lib.rt:412:5
 pub loop-left-init : goal.loop-left-init
 loop-left-init c =
     let a = c.args in
     W.start a.text.now a.entries.now a.n a.root c.requires _ refl
 
--- src/lib.rt:415:17
 pub returns-then-d-eq0 : goal.returns-then-d-eq0
 returns-then-d-eq0 c =
     let o = c.loop-left in
@@ -18,7 +16,6 @@ returns-then-d-eq0 c =
     let l = W.due o.what o.objects o.left in
     W.turn_end a.text.now a.entries.now a.n l g c.if-left-eq0.true c.if-d-eq0.true _ _ c.left_over.ensures c.first_of.ensures _ c.finish.ensures
 
--- src/lib.rt:418:25
 pub offset_bounds-saved-d : goal.offset_bounds-saved-d
 offset_bounds-saved-d c =
     let o = c.loop-left in
@@ -27,7 +24,6 @@ offset_bounds-saved-d c =
     let l = W.due o.what o.objects o.left in
     omega (arith, g.deep)
 
--- src/lib.rt:418:25
 pub bounds-saved-d : goal.bounds-saved-d
 bounds-saved-d c =
     let o = c.loop-left in
@@ -36,7 +32,6 @@ bounds-saved-d c =
     let l = W.due o.what o.objects o.left in
     omega (arith, g.deep)
 
--- src/lib.rt:412:5
 pub loop-left-smaller-then-left-eq0 : goal.loop-left-smaller-then-left-eq0
 loop-left-smaller-then-left-eq0 c =
     let o = c.loop-left in
@@ -46,7 +41,6 @@ loop-left-smaller-then-left-eq0 c =
     let z : (o.d ≡ 0 → ⊥) = c.if-d-eq0.false in
     omega (arith, z)
 
--- src/lib.rt:412:5
 pub loop-left-preserved-then-left-eq0 : goal.loop-left-preserved-then-left-eq0
 loop-left-preserved-then-left-eq0 c =
     let o = c.loop-left in
@@ -55,7 +49,6 @@ loop-left-preserved-then-left-eq0 c =
     let l = W.due o.what o.objects o.left in
     W.turn-close a.text.now a.entries.now a.n l g c.if-left-eq0.true c.if-d-eq0.false
 
--- src/lib.rt:425:13
 pub returns-then-d-eq32 : goal.returns-then-d-eq32
 returns-then-d-eq32 c =
     let o = c.loop-left in
@@ -64,7 +57,6 @@ returns-then-d-eq32 c =
     let l = W.due o.what o.objects o.left in
     W.turn-deep a.text.now a.entries.now a.n l g c.if-left-eq0.false c.if-d-eq32.true _ c.first_of-then-d-eq32.ensures _ c.finish-then-d-eq32.ensures
 
--- src/lib.rt:428:13
 pub returns-then-k-n : goal.returns-then-k-n
 returns-then-k-n c =
     let o = c.loop-left in
@@ -73,7 +65,6 @@ returns-then-k-n c =
     let l = W.due o.what o.objects o.left in
     W.turn-short a.text.now a.entries.now a.n l g c.if-left-eq0.false c.if-d-eq32.false c.if-k-n.true _ c.first_of-then-k-n.ensures _ c.finish-then-k-n.ensures
 
--- src/lib.rt:430:13
 pub judge_at-head-requires : goal.judge_at-head-requires
 judge_at-head-requires c =
     let o = c.loop-left in
@@ -83,7 +74,6 @@ judge_at-head-requires c =
     let z : (o.k ≡ a.n → ⊥) = c.if-k-n.false in
     omega (arith, z, g.low, c.requires.inside)
 
--- src/lib.rt:431:9
 pub overflow_add-total : goal.overflow_add-total
 overflow_add-total c =
     let o = c.loop-left in
@@ -92,7 +82,6 @@ overflow_add-total c =
     let l = W.due o.what o.objects o.left in
     omega (arith, g.within, c.judge_at-head.ensures.small)
 
--- src/lib.rt:433:13
 pub returns-then-total-gt-LIMIT : goal.returns-then-total-gt-LIMIT
 returns-then-total-gt-LIMIT c =
     let o = c.loop-left in
@@ -101,7 +90,6 @@ returns-then-total-gt-LIMIT c =
     let l = W.due o.what o.objects o.left in
     W.turn-long a.text.now a.entries.now a.n l g c.if-left-eq0.false c.if-d-eq32.false c.if-k-n.false _ c.judge_at-head.ensures c.if-total-gt-LIMIT.true
 
--- src/lib.rt:437:9
 pub overflow_add-k : goal.overflow_add-k
 overflow_add-k c =
     let o = c.loop-left in
@@ -111,7 +99,6 @@ overflow_add-k c =
     let z : (o.k ≡ a.n → ⊥) = c.if-k-n.false in
     omega (arith, z, g.low, c.requires.inside)
 
--- src/lib.rt:412:5
 pub loop-left-smaller-then-head-eq0 : goal.loop-left-smaller-then-head-eq0
 loop-left-smaller-then-head-eq0 c =
     let o = c.loop-left in
@@ -121,7 +108,6 @@ loop-left-smaller-then-head-eq0 c =
     let z : (o.k ≡ a.n → ⊥) = c.if-k-n.false in
     omega (arith, z, g.low)
 
--- src/lib.rt:412:5
 pub loop-left-preserved-then-head-eq0 : goal.loop-left-preserved-then-head-eq0
 loop-left-preserved-then-head-eq0 c =
     let o = c.loop-left in
@@ -130,7 +116,6 @@ loop-left-preserved-then-head-eq0 c =
     let l = W.due o.what o.objects o.left in
     W.turn-leaf a.text.now a.entries.now a.n l g c.if-left-eq0.false c.if-d-eq32.false c.if-k-n.false _ c.judge_at-head.ensures c.if-total-gt-LIMIT.false _ c.first_of-x.ensures c.if-head-eq0.true
 
--- src/lib.rt:441:9
 pub offset_bounds-saved-d-in-loop-left : goal.offset_bounds-saved-d-in-loop-left
 offset_bounds-saved-d-in-loop-left c =
     let o = c.loop-left in
@@ -140,7 +125,6 @@ offset_bounds-saved-d-in-loop-left c =
     let z : (o.d ≡ 32 → ⊥) = c.if-d-eq32.false in
     omega (arith, g.deep, z)
 
--- src/lib.rt:441:9
 pub bounds-saved-d-in-loop-left : goal.bounds-saved-d-in-loop-left
 bounds-saved-d-in-loop-left c =
     let o = c.loop-left in
@@ -150,7 +134,6 @@ bounds-saved-d-in-loop-left c =
     let z : (o.d ≡ 32 → ⊥) = c.if-d-eq32.false in
     omega (arith, g.deep, z)
 
--- src/lib.rt:448:9
 pub overflow_add-d : goal.overflow_add-d
 overflow_add-d c =
     let o = c.loop-left in
@@ -160,7 +143,6 @@ overflow_add-d c =
     let z : (o.d ≡ 32 → ⊥) = c.if-d-eq32.false in
     omega (arith, g.deep, z)
 
--- src/lib.rt:412:5
 pub loop-left-smaller : goal.loop-left-smaller
 loop-left-smaller c =
     let o = c.loop-left in
@@ -170,7 +152,6 @@ loop-left-smaller c =
     let z : (o.k ≡ a.n → ⊥) = c.if-k-n.false in
     omega (arith, z, g.low)
 
--- src/lib.rt:412:5
 pub loop-left-preserved : goal.loop-left-preserved
 loop-left-preserved c =
     let o = c.loop-left in

@@ -4,11 +4,9 @@ use native.Mathlib.Omega.{arith}
 use Rattle.descriptor_build_judge.proofs.Turns as W
 use Rattle.descriptor_build_judge.proofs.write_length.Goals as goal
 
--- src/lib.rt:471:9
 pub returns-then-n-eq0 : goal.returns-then-n-eq0
 returns-then-n-eq0 c = let a = c.args in W.no-entry a.text.now a.entries.now _ c.if-n-eq0.true
 
--- src/lib.rt:475:9
 pub returns-then-root-gt-LIMIT : goal.returns-then-root-gt-LIMIT
 returns-then-root-gt-LIMIT c =
     let a = c.args in

@@ -8,12 +8,10 @@ use Rattle.descriptor_entry.specs.declared.Field.TheVariants as f
 use Rattle.descriptor_entry.specs.Shapes.{both, shape_in, column_shape}
 use Rattle.descriptor_entry_fields.proofs.column_shape.Goals as goal
 
--- src/lib.rt:184:9
 pub returns-then-kind-eq-COLUMN : goal.returns-then-kind-eq-COLUMN
 unfolding column_shape
 returns-then-kind-eq-COLUMN c = c.leaf.ensures ∙ sym (ap (λ (b : Bool). shape_in (pick b (is (both f.ArrayMeasure (f.Doubles 7))) unknown)) (eq-eqb _ (chars "UnFl") c.if-kind-eq-COLUMN.true))
 
--- src/lib.rt:180:1
 pub returns : goal.returns
 unfolding column_shape
 returns c = c.unknown.ensures ∙ sym (ap (λ (b : Bool). shape_in (pick b (is (both f.ArrayMeasure (f.Doubles 7))) unknown)) (ne_eqb _ (chars "UnFl") c.if-kind-eq-COLUMN.false))

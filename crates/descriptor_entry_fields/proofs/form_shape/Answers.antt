@@ -6,32 +6,26 @@ use Rattle.descriptor_entry.specs.declared.Field.TheVariants as f
 use Rattle.descriptor_entry.specs.Shapes.{classed, form_shapes, shape_in, form_shape}
 use Rattle.descriptor_entry_fields.proofs.form_shape.Goals as goal
 
--- src/lib.rt:166:1
 pub returns-in-1131180915 : goal.returns-in-1131180915
 unfolding form_shape
 returns-in-1131180915 c = c.classed.ensures ∙ sym (at-keys form_shape (classed f.Nothing f.Nothing) (chars "Clss" ∷ []) _ (refl, tt) c.in-1131180915.is)
 
--- src/lib.rt:166:1
 pub returns-in-1164864882 : goal.returns-in-1164864882
 unfolding form_shape
 returns-in-1164864882 c = c.classed-in-1164864882.ensures ∙ sym (at-keys form_shape (classed (f.Id 7) (f.Id 9)) (chars "Enmr" ∷ []) _ (refl, tt) c.in-1164864882.is)
 
--- src/lib.rt:166:1
 pub returns-in-1886547824 : goal.returns-in-1886547824
 unfolding form_shape
 returns-in-1886547824 c = c.classed-in-1886547824.ensures ∙ sym (at-keys form_shape (classed (f.Id 7) f.Nothing) (chars "prop" ∷ []) _ (refl, tt) c.in-1886547824.is)
 
--- src/lib.rt:166:1
 pub returns-in-1851878757 : goal.returns-in-1851878757
 unfolding form_shape
 returns-in-1851878757 c = c.classed-in-1851878757.ensures ∙ sym (at-keys form_shape (classed (f.Text 7) f.Nothing) (chars "name" ∷ []) _ (refl, tt) c.in-1851878757.is)
 
--- src/lib.rt:166:1
 pub returns-in-1231318644 : goal.returns-in-1231318644
 unfolding form_shape
 returns-in-1231318644 c = c.classed-in-1231318644.ensures ∙ sym (at-keys form_shape (classed (f.Word 13) f.Nothing) (chars "Idnt" ∷ chars "indx" ∷ chars "rele" ∷ []) _ (refl, (refl, (refl, tt))) c.in-1231318644.is)
 
--- src/lib.rt:166:1
 pub returns-in_default : goal.returns-in_default
 unfolding form_shape
 returns-in_default c =

@@ -3,6 +3,5 @@ use native.Mathlib.Omega.{arith}
 use Rattle.descriptor_entry_fields.proofs.Tables.{none-there}
 use Rattle.descriptor_entry_fields.proofs.number_in.Goals as goal
 
--- src/lib.rt:62:1
 pub returns : goal.returns
 returns c = sym (none-there c.args.row.now c.args.i (omega arith))

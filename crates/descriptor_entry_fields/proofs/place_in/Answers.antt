@@ -4,6 +4,5 @@ use native.Mathlib.Omega.{arith}
 use Rattle.descriptor_entry_fields.proofs.Tables.{none-there}
 use Rattle.descriptor_entry_fields.proofs.place_in.Goals as goal
 
--- src/lib.rt:72:1
 pub returns : goal.returns
 returns c = (sym (none-there c.args.row.now (c.args.i + 1) (omega arith)), omega arith)

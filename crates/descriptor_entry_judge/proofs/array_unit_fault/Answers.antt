@@ -3,10 +3,8 @@ use mathlib.Core.Bool.{Bool}
 use Rattle.algebra.specs.Reader.{pick}
 use Rattle.descriptor_entry_judge.proofs.array_unit_fault.Goals as goal
 
--- src/lib.rt:165:9
 pub returns-then-is_array_unit : goal.returns-then-is_array_unit
 returns-then-is_array_unit c = sym (ap (λ (b : Bool). pick b 0 4) (sym c.is_array_unit.ensures ∙ c.if-is_array_unit.true))
 
--- src/lib.rt:161:1
 pub returns : goal.returns
 returns c = sym (ap (λ (b : Bool). pick b 0 4) (sym c.is_array_unit.ensures ∙ c.if-is_array_unit.false))

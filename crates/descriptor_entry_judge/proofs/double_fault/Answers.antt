@@ -2,10 +2,8 @@ use native.Mathlib.Omega.{arith}
 use Rattle.descriptor_entry_judge.proofs.Judging as J
 use Rattle.descriptor_entry_judge.proofs.double_fault.Goals as goal
 
--- src/lib.rt:185:9
 pub returns-then-bits-lt9218868437227405312 : goal.returns-then-bits-lt9218868437227405312
 returns-then-bits-lt9218868437227405312 c = J.double-right _ _ (omega (arith, c.wide64.ensures.0, c.wide64-2.ensures.0)) c.if-bits-lt9218868437227405312.true
 
--- src/lib.rt:180:1
 pub returns : goal.returns
 returns c = J.double-wrong _ _ (omega (arith, c.wide64.ensures.0, c.wide64-2.ensures.0)) c.if-bits-lt9218868437227405312.false

@@ -1,25 +1,21 @@
 use Rattle.descriptor_entry_judge.proofs.Judging as J
 use Rattle.descriptor_entry_judge.proofs.fields_fault.Goals as goal
 
--- src/lib.rt:225:9
 pub returns-then-x-ne0 : goal.returns-then-x-ne0
 returns-then-x-ne0 c =
     let a = c.args in
     J.fault-first a.text.now a.objects a.shape a.row.now _ c.field_fault-x.ensures c.if-x-ne0.true
 
--- src/lib.rt:229:9
 pub returns-then-y-ne0 : goal.returns-then-y-ne0
 returns-then-y-ne0 c =
     let a = c.args in
     J.fault-second a.text.now a.objects a.shape a.row.now _ c.field_fault-x.ensures c.if-x-ne0.false _ c.field_fault-y.ensures c.if-y-ne0.true
 
--- src/lib.rt:233:9
 pub returns-then-z-ne0 : goal.returns-then-z-ne0
 returns-then-z-ne0 c =
     let a = c.args in
     J.fault-third a.text.now a.objects a.shape a.row.now _ c.field_fault-x.ensures c.if-x-ne0.false _ c.field_fault-y.ensures c.if-y-ne0.false _ c.field_fault-z.ensures c.if-z-ne0.true
 
--- src/lib.rt:216:1
 pub returns : goal.returns
 returns c =
     let a = c.args in

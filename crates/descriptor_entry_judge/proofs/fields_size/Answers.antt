@@ -1,7 +1,6 @@
 use Rattle.descriptor_entry_judge.proofs.Judging as J
 use Rattle.descriptor_entry_judge.proofs.fields_size.Goals as goal
 
--- src/lib.rt:62:1
 pub returns : goal.returns
 returns c =
     let a = c.args in

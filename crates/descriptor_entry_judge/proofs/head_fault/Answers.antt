@@ -6,19 +6,16 @@ use Rattle.descriptor_entry.specs.Pieces.{fault}
 use Rattle.descriptor_entry.specs.Entries.{objects_due, field_pieces}
 use Rattle.descriptor_entry_judge.proofs.head_fault.Goals as goal
 
--- src/lib.rt:279:9
 pub returns-then-x-ne0 : goal.returns-then-x-ne0
 returns-then-x-ne0 c =
     let a = c.args in
     H.fault-key a.text.now a.row.now (due_of a.what 0) (objects_due (due_of a.what a.objects)) a.shape _ c.key_fault-x.ensures c.if-x-ne0.true
 
--- src/lib.rt:282:9
 pub returns-then-shape : goal.returns-then-shape
 returns-then-shape c =
     let a = c.args in
     H.fault-fields a.text.now a.row.now (due_of a.what 0) (objects_due (due_of a.what a.objects)) a.shape _ c.key_fault-x.ensures c.if-x-ne0.false c.if-shape.true _ (c.fields_fault.ensures ∙ ap (λ (m : ℕ). fault a.text.now (field_pieces m a.shape a.row.now)) c.objects_due.ensures)
 
--- src/lib.rt:274:1
 pub returns : goal.returns
 returns c =
     let a = c.args in

@@ -3,13 +3,11 @@ use native.Mathlib.Omega.{arith}
 use Rattle.descriptor_entry_judge.proofs.Heads as H
 use Rattle.descriptor_entry_judge.proofs.judge_head.Goals as goal
 
--- src/lib.rt:297:9
 pub returns-then-size-gt-LIMIT : goal.returns-then-size-gt-LIMIT
 returns-then-size-gt-LIMIT c =
     let a = c.args in
     H.judges-head a.text.now a.row.now a.what a.objects _ _ _ _ _ _ _ _ c.number_in.ensures c.shape_of-shape.ensures c.key_size.ensures c.fields_size.ensures c.members_in-count.ensures c.number_in-arity.ensures refl (λ h. absurd (omega (arith, h, c.if-size-gt-LIMIT.true)))
 
--- src/lib.rt:288:1
 pub returns : goal.returns
 returns c =
     let a = c.args in

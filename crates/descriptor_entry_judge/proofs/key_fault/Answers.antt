@@ -2,13 +2,11 @@ use mathlib.Core.Path.{sym, ◌∙◌}
 use Rattle.descriptor_entry_judge.proofs.Judging as J
 use Rattle.descriptor_entry_judge.proofs.key_fault.Goals as goal
 
--- src/lib.rt:243:9
 pub returns-then-is_keyed : goal.returns-then-is_keyed
 returns-then-is_keyed c =
     let a = c.args in
     J.key-faulty a.text.now a.what a.row.now _ (sym c.is_keyed.ensures ∙ c.if-is_keyed.true) c.field_fault.ensures
 
--- src/lib.rt:239:1
 pub returns : goal.returns
 returns c =
     let a = c.args in

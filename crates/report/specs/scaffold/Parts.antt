@@ -1,7 +1,7 @@
 -- Scaffolding: the form in which the code goes; cited by private contracts and by proofs.
 use Rattle.std.specs.Prelude.{ℕ, ◌+◌, ◌-◌, ◌*◌, ◌≤◌, ◌<◌, ◌≡◌, List, map, eqb, length, get_or, drop}
 use Rattle.algebra.specs.Chars.{chars}
-use Rattle.algebra.specs.Reader.{pick, limit}
+use Rattle.algebra.specs.Reader.{pick}
 use Rattle.acb.specs.Row.{RecordRow}
 use Rattle.acb_read.specs.Walked.{walked}
 use Rattle.palette.specs.PaletteStep.{view_of}

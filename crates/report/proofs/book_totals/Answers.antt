@@ -1,0 +1,21 @@
+use mathlib.Core.Path.{sym, ap, ◌∙◌}
+use native.Mathlib.Omega.{arith}
+use Rattle.acb_judge.specs.Answer.{told}
+use Rattle.report.proofs.Counting.{begun, begun-low}
+use Rattle.report.proofs.Files.{book-judged, book-few, book-refused, book-accepted}
+use Rattle.report.proofs.book_totals.Goals as goal
+
+pub count_records-requires : goal.count_records-requires
+count_records-requires c =
+    let b = book-judged c.args.file.now (sym (ap told c.in-Accepted.is) ∙ c.judge.ensures) in
+    (book-few c.args.file.now (λ k. omega (arith, c.shared_slice_known-1.given k)) b, begun-low _ 0 c.tally.ensures)
+
+pub returns-in-Refused : goal.returns-in-Refused
+returns-in-Refused c =
+    let a = c.args in
+    c.refused.ensures ∙ book-refused a.file.now (sym (ap told c.in-Refused.is) ∙ c.judge.ensures)
+
+pub returns-in-Accepted : goal.returns-in-Accepted
+returns-in-Accepted c =
+    let a = c.args in
+    book-accepted a.file.now (book-judged a.file.now (sym (ap told c.in-Accepted.is) ∙ c.judge.ensures)) _ _ (begun _ 0 c.tally.ensures) c.count_records.ensures
