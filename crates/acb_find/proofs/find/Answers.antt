@@ -13,14 +13,14 @@ pub spacing-d-requires : goal.spacing-d-requires
 spacing-d-requires c =
     let s = c.args.file.now in
     let e = sym (ap judged c.in-Accepted.is) ∙ c.judge.ensures in
-    let bs : Bytes s = λ j. omega (arith, c.shared_slice_known-1.given j) in
+    let bs : Bytes s = λ j. omega (arith, c.type_inv.file j) in
     count_most s bs _ _ _ (opened_of s e)
 
 pub survey-shown-requires : goal.survey-shown-requires
 survey-shown-requires c =
     let s = c.args.file.now in
     let e = sym (ap judged c.in-Accepted.is) ∙ c.judge.ensures in
-    let bs : Bytes s = λ j. omega (arith, c.shared_slice_known-1.given j) in
+    let bs : Bytes s = λ j. omega (arith, c.type_inv.file j) in
     let o : Opened s _ _ c.components_of-n.result = subst (Opened s _ _) (sym c.components_of-n.ensures) (opened_of s e) in
     (o, c.spacing-d.ensures, refl)
 
@@ -28,7 +28,7 @@ pub is_index-requires : goal.is_index-requires
 is_index-requires c =
     let s = c.args.file.now in
     let e = sym (ap judged c.in-Accepted.is) ∙ c.judge.ensures in
-    let bs : Bytes s = λ j. omega (arith, c.shared_slice_known-1.given j) in
+    let bs : Bytes s = λ j. omega (arith, c.type_inv.file j) in
     let o : Opened s _ _ c.components_of-n.result = subst (Opened s _ _) (sym c.components_of-n.ensures) (opened_of s e) in
     (o, c.spacing-d.ensures, c.survey-shown.ensures.1, c.survey-shown.ensures.0)
 
@@ -36,14 +36,14 @@ pub returns-then-not-is_index : goal.returns-then-not-is_index
 returns-then-not-is_index c =
     let s = c.args.file.now in
     let e = sym (ap judged c.in-Accepted.is) ∙ c.judge.ensures in
-    let bs : Bytes s = λ j. omega (arith, c.shared_slice_known-1.given j) in
+    let bs : Bytes s = λ j. omega (arith, c.type_inv.file j) in
     searched-wrong s c.args.index.now c.args.name.now _ _ _ (opened_of s e) (sym c.is_index.ensures ∙ c.if-not-is_index.true)
 
 pub lowest_of-requires : goal.lowest_of-requires
 lowest_of-requires c =
     let s = c.args.file.now in
     let e = sym (ap judged c.in-Accepted.is) ∙ c.judge.ensures in
-    let bs : Bytes s = λ j. omega (arith, c.shared_slice_known-1.given j) in
+    let bs : Bytes s = λ j. omega (arith, c.type_inv.file j) in
     let o : Opened s _ _ c.components_of-n.result = subst (Opened s _ _) (sym c.components_of-n.ensures) (opened_of s e) in
     (o, c.spacing-d.ensures, c.survey-shown.ensures.1, c.survey-shown.ensures.0, sym c.is_index.ensures ∙ c.if-not-is_index.false)
 
@@ -54,5 +54,5 @@ pub returns-else-not-is_index : goal.returns-else-not-is_index
 returns-else-not-is_index c =
     let s = c.args.file.now in
     let e = sym (ap judged c.in-Accepted.is) ∙ c.judge.ensures in
-    let bs : Bytes s = λ j. omega (arith, c.shared_slice_known-1.given j) in
+    let bs : Bytes s = λ j. omega (arith, c.type_inv.file j) in
     c.lowest_of.ensures ∙ searched-right s c.args.index.now c.args.name.now _ _ _ (opened_of s e) (sym c.is_index.ensures ∙ c.if-not-is_index.false)

@@ -12,7 +12,7 @@ pub returns-then-index-shown : goal.returns-then-index-shown
 returns-then-index-shown c =
     let a = c.args in
     let s = a.file.now in
-    let bs : Bytes s = λ j. omega (arith, c.shared_slice_known-1.given j) in
+    let bs : Bytes s = λ j. omega (arith, c.type_inv.file j) in
     too_few s bs a.count a.first a.n c.requires.0 a.index.now a.shown c.requires.3 (omega arith)
 
 pub loop-k-init : goal.loop-k-init
@@ -23,7 +23,7 @@ returns-then-count-i c =
     let a = c.args in
     let s = a.file.now in
     let t = a.index.now in
-    let bs : Bytes s = λ j. omega (arith, c.shared_slice_known-1.given j) in
+    let bs : Bytes s = λ j. omega (arith, c.type_inv.file j) in
     let l = c.loop-k in
     let w = c.wide-i.ensures.0 in
     let km : l.k < a.shown = c.loop-k-test.true in
@@ -37,7 +37,7 @@ returns-then-units_at-eq0 c =
     let a = c.args in
     let s = a.file.now in
     let t = a.index.now in
-    let bs : Bytes s = λ j. omega (arith, c.shared_slice_known-1.given j) in
+    let bs : Bytes s = λ j. omega (arith, c.type_inv.file j) in
     let l = c.loop-k in
     let w = c.wide-i.ensures.0 in
     let km : l.k < a.shown = c.loop-k-test.true in
@@ -51,7 +51,7 @@ returns-then-not-follows c =
     let a = c.args in
     let s = a.file.now in
     let t = a.index.now in
-    let bs : Bytes s = λ j. omega (arith, c.shared_slice_known-1.given j) in
+    let bs : Bytes s = λ j. omega (arith, c.type_inv.file j) in
     let l = c.loop-k in
     let w = c.wide-i.ensures.0 in
     let km : l.k < a.shown = c.loop-k-test.true in
@@ -64,7 +64,7 @@ loop-k-preserved c =
     let a = c.args in
     let s = a.file.now in
     let t = a.index.now in
-    let bs : Bytes s = λ j. omega (arith, c.shared_slice_known-1.given j) in
+    let bs : Bytes s = λ j. omega (arith, c.type_inv.file j) in
     let l = c.loop-k in
     let w = c.wide-i.ensures.0 in
     let km : l.k < a.shown = c.loop-k-test.true in
@@ -77,7 +77,7 @@ pub returns : goal.returns
 returns c =
     let a = c.args in
     let s = a.file.now in
-    let bs : Bytes s = λ j. omega (arith, c.shared_slice_known-1.given j) in
+    let bs : Bytes s = λ j. omega (arith, c.type_inv.file j) in
     let l = c.loop-k in
     let e : l.k ≡ a.shown = omega (arith, c.loop-k-test.false, l.invariant.0) in
     all_right s bs a.count a.first a.n c.requires.0 a.index.now a.shown c.requires.3 l.last (omega arith) (subst (λ (k : ℕ). SoFar s a.n a.first a.index.now k l.last) e l.invariant.1)

@@ -30,7 +30,7 @@ pub next_place-at-requires : goal.next_place-at-requires
 next_place-at-requires c =
     let a = c.args in
     let s = a.file.now in
-    let bs : Bytes s = λ j. omega (arith, c.shared_slice_known-1.given j) in
+    let bs : Bytes s = λ j. omega (arith, c.type_inv.file j) in
     let l = c.loop-k in
     let i = l.invariant in
     let k = known s bs a.count a.first a.n c.requires.0 l.k (omega (arith, c.loop-k-test.true, c.requires.3)) in
@@ -50,7 +50,7 @@ pub overflow_cast-result : goal.overflow_cast-result
 overflow_cast-result c =
     let a = c.args in
     let s = a.file.now in
-    let bs : Bytes s = λ j. omega (arith, c.shared_slice_known-1.given j) in
+    let bs : Bytes s = λ j. omega (arith, c.type_inv.file j) in
     let l = c.loop-k in
     let e : l.k ≡ a.i = omega (arith, c.loop-k-test.false, l.invariant.0) in
     let q = l.invariant.1 ∙ ap (record_place a.n s a.first) e in

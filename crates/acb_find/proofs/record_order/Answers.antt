@@ -15,6 +15,6 @@ pub returns : goal.returns
 returns c =
     let a = c.args in
     let s = a.file.now in
-    let bs : Bytes s = λ j. omega (arith, c.shared_slice_known-1.given j) in
+    let bs : Bytes s = λ j. omega (arith, c.type_inv.file j) in
     let e : c.place_of-at.result ≡ record_place a.n s a.first a.i = c.place_of-at.ensures ∙ ap (record_place a.n s a.first) c.wide.ensures.0 in
     c.against.ensures ∙ ap (λ (x : ℕ). compare_names a.name.now (name_at s x)) e ∙ ap (compare_names a.name.now) (sym (known s bs a.count a.first a.n c.requires.0 a.i c.requires.3).name)

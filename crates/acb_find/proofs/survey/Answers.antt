@@ -21,7 +21,7 @@ pub overflow_cast-at : goal.overflow_cast-at
 overflow_cast-at c =
     let a = c.args in
     let s = a.file.now in
-    let bs : Bytes s = λ j. omega (arith, c.shared_slice_known-1.given j) in
+    let bs : Bytes s = λ j. omega (arith, c.type_inv.file j) in
     let l = c.loop-i in
     let i = l.invariant in
     let h : l.i < a.count = c.loop-i-test.true in
@@ -32,7 +32,7 @@ pub mark_if-requires : goal.mark_if-requires
 mark_if-requires c =
     let a = c.args in
     let s = a.file.now in
-    let bs : Bytes s = λ j. omega (arith, c.shared_slice_known-1.given j) in
+    let bs : Bytes s = λ j. omega (arith, c.type_inv.file j) in
     let l = c.loop-i in
     let i = l.invariant in
     let h : l.i < a.count = c.loop-i-test.true in
@@ -46,7 +46,7 @@ pub overflow_add-j : goal.overflow_add-j
 overflow_add-j c =
     let a = c.args in
     let s = a.file.now in
-    let bs : Bytes s = λ j. omega (arith, c.shared_slice_known-1.given j) in
+    let bs : Bytes s = λ j. omega (arith, c.type_inv.file j) in
     let l = c.loop-i in
     let i = l.invariant in
     let h : l.i < a.count = c.loop-i-test.true in
@@ -64,7 +64,7 @@ pub next_place-at-requires : goal.next_place-at-requires
 next_place-at-requires c =
     let a = c.args in
     let s = a.file.now in
-    let bs : Bytes s = λ j. omega (arith, c.shared_slice_known-1.given j) in
+    let bs : Bytes s = λ j. omega (arith, c.type_inv.file j) in
     let l = c.loop-i in
     let i = l.invariant in
     let h : l.i < a.count = c.loop-i-test.true in
@@ -76,7 +76,7 @@ pub loop-i-preserved : goal.loop-i-preserved
 loop-i-preserved c =
     let a = c.args in
     let s = a.file.now in
-    let bs : Bytes s = λ j. omega (arith, c.shared_slice_known-1.given j) in
+    let bs : Bytes s = λ j. omega (arith, c.type_inv.file j) in
     let l = c.loop-i in
     let i = l.invariant in
     let h : l.i < a.count = c.loop-i-test.true in
@@ -96,7 +96,7 @@ pub returns : goal.returns
 returns c =
     let a = c.args in
     let s = a.file.now in
-    let bs : Bytes s = λ j. omega (arith, c.shared_slice_known-1.given j) in
+    let bs : Bytes s = λ j. omega (arith, c.type_inv.file j) in
     let l = c.loop-i in
     let i = l.invariant in
     let e : l.i ≡ a.count = omega (arith, c.loop-i-test.false, i.0) in

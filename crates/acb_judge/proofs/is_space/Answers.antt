@@ -1,4 +1,5 @@
 use borrow.Author.Tests.{ne_eqb}
+use native.Mathlib.Omega.{arith}
 use Rattle.acb_judge.proofs.is_space.Goals as goal
 
 pub returns-in-0 : goal.returns-in-0
@@ -11,4 +12,4 @@ pub returns-in-7 : goal.returns-in-7
 returns-in-7 c = rw c.in-7.is
 
 pub returns-in_default : goal.returns-in_default
-returns-in_default c = let r = c.in_default.in_default-own.rest in simp (ne_eqb _ _ r.0.0.1, ne_eqb _ _ r.0.1, ne_eqb _ _ r.1)
+returns-in_default c = simp (ne_eqb c.args.space 0 (λ e. omega arith), ne_eqb c.args.space 2 (λ e. omega arith), ne_eqb c.args.space 7 (λ e. omega arith))

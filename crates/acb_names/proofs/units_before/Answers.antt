@@ -36,7 +36,7 @@ pub returns-then-u-v : goal.returns-then-u-v
 returns-then-u-v c =
     let y = c.lesser-fours.ensures in
     let a = c.args in
-    let bs : Bytes a.file.now = λ j. omega (arith, c.shared_slice_known-1.given j) in
+    let bs : Bytes a.file.now = λ j. omega (arith, c.type_inv.file j) in
     four-decides a.file.now a.a a.m a.b a.n (4 * c.loop-k.k) (tie_of a.equal) bs (omega arith) (omega arith) _ _ (omega arith) (omega arith) _ _ c.word_at-u.ensures c.word_at-v.ensures c.if-u-v.true
     ∙ ap (λ (o : Order). is_less (or_else o (tie_of a.equal))) (sym c.loop-k.invariant.1)
 
@@ -44,7 +44,7 @@ pub loop-k-preserved : goal.loop-k-preserved
 loop-k-preserved c =
     let y = c.lesser-fours.ensures in
     let a = c.args in
-    let bs : Bytes a.file.now = λ j. omega (arith, c.shared_slice_known-1.given j) in
+    let bs : Bytes a.file.now = λ j. omega (arith, c.type_inv.file j) in
     let z : 4 * c.loop-k.k + 4 ≡ 4 * (c.loop-k.k + 1) = omega arith in
     (omega arith, c.loop-k.invariant.1 ∙ four-over a.file.now bs a.a a.m a.b a.n (4 * c.loop-k.k) (omega arith) (omega arith) _ _ (omega arith) (omega arith) (sym c.word_at-u.ensures ∙ (let q : _ ≡ _ = c.if-u-v.false in q) ∙ c.word_at-v.ensures) ∙ ap (left a.file.now a.a a.m a.b a.n) z)
 

@@ -13,4 +13,4 @@ slice_bounds-put_run-end c = omega (arith, text-inside c.args.text.now (told_tex
 pub returns : goal.returns
 returns c = let a = c.args in
     let w = c.wide-k in
-    (omega arith, put-string a.text.now (λ i. omega (arith, c.shared_slice_known-1.given i)) (told_text a.string) c.requires.sound _ _ c.start_of-first.ensures (omega (arith, w.ensures.0)) a.out.now _ _ a.at c.requires.inside c.put_u32.ensures c.put_run.ensures)
+    (omega arith, put-string a.text.now (λ i. omega (arith, c.type_inv.text i)) (told_text a.string) c.requires.sound _ _ c.start_of-first.ensures (omega (arith, w.ensures.0)) a.out.now _ _ a.at c.requires.inside c.put_u32.ensures c.put_run.ensures)
