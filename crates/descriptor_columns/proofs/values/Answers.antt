@@ -33,12 +33,6 @@ returns-in-Refused c =
     R.refuses-values a.file.now _ _ (sym (ap told c.in-Refused.is) ∙ c.judge.ensures) a.values.now
 
 -- src/lib.rt:299:1
-pub shape_of-values : goal.shape_of-values
-shape_of-values c =
-    let a = c.args in
-    c.values-1.given ∙ length-set a.values.now 0 4
-
--- src/lib.rt:299:1
 pub returns-else-values-rows : goal.returns-else-values-rows
 returns-else-values-rows c =
     let a = c.args in

@@ -1,3 +1,4 @@
+use Rattle.std.proofs.Common.{rules}
 use Rattle.algebra.specs.Chars.{chars}
 use Rattle.descriptor.proofs.Keys.{at-keys, past-keys}
 use Rattle.descriptor_fields.specs.scaffold.Answer.{end_of, begun}
@@ -88,5 +89,4 @@ pub returns-in_default : goal.returns-in_default
 unfolding sort_of
 returns-in_default c =
     let a = c.args in
-    let r = c.in_default.in_default-own.rest in
-    sym (ap (λ k. begun k a.file.now a.at) (past-keys ((chars "bool" ∷ []) ∷ (chars "GlbC" ∷ chars "type" ∷ []) ∷ (chars "doub" ∷ []) ∷ (chars "enum" ∷ []) ∷ (chars "Pth " ∷ chars "alis" ∷ chars "tdta" ∷ []) ∷ (chars "long" ∷ []) ∷ (chars "comp" ∷ []) ∷ (chars "TEXT" ∷ []) ∷ (chars "UntF" ∷ []) ∷ (chars "VlLs" ∷ []) ∷ (chars "GlbO" ∷ chars "Objc" ∷ []) ∷ (chars "obj " ∷ []) ∷ (chars "ObAr" ∷ []) ∷ []) types _ tt (r.0.0.0.0.0.0.0.0.0.0.0.0.1, (r.0.0.0.0.0.0.0.0.0.0.0.1, (r.0.0.0.0.0.0.0.0.0.0.1, (r.0.0.0.0.0.0.0.0.0.1, (r.0.0.0.0.0.0.0.0.1, (r.0.0.0.0.0.0.0.1, (r.0.0.0.0.0.0.1, (r.0.0.0.0.0.1, (r.0.0.0.0.1, (r.0.0.0.1, (r.0.0.1, (r.0.1, (r.1, tt)))))))))))))))
+    sym (ap (λ k. begun k a.file.now a.at) (past-keys ((chars "bool" ∷ []) ∷ (chars "GlbC" ∷ chars "type" ∷ []) ∷ (chars "doub" ∷ []) ∷ (chars "enum" ∷ []) ∷ (chars "Pth " ∷ chars "alis" ∷ chars "tdta" ∷ []) ∷ (chars "long" ∷ []) ∷ (chars "comp" ∷ []) ∷ (chars "TEXT" ∷ []) ∷ (chars "UntF" ∷ []) ∷ (chars "VlLs" ∷ []) ∷ (chars "GlbO" ∷ chars "Objc" ∷ []) ∷ (chars "obj " ∷ []) ∷ (chars "ObAr" ∷ []) ∷ []) types a.kind tt (search rules)))

@@ -1,3 +1,4 @@
+use Rattle.std.proofs.Common.{rules}
 use Rattle.algebra.specs.Chars.{chars}
 use Rattle.descriptor.proofs.Keys.{at-keys, past-keys}
 use Rattle.descriptor.specs.Reading.{is, skip, id, unicode, enumerated, forms, form_of}
@@ -28,5 +29,4 @@ returns-in-1231318644 c = sym (at-keys form_of (is (skip 4)) (chars "Idnt" ∷ c
 pub returns-in_default : goal.returns-in_default
 unfolding form_of
 returns-in_default c =
-    let r = c.in_default.in_default-own.rest in
-    sym (past-keys ((chars "Clss" ∷ []) ∷ (chars "Enmr" ∷ []) ∷ (chars "prop" ∷ []) ∷ (chars "name" ∷ []) ∷ (chars "Idnt" ∷ chars "indx" ∷ chars "rele" ∷ []) ∷ []) forms _ tt (r.0.0.0.0.1, (r.0.0.0.1, (r.0.0.1, (r.0.1, (r.1, tt))))))
+    sym (past-keys ((chars "Clss" ∷ []) ∷ (chars "Enmr" ∷ []) ∷ (chars "prop" ∷ []) ∷ (chars "name" ∷ []) ∷ (chars "Idnt" ∷ chars "indx" ∷ chars "rele" ∷ []) ∷ []) forms c.args.kind tt (search rules))

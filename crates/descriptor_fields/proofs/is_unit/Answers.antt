@@ -1,3 +1,4 @@
+use Rattle.std.proofs.Common.{rules}
 use Rattle.descriptor.specs.Reading.{units, is_unit}
 use Rattle.descriptor.proofs.Keys.{ascending, key_in, key-out}
 use mathlib.Core.Path.{refl, sym}
@@ -9,4 +10,4 @@ returns-in-591490663 c = sym (key_in (ascending units) units refl _ c.in-5914906
 
 pub returns-in_default : goal.returns-in_default
 unfolding is_unit
-returns-in_default c = sym (key-out (ascending units) units refl _ c.in_default.in_default-own.rest.1)
+returns-in_default c = sym (key-out (ascending units) units refl c.args.tag (search rules))

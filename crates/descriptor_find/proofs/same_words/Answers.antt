@@ -44,7 +44,7 @@ returns-then-u64_or_zero c =
     let k = a.keys.now in
     let x = K.word_at f (a.start + 8 * o.i) _ (omega (arith, p.0, l)) c.u64_or_zero.ensures in
     let y = K.word_at k (a.body + 8 * o.i) _ (omega (arith, p.1, l)) c.u64_or_zero-in-loop-i.ensures in
-    let t = K.words-turn f k a.start a.body a.words (λ j. omega (arith, c.shared_slice_known-1.given j)) (λ j. omega (arith, c.shared_slice_known-2-1.given j)) o.i l in
+    let t = K.words-turn f k a.start a.body a.words (λ j. omega (arith, c.type_inv.file j)) (λ j. omega (arith, c.type_inv.keys j)) o.i l in
     sym (o.invariant ∙ t ∙ ap (λ (b : Bool). pick b (equal_bytes (nums 1 (8 * (a.words - (o.i + 1))) f (a.start + 8 * (o.i + 1))) (nums 1 (8 * (a.words - (o.i + 1))) k (a.body + 8 * (o.i + 1)))) false) (ne_eqb _ _ (λ z. c.if-u64_or_zero.true (x ∙ z ∙ sym y))))
 
 -- src/lib.rt:72:9
@@ -70,7 +70,7 @@ loop-i-preserved c =
     let k = a.keys.now in
     let x = K.word_at f (a.start + 8 * o.i) _ (omega (arith, p.0, l)) c.u64_or_zero.ensures in
     let y = K.word_at k (a.body + 8 * o.i) _ (omega (arith, p.1, l)) c.u64_or_zero-in-loop-i.ensures in
-    let t = K.words-turn f k a.start a.body a.words (λ j. omega (arith, c.shared_slice_known-1.given j)) (λ j. omega (arith, c.shared_slice_known-2-1.given j)) o.i l in
+    let t = K.words-turn f k a.start a.body a.words (λ j. omega (arith, c.type_inv.file j)) (λ j. omega (arith, c.type_inv.keys j)) o.i l in
     o.invariant ∙ t ∙ ap (λ (b : Bool). pick b (equal_bytes (nums 1 (8 * (a.words - (o.i + 1))) f (a.start + 8 * (o.i + 1))) (nums 1 (8 * (a.words - (o.i + 1))) k (a.body + 8 * (o.i + 1)))) false) (eq-eqb _ _ (sym x ∙ c.if-u64_or_zero.false ∙ y))
 
 -- src/lib.rt:62:1

@@ -1,3 +1,4 @@
+use Rattle.std.proofs.Common.{rules}
 use Rattle.descriptor_raw.proofs.Arms as K
 use Rattle.descriptor_raw.proofs.item_to_compare.Goals as goal
 
@@ -83,4 +84,4 @@ returns-in-1331839346 c =
 pub returns-in_default : goal.returns-in_default
 returns-in_default c =
     let a = c.args in
-    K.unknown-head a.file.now a.kind a.v _ c.in_default.in_default-own.rest c.fixed-in_default.ensures
+    K.unknown-head a.file.now a.kind a.v _ (search rules) c.fixed-in_default.ensures

@@ -1,3 +1,4 @@
+use Rattle.std.proofs.Common.{rules}
 use Rattle.descriptor_read.proofs.Typing.{typed-bool, typed_long, typed-comp, typed-double, typed-unit, typed-other, double-ready, unit-ready}
 use Rattle.descriptor_read.proofs.typed_of.Goals as goal
 
@@ -40,5 +41,4 @@ returns-in-1433302086 c =
 pub returns-in_default : goal.returns-in_default
 returns-in_default c =
     let a = c.args in
-    let r = c.in_default.in_default-own.rest in
-    typed-other a.file.now a.kind a.value r.0.0.0.0.1 r.0.0.0.1 r.0.0.1 r.0.1 r.1
+    typed-other a.file.now a.kind a.value (search rules) (search rules) (search rules) (search rules) (search rules)
