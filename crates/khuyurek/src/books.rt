@@ -22,7 +22,7 @@ use acb_write_judge::Ending;
 
 // Where a string lies in the file or text: the place of its first unit, and its units.
 #[repr(C)]
-#[derive(Drop)]
+#[derive(Clone, Copy)]
 pub struct AcbText {
     pub place: usize,
     pub units: u32,
@@ -31,7 +31,7 @@ pub struct AcbText {
 // What stands before the records, apart from their number, and the closing tag: 0 none, 1 spot,
 // 2 process.
 #[repr(C)]
-#[derive(Drop)]
+#[derive(Clone, Copy)]
 pub struct AcbHeader {
     pub identifier: u16,
     pub size: u16,

@@ -1,6 +1,7 @@
 // What C and Rust link: the library's calls with plain structs as answers. include/khuyurek.h
 // declares the same for C.
 #![tactic(auto)]
+
 mod books;
 mod building;
 mod columns;

@@ -12,7 +12,7 @@ use aco_stream::{Answer, Stream};
 // What is kept between two chunks. `stage` says which item comes next, in the order of Stage; of
 // the numbers behind it those count that this stage has.
 #[repr(C)]
-#[derive(Drop)]
+#[derive(Clone, Copy)]
 pub struct AcoStream {
     pub total: usize,
     pub got: usize,

@@ -1,0 +1,4 @@
+use Rattle.khuyurek.proofs.stream.plain.Goals as goal
+
+pub returns : goal.returns
+returns c = rw c.flag.ensures

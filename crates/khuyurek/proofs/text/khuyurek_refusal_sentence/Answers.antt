@@ -1,0 +1,6 @@
+use mathlib.Core.Path.{ap}
+use Rattle.khuyurek.specs.Written.{wrote_of}
+use Rattle.khuyurek.proofs.text.khuyurek_refusal_sentence.Goals as goal
+
+pub returns : goal.returns
+returns c = rw c.exported_length.ensures (ap wrote_of c.sentence.ensures)

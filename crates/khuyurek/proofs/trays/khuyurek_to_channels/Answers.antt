@@ -1,0 +1,6 @@
+use mathlib.Core.Path.{ap}
+use Rattle.khuyurek.specs.Trays.{filled_of}
+use Rattle.khuyurek.proofs.trays.khuyurek_to_channels.Goals as goal
+
+pub returns : goal.returns
+returns c = rw c.exported.ensures (ap filled_of c.to_channels.ensures)

@@ -1,0 +1,16 @@
+use mathlib.Core.Path.{sym, ap, ◌∙◌}
+use Rattle.khuyurek.specs.Walk.{ase_given, ase_step}
+use Rattle.ase_walk.specs.Answer.{told_next_colour}
+use Rattle.khuyurek.proofs.walks.khuyurek_ase_walk.Goals as goal
+
+pub returns-in-Colour : goal.returns-in-Colour
+returns-in-Colour c =
+    c.ase_colour.ensures ∙ sym (ap (λ (v : _). ase_given c.step_at-step.result.next (told_next_colour v)) c.in-Colour.is) ∙ ap ase_step c.step_at-step.ensures
+
+pub returns-in-Done : goal.returns-in-Done
+returns-in-Done c =
+    c.ase_plain.ensures ∙ sym (ap (λ (v : _). ase_given c.step_at-step.result.next (told_next_colour v)) c.in-Done.is) ∙ ap ase_step c.step_at-step.ensures
+
+pub returns-in-Refused : goal.returns-in-Refused
+returns-in-Refused c =
+    c.ase_plain-in-Refused.ensures ∙ sym (ap (λ (v : _). ase_given c.step_at-step.result.next (told_next_colour v)) c.in-Refused.is) ∙ ap ase_step c.step_at-step.ensures
