@@ -26,5 +26,5 @@ returns c =
     let low₂ = load_part 2 s a.first j 8 _ (omega arith) (omega arith) c.u16_or_zero-2.ensures in
     λ e. (
       omega arith,
-      ten-same s (λ k. omega (arith, c.shared_slice_known-1.given k)) a.at a.first (sym high ∙ c.if-u64_or_zero.false ∙ high₂) (sym low ∙ eqb-true _ _ e ∙ low₂),
+      ten-same s (λ k. omega (arith, c.type_inv.file k)) a.at a.first (sym high ∙ c.if-u64_or_zero.false ∙ high₂) (sym low ∙ eqb-true _ _ e ∙ low₂),
     )

@@ -23,7 +23,7 @@ returns-in-Refused c =
 pub loop-i-preserved : goal.loop-i-preserved
 loop-i-preserved c =
     let a = c.args in
-    let x = line-put a.file.now (λ k. omega (arith, c.shared_slice_known-1.given k)) (c.loop-i.out, c.loop-i.at) c.loop-i.i c.loop-i.p c.step_at-step.result c.step_at-step.ensures c.in-Colour.is c.name_part-name.ensures c.put_colour-at.ensures in
+    let x = line-put a.file.now (λ k. omega (arith, c.type_inv.file k)) (c.loop-i.out, c.loop-i.at) c.loop-i.i c.loop-i.p c.step_at-step.result c.step_at-step.ensures c.in-Colour.is c.name_part-name.ensures c.put_colour-at.ensures in
     (omega arith, search rules, line-turn (walk a.file.now) _ (c.loop-i.out, c.loop-i.at) a.colours c.loop-i.i c.loop-i.p c.loop-i.invariant.2 c.loop-i-test.true x.1 x.2)
 
 pub returns : goal.returns

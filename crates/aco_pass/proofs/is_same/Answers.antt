@@ -33,5 +33,5 @@ returns c =
     let low₂ = load_part 2 t a.first j 8 _ (omega arith) (omega arith) c.u16_or_zero-2.ensures in
     λ e. (
       omega arith,
-      ten-same s t (λ i. omega (arith, c.shared_slice_known-1.given i)) (λ i. omega (arith, c.shared_slice_known-2-1.given i)) a.first (sym high ∙ c.if-u64_or_zero.false ∙ high₂) (sym low ∙ eqb-true _ _ e ∙ low₂),
+      ten-same s t (λ i. omega (arith, c.type_inv.head i)) (λ i. omega (arith, c.type_inv.store i)) a.first (sym high ∙ c.if-u64_or_zero.false ∙ high₂) (sym low ∙ eqb-true _ _ e ∙ low₂),
     )
