@@ -20,7 +20,7 @@ use Rattle.acb_shown_values.specs.Answer.{Told, record_is, refused, page_of}
 use Rattle.descriptor.specs.Reading as descriptor
 use Rattle.descriptor_tree.specs.Tree.{Descriptor, bytes, root_head, file_bytes, member_heads, file_heads}
 use Rattle.descriptor_tree.proofs.Examples as tree
-use Rattle.aco.specs.Reading.{Entry, Contents, samples, colour, heading, entry, second, after, lists, aco}
+use Rattle.aco.specs.Reading.{Contents, samples, colour, heading, entry, second, after, lists, aco}
 
 unfoldable pub p2 : List ℕ
 p2 = 0 ∷ 1 ∷ 0 ∷ 0 ∷ []

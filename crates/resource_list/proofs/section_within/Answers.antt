@@ -25,14 +25,14 @@ returns-then-file-le-TAKEN c =
 pub returns-then-number-eq2 : goal.returns-then-number-eq2
 returns-then-number-eq2 c =
     let s = c.args.file.now in
-    cut-long (length s) _ (sym (ap told c.in-Refused.is) ∙ c.resources.ensures) (omega (arith, c.if-file-le-TAKEN.false)) c.if-number-eq2.true
+    cut-long (length s) _ (sym (ap told c.in-Refused.is) ∙ c.resources.ensures) (omega arith) c.if-number-eq2.true
 
 pub returns-else-first-size-gt-TAKEN : goal.returns-else-first-size-gt-TAKEN
 returns-else-first-size-gt-TAKEN c =
     let s = c.args.file.now in
-    reached-there (length s) _ (sym (ap told c.in-Is.is) ∙ c.resources.ensures) (omega (arith, c.if-first-size-gt-TAKEN.false))
+    reached-there (length s) _ (sym (ap told c.in-Is.is) ∙ c.resources.ensures) (omega arith)
 
 pub returns-else-number-eq2 : goal.returns-else-number-eq2
 returns-else-number-eq2 c =
     let s = c.args.file.now in
-    refused-long (length s) _ (sym (ap told c.in-Refused.is) ∙ c.resources.ensures) (omega (arith, c.if-file-le-TAKEN.false)) c.if-number-eq2.false
+    refused-long (length s) _ (sym (ap told c.in-Refused.is) ∙ c.resources.ensures) (omega arith) c.if-number-eq2.false

@@ -10,14 +10,14 @@ returns-then-given-gt65535 c =
 pub returns-then-given-gt255 : goal.returns-then-given-gt255
 returns-then-given-gt255 c =
     let a = c.args in
-    letters-fault a.text.now a.given (omega (arith, c.if-given-gt65535.false)) c.if-given-gt255.true
+    letters-fault a.text.now a.given (omega arith) c.if-given-gt255.true
 
 pub returns-then-x-ne0 : goal.returns-then-x-ne0
 returns-then-x-ne0 c =
     let a = c.args in
-    name-fault a.text.now a.given (omega (arith, c.if-given-gt65535.false)) (omega (arith, c.if-given-gt255.false)) _ c.part_fault-x.ensures c.if-x-ne0.true
+    name-fault a.text.now a.given (omega arith) (omega arith) _ c.part_fault-x.ensures c.if-x-ne0.true
 
 pub returns : goal.returns
 returns c =
     let a = c.args in
-    payload-fault a.text.now a.given (omega (arith, c.if-given-gt65535.false)) (omega (arith, c.if-given-gt255.false)) _ _ c.part_fault-x.ensures c.if-x-ne0.false c.part_fault.ensures
+    payload-fault a.text.now a.given (omega arith) (omega arith) _ _ c.part_fault-x.ensures c.if-x-ne0.false c.part_fault.ensures
