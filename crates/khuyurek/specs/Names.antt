@@ -1,8 +1,8 @@
 -- What each exported answer about a book's index says: refusal number 0 is accepted, and all that an answer does not have is 0.
 use Rattle.std.specs.Prelude.{ℕ, List}
 use Rattle.algebra.specs.Table.{Verdict, accepted, refused}
-use Rattle.khuyurek.specs.declared.names.AcbIndexed.{AcbIndexed}
-use Rattle.khuyurek.specs.declared.names.AcbFound.{AcbFound}
+use Rattle.khuyurek.specs.declared.indexes.AcbIndexed.{AcbIndexed}
+use Rattle.khuyurek.specs.declared.indexes.AcbFound.{AcbFound}
 
 abbrev pub answer_of : Verdict ℕ → AcbIndexed
 answer_of (accepted n) = record { number = 0; place = 0; shown = n }

@@ -7,8 +7,8 @@ mod building;
 mod columns;
 mod conversions;
 mod descriptors;
+mod indexes;
 mod keys;
-mod names;
 mod palettes;
 mod replacing;
 mod reports;
@@ -42,8 +42,8 @@ pub use descriptors::{
     khuyurek_descriptor_typed_at, khuyurek_descriptor_value_at,
 };
 use fields::Written;
+pub use indexes::{AcbFound, AcbIndexed, khuyurek_acb_find, khuyurek_acb_index};
 pub use keys::{Found, khuyurek_descriptor_find};
-pub use names::{AcbFound, AcbIndexed, khuyurek_acb_find, khuyurek_acb_index};
 pub use palettes::{
     AseAnswer, AseRecord, khuyurek_ase_judge, khuyurek_ase_length, khuyurek_ase_read,
     khuyurek_ase_record_at, khuyurek_ase_write,

@@ -18,4 +18,4 @@ returns-in-49154 c =
 pub returns-in_default : goal.returns-in_default
 returns-in_default c =
     let a = c.args in
-    c.colour_at.ensures ∙ sym (ap (map_res (passed a.depth)) (content-colour a.depth a.file.now a.at a.kind _ a.end c.in_default.in_default-own.rest.0.1 c.in_default.in_default-own.rest.1 (omega arith)))
+    c.colour_at.ensures ∙ sym (ap (map_res (passed a.depth)) (content-colour a.depth a.file.now a.at a.kind _ a.end (λ e. omega arith) (λ e. omega arith) (omega arith)))

@@ -1,3 +1,4 @@
+use native.Mathlib.Omega.{arith}
 use borrow.Author.Tests.{ne_eqb}
 use Rattle.ase_judge.proofs.is_block_type.Goals as goal
 
@@ -11,4 +12,4 @@ pub returns-in-1 : goal.returns-in-1
 returns-in-1 c = rw c.in-1.is
 
 pub returns-in_default : goal.returns-in_default
-returns-in_default c = let r = c.in_default.in_default-own.rest in simp (ne_eqb _ _ r.0.0.1, ne_eqb _ _ r.0.1, ne_eqb _ _ r.1)
+returns-in_default c = simp (ne_eqb c.args.kind 0xC001 (λ e. omega arith), ne_eqb c.args.kind 0xC002 (λ e. omega arith), ne_eqb c.args.kind 0x0001 (λ e. omega arith))

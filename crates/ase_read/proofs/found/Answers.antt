@@ -31,7 +31,7 @@ pub coloured-requires : goal.coloured-requires
 coloured-requires c =
     let a = c.args in
     let k = here a.file.now a.n c.requires.0 a.i c.requires.1 _ c.block_place-at.ensures in
-    let h = is-colour _ k.sound _ (stored a.file.now a.i _ k _ c.block_end-end.ensures _ c.put_row.ensures _ c.record_at-row.ensures) c.in_default.in_default-own.rest.0.1 c.in_default.in_default-own.rest.1 in (h.is, h.ink)
+    let h = is-colour _ k.sound _ (stored a.file.now a.i _ k _ c.block_end-end.ensures _ c.put_row.ensures _ c.record_at-row.ensures) (λ e. omega arith) (λ e. omega arith) in (h.is, h.ink)
 
 pub returns-in-49153 : goal.returns-in-49153
 returns-in-49153 c =
@@ -52,5 +52,5 @@ pub returns-in_default : goal.returns-in_default
 returns-in_default c =
     let a = c.args in
     let k = here a.file.now a.n c.requires.0 a.i c.requires.1 _ c.block_place-at.ensures in
-    let h = is-colour _ k.sound _ (stored a.file.now a.i _ k _ c.block_end-end.ensures _ c.put_row.ensures _ c.record_at-row.ensures) c.in_default.in_default-own.rest.0.1 c.in_default.in_default-own.rest.1 in
+    let h = is-colour _ k.sound _ (stored a.file.now a.i _ k _ c.block_end-end.ensures _ c.put_row.ensures _ c.record_at-row.ensures) (λ e. omega arith) (λ e. omega arith) in
     c.coloured.ensures ∙ record_is _ _ c.args.i c.requires.0 c.requires.1 _ h.shows

@@ -37,7 +37,7 @@ coloured-requires c =
     stands-given s a.at a.end c.requires.2 _
     (numbers-loaded (take a.end s) a.at _ _ _ _ _ _ _ _ _ _ c.u16_or_zero-kind.ensures c.u16_or_zero-count.ensures c.place_of-place.ensures c.units_of-units.ensures
     c.u32_or_zero-tag.ensures c.u32_or_zero-a.ensures c.u32_or_zero-b.ensures c.u32_or_zero-c.ensures c.u32_or_zero-d.ensures c.u16_or_zero-last.ensures) in
-    let h = is-colour c.requires.2.0 (stands-sound s a.at a.end c.requires.2) n l c.in_default.in_default-own.rest.0.1 c.in_default.in_default-own.rest.1 in
+    let h = is-colour c.requires.2.0 (stands-sound s a.at a.end c.requires.2) n l (λ e. omega arith) (λ e. omega arith) in
     (h.is, h.ink)
 
 pub returns-in-49153 : goal.returns-in-49153
@@ -101,5 +101,5 @@ returns-in_default c =
     stands-given s a.at a.end c.requires.2 _
     (numbers-loaded (take a.end s) a.at _ _ _ _ _ _ _ _ _ _ c.u16_or_zero-kind.ensures c.u16_or_zero-count.ensures c.place_of-place.ensures c.units_of-units.ensures
     c.u32_or_zero-tag.ensures c.u32_or_zero-a.ensures c.u32_or_zero-b.ensures c.u32_or_zero-c.ensures c.u32_or_zero-d.ensures c.u16_or_zero-last.ensures) in
-    let h = is-colour c.requires.2.0 (stands-sound s a.at a.end c.requires.2) n l c.in_default.in_default-own.rest.0.1 c.in_default.in_default-own.rest.1 in
+    let h = is-colour c.requires.2.0 (stands-sound s a.at a.end c.requires.2) n l (λ e. omega arith) (λ e. omega arith) in
     stands-shown s c.args.at c.args.end c.requires.2 _ (c.coloured.ensures ∙ ap (λ (v : RecordRow). gives v) h.shows)

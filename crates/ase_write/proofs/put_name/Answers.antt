@@ -29,4 +29,4 @@ returns c =
     let g = given_in a.given in
     let w = c.wide in
     let e = c.put_name16.ensures ∙ ap (λ (r : ℕ). stored a.out.now a.at (counted_units 2 (g.units + 1) (part a.text.now r (r + 2 * w.result - r)))) c.name_start-first.ensures in
-    put-name a.text.now (λ i. omega (arith, c.shared_slice_known-1.given i)) g (start g + 2 * w.result - start g) (omega (arith, w.ensures.0)) c.requires.1 a.out.now _ a.at c.requires.0 e
+    put-name a.text.now (λ i. omega (arith, c.type_inv.text i)) g (start g + 2 * w.result - start g) (omega (arith, w.ensures.0)) c.requires.1 a.out.now _ a.at c.requires.0 e

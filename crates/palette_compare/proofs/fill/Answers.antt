@@ -7,7 +7,7 @@ use Rattle.palette_compare.proofs.fill.Goals as goal
 pub fill_to-requires : goal.fill_to-requires
 fill_to-requires c =
     let a = c.args in
-    first-longer a.one a.first.now a.other a.second.now a.n a.m (many a.one a.first.now c.requires.0) (many a.other a.second.now c.requires.1) c.if-m-n.true (many-few a.one a.first.now (λ k. omega (arith, c.shared_slice_known-1.given k)) c.requires.0)
+    first-longer a.one a.first.now a.other a.second.now a.n a.m (many a.one a.first.now c.requires.0) (many a.other a.second.now c.requires.1) c.if-m-n.true (many-few a.one a.first.now (λ k. omega (arith, c.type_inv.first k)) c.requires.0)
 
 pub returns-then-m-n : goal.returns-then-m-n
 returns-then-m-n c =
@@ -17,7 +17,7 @@ returns-then-m-n c =
 pub fill_to-requires-2 : goal.fill_to-requires-2
 fill_to-requires-2 c =
     let a = c.args in
-    second-longer a.one a.first.now a.other a.second.now a.n a.m (many a.one a.first.now c.requires.0) (many a.other a.second.now c.requires.1) c.if-m-n.false (many-few a.other a.second.now (λ k. omega (arith, c.shared_slice_known-2-1.given k)) c.requires.1)
+    second-longer a.one a.first.now a.other a.second.now a.n a.m (many a.one a.first.now c.requires.0) (many a.other a.second.now c.requires.1) c.if-m-n.false (many-few a.other a.second.now (λ k. omega (arith, c.type_inv.second k)) c.requires.1)
 
 pub returns : goal.returns
 returns c =

@@ -11,7 +11,7 @@ loop-i-init c =
 pub put_row-requires : goal.put_row-requires
 put_row-requires c =
     let a = c.args in
-    (omega (arith, c.loop-i.invariant.room, c.loop-i.invariant.stored.kept), omega (arith, few-positions _ _ a.first.now a.second.now (λ k. omega (arith, c.shared_slice_known-1.given k)) (λ k. omega (arith, c.shared_slice_known-2-1.given k)) a.n a.table.now _ _ _ _ c.loop-i.i c.loop-i.invariant c.loop-i-test.true))
+    (omega (arith, c.loop-i.invariant.room, c.loop-i.invariant.stored.kept), omega (arith, few-positions _ _ a.first.now a.second.now (λ k. omega (arith, c.type_inv.first k)) (λ k. omega (arith, c.type_inv.second k)) a.n a.table.now _ _ _ _ c.loop-i.i c.loop-i.invariant c.loop-i-test.true))
 
 pub overflow_add-differences : goal.overflow_add-differences
 overflow_add-differences c =
@@ -20,12 +20,12 @@ overflow_add-differences c =
 pub overflow_add-i : goal.overflow_add-i
 overflow_add-i c =
     let a = c.args in
-    omega (arith, few-positions _ _ a.first.now a.second.now (λ k. omega (arith, c.shared_slice_known-1.given k)) (λ k. omega (arith, c.shared_slice_known-2-1.given k)) a.n a.table.now _ _ _ _ c.loop-i.i c.loop-i.invariant c.loop-i-test.true)
+    omega (arith, few-positions _ _ a.first.now a.second.now (λ k. omega (arith, c.type_inv.first k)) (λ k. omega (arith, c.type_inv.second k)) a.n a.table.now _ _ _ _ c.loop-i.i c.loop-i.invariant c.loop-i-test.true)
 
 pub loop-i-preserved : goal.loop-i-preserved
 loop-i-preserved c =
     let a = c.args in
-    both-turn _ _ a.first.now a.second.now (λ k. omega (arith, c.shared_slice_known-1.given k)) (λ k. omega (arith, c.shared_slice_known-2-1.given k)) a.n a.table.now c.loop-i.table c.loop-i.p c.loop-i.q c.loop-i.differences c.loop-i.i c.loop-i.invariant c.loop-i-test.true
+    both-turn _ _ a.first.now a.second.now (λ k. omega (arith, c.type_inv.first k)) (λ k. omega (arith, c.type_inv.second k)) a.n a.table.now c.loop-i.table c.loop-i.p c.loop-i.q c.loop-i.differences c.loop-i.i c.loop-i.invariant c.loop-i-test.true
     c.step_at-x.result c.step_at-y.result c.kind_at-kind.result c.counted-differences.result _ c.step_at-x.ensures c.step_at-y.ensures c.kind_at-kind.ensures c.put_row.ensures c.counted-differences.ensures
 
 pub shape_of-table : goal.shape_of-table

@@ -1,3 +1,4 @@
+use native.Mathlib.Omega.{arith}
 use mathlib.Core.Path.{sym, ap}
 use borrow.Author.Tests.{ne_eqb}
 use Rattle.palette.specs.declared.View.TheVariants.{Samples}
@@ -17,4 +18,4 @@ pub returns-in-7 : goal.returns-in-7
 returns-in-7 c = ap (tag_place Samples) (sym c.in-7.is)
 
 pub returns-in_default : goal.returns-in_default
-returns-in_default c = let r = c.in_default.in_default-own.rest in simp (ne_eqb _ _ r.0.0.0.1, ne_eqb _ _ r.0.0.1, ne_eqb _ _ r.0.1, ne_eqb _ _ r.1)
+returns-in_default c = simp (ne_eqb c.args.space 0 (λ e. omega arith), ne_eqb c.args.space 1 (λ e. omega arith), ne_eqb c.args.space 2 (λ e. omega arith), ne_eqb c.args.space 7 (λ e. omega arith))

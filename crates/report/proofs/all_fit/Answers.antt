@@ -7,7 +7,7 @@ pub loop-i-init : goal.loop-i-init
 loop-i-init c = (omega arith, λ k h. absurd (omega arith))
 
 pub overflow_sub-totals : goal.overflow_sub-totals
-overflow_sub-totals c = omega (arith, c.shared_slice_known-1.given c.loop-i.i)
+overflow_sub-totals c = omega (arith, c.type_inv.totals c.loop-i.i)
 
 pub returns-then-totals-i : goal.returns-then-totals-i
 returns-then-totals-i c =
@@ -17,7 +17,7 @@ returns-then-totals-i c =
 pub loop-i-preserved : goal.loop-i-preserved
 loop-i-preserved c =
     let a = c.args in
-    (omega arith, sums-more a.totals.now a.more.now c.loop-i.i c.loop-i.invariant.1 (omega (arith, c.if-totals-i.false, c.shared_slice_known-1.given c.loop-i.i)))
+    (omega arith, sums-more a.totals.now a.more.now c.loop-i.i c.loop-i.invariant.1 (omega (arith, c.if-totals-i.false, c.type_inv.totals c.loop-i.i)))
 
 pub returns : goal.returns
 returns c =

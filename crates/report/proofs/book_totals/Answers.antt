@@ -8,7 +8,7 @@ use Rattle.report.proofs.book_totals.Goals as goal
 pub count_records-requires : goal.count_records-requires
 count_records-requires c =
     let b = book-judged c.args.file.now (sym (ap told c.in-Accepted.is) ∙ c.judge.ensures) in
-    (book-few c.args.file.now (λ k. omega (arith, c.shared_slice_known-1.given k)) b, begun-low _ 0 c.tally.ensures)
+    (book-few c.args.file.now (λ k. omega (arith, c.type_inv.file k)) b, begun-low _ 0 c.tally.ensures)
 
 pub returns-in-Refused : goal.returns-in-Refused
 returns-in-Refused c =

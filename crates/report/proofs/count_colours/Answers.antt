@@ -11,12 +11,12 @@ loop-i-init c =
 pub tally_two-requires : goal.tally_two-requires
 tally_two-requires c =
     let a = c.args in
-    colours-low _ a.file.now (λ k. omega (arith, c.shared_slice_known-1.given k)) a.n a.totals.now c.loop-i.totals c.loop-i.p c.loop-i.i c.loop-i.invariant c.loop-i-test.true
+    colours-low _ a.file.now (λ k. omega (arith, c.type_inv.file k)) a.n a.totals.now c.loop-i.totals c.loop-i.p c.loop-i.i c.loop-i.invariant c.loop-i-test.true
 
 pub loop-i-preserved : goal.loop-i-preserved
 loop-i-preserved c =
     let a = c.args in
-    count_turn _ a.file.now (λ k. omega (arith, c.shared_slice_known-1.given k)) a.n a.totals.now c.loop-i.totals c.loop-i.p c.loop-i.i c.loop-i.invariant c.loop-i-test.true
+    count_turn _ a.file.now (λ k. omega (arith, c.type_inv.file k)) a.n a.totals.now c.loop-i.totals c.loop-i.p c.loop-i.i c.loop-i.invariant c.loop-i-test.true
     c.step_at-x.result c.tag_place-place.result c.units_place.result _ c.step_at-x.ensures c.tag_place-place.ensures c.units_place.ensures c.tally_two.ensures
 
 pub shape_of-totals : goal.shape_of-totals

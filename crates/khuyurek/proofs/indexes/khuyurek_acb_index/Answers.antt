@@ -1,7 +1,7 @@
 use mathlib.Core.Path.{sym, ap, ◌∙◌}
 use Rattle.acb_index.specs.Answer.{told}
 use Rattle.khuyurek.specs.Names.{indexed_of}
-use Rattle.khuyurek.proofs.names.khuyurek_acb_index.Goals as goal
+use Rattle.khuyurek.proofs.indexes.khuyurek_acb_index.Goals as goal
 
 pub returns-in-Built : goal.returns-in-Built
 returns-in-Built c =
