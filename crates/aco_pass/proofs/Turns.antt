@@ -162,9 +162,9 @@ module _ (start : ℕ) (store bytes : List ℕ) (fits : start + length bytes ≤
 pub passes-with : {start : ℕ} {bytes : List ℕ} {g : Stage} {at : ℕ} {store : List ℕ} {h : Stage} {e : ℕ} {after : List ℕ} (got : ℕ) → got ≡ 0 → Passes start bytes g at store h e after → PassesWith got start bytes g at store h e after
 passes-with {start} {bytes} {g} {at} {store} {h} {e} {after} got z p = record {
   behind = p.behind;
-  inside = λ l. p.inside;
+  inside = p.inside;
   keeps = p.keeps;
-  sound = λ k l fits. p.sound;
+  sound = p.sound;
   stays = λ l. absurd (omega (arith, z, l));
   comes = λ c n. go c (omega (arith, n, z));
 }
@@ -187,7 +187,7 @@ passes-fault start bytes x p r f at store l fits = record {
   comes = turn-fault (Rest (v.Fault x p r f) (start + at) [] store at bytes) (v.Fault x p r f) start [] store at bytes refl fits l refl (length bytes) refl;
 }
 
--- an item that has begun is not passed, and is no fault
+-- an item that has begun is no fault
 pub begun : (got : ℕ) (g : Stage) → 0 < got → got < size g → is_fault g ≡ false
 begun got v.First n h = refl
 begun got (v.Colour m i) n h = refl
@@ -197,9 +197,9 @@ begun got (v.Unit c i at m z) n h = refl
 begun got (v.End m) n h = refl
 begun got (v.Fault x p r y) n h = absurd (omega arith)
 
--- nothing is passed: of an item that has begun, which is no fault; behind the bytes; where they pass the limit
-pub passes-nothing : (got start : ℕ) (bytes : List ℕ) (g : Stage) (at : ℕ) (store : List ℕ) → (got < size g → at < length bytes → start + length bytes ≤ limit → is_fault g ≡ false) → PassesWith got start bytes g at store g at store
-passes-nothing got start bytes g at store f = record { behind = omega arith; inside = λ l. l; keeps = refl; sound = λ k l fits e. f k l fits; stays = λ x. refl; comes = λ c n. refl }
+-- an item that has begun is not passed, and is no fault
+pub passes-begun : (got start : ℕ) (bytes : List ℕ) (g : Stage) (at : ℕ) (store : List ℕ) → at ≤ length bytes → 0 < got → got < size g → PassesWith got start bytes g at store g at store
+passes-begun got start bytes g at store l n h = record { behind = omega arith; inside = l; keeps = refl; sound = λ e. begun got g n h; stays = λ x. refl; comes = λ c n. refl }
 
 -- of a stage that is known
 pub passes-as : {start : ℕ} {bytes : List ℕ} {g k : Stage} {at : ℕ} {store : List ℕ} {h : Stage} {e : ℕ} {after : List ℕ} → g ≡ k → Passes start bytes k at store h e after → Passes start bytes g at store h e after

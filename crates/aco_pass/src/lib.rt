@@ -5,9 +5,9 @@ ghost use Rattle.std.specs.Prelude.{◌≡◌, ℕ, ◌+◌, ◌-◌, ◌*◌, �
 ghost use Rattle.algebra.specs.Reader.{limit, pick};
 ghost use Rattle.algebra.specs.Numbers.{nums};
 ghost use Rattle.algebra.specs.Text.{any_zero};
+ghost use Rattle.aco_chunks.specs.Chunks.{size};
 ghost use Rattle.aco_pass.specs.scaffold.Parts.{Passes, PassesWith, Sounds, Closed, SameAs, Headed};
 
-use aco::LIMIT;
 use aco_chunks::Stage;
 use fields::FieldEnd;
 
@@ -267,7 +267,7 @@ fn pass_within(stage: Stage, start: usize, store: &mut [u8], bytes: &[u8], at: u
     }
 }
 
-// The same for any numbers: nothing within an item, behind the bytes, or where they pass the limit.
+// The same where `got` bytes are carried: nothing within an item that has begun.
 pub fn pass(
     stage: Stage,
     got: usize,
@@ -276,18 +276,10 @@ pub fn pass(
     bytes: &[u8],
     at: usize,
 ) -> Passed
+    requires { (at < length bytes.now) × (start + length bytes.now ≤ limit) × (got < size stage) }
     ensures { PassesWith got start bytes.now stage at store.old result.stage result.at store.new }
 {
     if 0 < got {
-        return Passed { stage, at };
-    }
-    if bytes.len() <= at {
-        return Passed { stage, at };
-    }
-    if LIMIT < start {
-        return Passed { stage, at };
-    }
-    if LIMIT - start < bytes.len() {
         return Passed { stage, at };
     }
     pass_within(stage, start, store, bytes, at)

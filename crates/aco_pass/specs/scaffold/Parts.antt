@@ -19,12 +19,12 @@ pub record Passes (start : ℕ) (bytes : List ℕ) (g : Stage) (at : ℕ) (store
   pub sound : e ≤ at → is_fault h ≡ false
   pub comes : Rest g (start + at) [] store at bytes ≡ Rest h (start + e) [] after e bytes
 
--- the same for any numbers, where `got` bytes are carried: of an item that has begun nothing is passed
+-- the same where `got` bytes are carried: of an item that has begun nothing is passed
 pub record PassesWith (got start : ℕ) (bytes : List ℕ) (g : Stage) (at : ℕ) (store : List ℕ) (h : Stage) (e : ℕ) (after : List ℕ) : Type 0 where
   pub behind : at ≤ e
-  pub inside : at ≤ length bytes → e ≤ length bytes
+  pub inside : e ≤ length bytes
   pub keeps : length after ≡ length store
-  pub sound : got < size g → at < length bytes → start + length bytes ≤ limit → e ≤ at → is_fault h ≡ false
+  pub sound : e ≤ at → is_fault h ≡ false
   pub stays : 0 < got → h ≡ g
   pub comes : (carry : List ℕ) → length carry ≡ got → Rest g (start + at) carry store at bytes ≡ Rest h (start + e) carry after e bytes
 

@@ -18,6 +18,9 @@ loop-at-init c =
     let n : length c.args.state.carry ≡ 16 = search rules in
     (omega arith, refl, c.requires.1, c.requires.0, refl, n, ap (λ (k : ℕ). Rest c.args.state.stage k (take c.args.state.got c.args.state.carry) c.args.store.now 0 c.args.bytes.now) (sym (add-zero c.args.state.total)))
 
+pub pass-next-requires : goal.pass-next-requires
+pass-next-requires c = let i = c.loop-at.invariant in (omega (arith, i.1, c.loop-at-test.true), i.2, i.3)
+
 pub loop-at-smaller-then-at-next : goal.loop-at-smaller-then-at-next
 loop-at-smaller-then-at-next c =
     let l = c.loop-at in
@@ -28,7 +31,7 @@ loop-at-smaller-then-at-next c =
     let p = y.ensures in
     let r = room_after l.stage y.result.stage l.got i.3 p.stays in
     let m = size-most y.result.stage in
-    let q : y.result.at ≤ length a.bytes.now = p.inside (omega (arith, i.1, t)) in
+    let q : y.result.at ≤ length a.bytes.now = p.inside in
     omega (arith, c.if-at-next.true, q, i.1, t)
 
 pub loop-at-preserved-then-at-next : goal.loop-at-preserved-then-at-next
@@ -41,7 +44,7 @@ loop-at-preserved-then-at-next c =
     let p = y.ensures in
     let r = room_after l.stage y.result.stage l.got i.3 p.stays in
     let m = size-most y.result.stage in
-    let q : y.result.at ≤ length a.bytes.now = p.inside (omega (arith, i.1, t)) in (
+    let q : y.result.at ≤ length a.bytes.now = p.inside in (
       omega (arith, q, i.1),
       i.1,
       i.2,
@@ -127,7 +130,7 @@ loop-at-preserved-then-got-size_of c =
     let w : y.result.at ≤ l.at = omega (arith, c.if-at-next.false) in
     let q = stood (chunk (G a.state.stage a.state.total (take a.state.got a.state.carry) a.store.now) a.bytes.now) (take l.got l.carry) i.6 g p w in
     let s = c.settle-stage in
-    let f = full-turn (chunk (G a.state.stage a.state.total (take a.state.got a.state.carry) a.store.now) a.bytes.now) y.result.stage a.state.total l.got l.carry y.new.store l.at a.bytes.now q i.2 (omega (arith, t, i.1)) (p.sound i.3 (omega (arith, t, i.1)) i.2 w) (omega (arith, i.5, r, m)) (omega (arith, c.if-got-size_of.true, c.size_of.ensures)) (omega (arith, c.item_start-from.ensures)) s.ensures.0 s.ensures.1 in (
+    let f = full-turn (chunk (G a.state.stage a.state.total (take a.state.got a.state.carry) a.store.now) a.bytes.now) y.result.stage a.state.total l.got l.carry y.new.store l.at a.bytes.now q i.2 (omega (arith, t, i.1)) (p.sound w) (omega (arith, i.5, r, m)) (omega (arith, c.if-got-size_of.true, c.size_of.ensures)) (omega (arith, c.item_start-from.ensures)) s.ensures.0 s.ensures.1 in (
       omega (arith, i.1, t),
       i.1,
       i.2,
@@ -156,7 +159,7 @@ loop-at-preserved c =
       omega (arith, r, c.if-got-size_of.false, c.size_of.ensures),
       p.keeps ∙ i.4,
       simp length-set i.5,
-      push-turn (chunk (G a.state.stage a.state.total (take a.state.got a.state.carry) a.store.now) a.bytes.now) y.result.stage a.state.total l.got l.carry y.new.store l.at a.bytes.now q i.2 (omega (arith, t, i.1)) (p.sound i.3 (omega (arith, t, i.1)) i.2 w) (omega (arith, i.5, r, m)) (omega (arith, r, c.if-got-size_of.false, c.size_of.ensures)),
+      push-turn (chunk (G a.state.stage a.state.total (take a.state.got a.state.carry) a.store.now) a.bytes.now) y.result.stage a.state.total l.got l.carry y.new.store l.at a.bytes.now q i.2 (omega (arith, t, i.1)) (p.sound w) (omega (arith, i.5, r, m)) (omega (arith, r, c.if-got-size_of.false, c.size_of.ensures)),
     )
 
 pub returns : goal.returns
