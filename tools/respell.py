@@ -11,9 +11,11 @@ import collections
 import glob
 import os
 import re
+import subprocess
 import sys
 
-KIT = os.environ.get("RATTLE_KIT", "/opt/rattle")
+# The kit that `rt` is of.
+KIT = os.path.dirname(subprocess.run(["rt", "doc"], capture_output=True, text=True, check=True).stdout.strip())
 SIGNATURE = re.compile(r"^(?:(?:abbrev|unfoldable|pub|data|record) )*([^\s:(){}]+)(?: \([^)]*\)| \{[^}]*\})* :")
 INNER = re.compile(r"^ +(?:pub )?([^\s:(){}]+) :")
 HEAD = re.compile(r"^(?:(?:abbrev|unfoldable|pub) )*(data|record) ")
