@@ -1,1 +1,1 @@
-pub mod Answer
+-- Numbers and stores are said in algebra and fault.

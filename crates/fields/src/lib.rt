@@ -7,8 +7,5 @@
 mod number;
 mod store;
 
-pub use number::{
-    FieldEnd, Number8, Number16, Number32, Number64, run_at, u8_at, u16_at, u16_is, u16_or_zero,
-    u32_at, u32_or_zero, u64_at, u64_or_zero, wide,
-};
-pub use store::{Written, put_name16, put_name32, put_run, put_u16, put_u32};
+pub use number::{Number, number_at, number_is, number_or_zero, run_at};
+pub use store::{Stored, put_name, put_number, put_run};

@@ -4,41 +4,43 @@ ghost use Rattle.algebra.specs.Numbers.{be};
 ghost use Rattle.algebra.specs.Text.{counted_units};
 ghost use Rattle.algebra.specs.Store.{stored};
 
-// How many bytes writing takes, or the refusal's number; its place is 0.
-#[derive(Drop)]
-pub enum Written {
-    Bytes(usize),
-    Refused(u32),
+use crate::number::Number;
+
+/// A number that is stored, its highest byte first.
+pub trait Stored: Number {
+    fn store(self, out: &mut [u8], at: usize)
+        requires { at + Self.WIDTH ≤ length out.old }
+        ensures { out.new ≡ stored out.old at (be Self.WIDTH (Self.value self)) };
 }
 
-pub fn put_u16(out: &mut [u8], at: usize, v: u16)
-    ensures { out.new ≡ stored out.old at (be 2 v) }
-{
-    let n = out.len();
-    if n < 2 {
-        return;
+impl Stored for u16 {
+    fn store(self, out: &mut [u8], at: usize) {
+        out[at] = (self / 256 % 256) as u8;
+        out[at + 1] = (self % 256) as u8;
     }
-    if n - 2 < at {
-        return;
-    }
-    out[at] = (v / 256 % 256) as u8;
-    out[at + 1] = (v % 256) as u8;
 }
 
-pub fn put_u32(out: &mut [u8], at: usize, v: u32)
-    ensures { out.new ≡ stored out.old at (be 4 v) }
+impl Stored for u32 {
+    fn store(self, out: &mut [u8], at: usize) {
+        out[at] = (self / 256 / 256 / 256 % 256) as u8;
+        out[at + 1] = (self / 256 / 256 % 256) as u8;
+        out[at + 2] = (self / 256 % 256) as u8;
+        out[at + 3] = (self % 256) as u8;
+    }
+}
+
+pub fn put_number<N: Stored>(out: &mut [u8], at: usize, v: N)
+    ensures { out.new ≡ stored out.old at (be N.WIDTH (N.value v)) }
 {
     let n = out.len();
-    if n < 4 {
+    let width = N::WIDTH;
+    if n < width {
         return;
     }
-    if n - 4 < at {
+    if n - width < at {
         return;
     }
-    out[at] = (v / 256 / 256 / 256 % 256) as u8;
-    out[at + 1] = (v / 256 / 256 % 256) as u8;
-    out[at + 2] = (v / 256 % 256) as u8;
-    out[at + 3] = (v % 256) as u8;
+    v.store(out, at);
 }
 
 pub fn put_run(out: &mut [u8], at: usize, run: &[u8])
@@ -52,10 +54,8 @@ pub fn put_run(out: &mut [u8], at: usize, run: &[u8])
     if n - k < at {
         return;
     }
-    let mut i: usize = 0;
-    while i < k {
+    for i in 0..k {
         out[at + i] = run[i];
-        i += 1;
     }
 }
 
@@ -79,27 +79,17 @@ fn put_closed(out: &mut [u8], at: usize, units: &[u8])
     ensures { out.new ≡ stored out.old at (units.now ++ be 2 0) }
 {
     put_run(out, at, units);
-    put_u16(out, at + units.len(), 0);
+    put_number::<u16>(out, at + units.len(), 0);
 }
 
-// A name: its count, the bytes of its units, and the closing zero.
-pub fn put_name32(out: &mut [u8], at: usize, count: u32, units: &[u8])
-    ensures { out.new ≡ stored out.old at (counted_units 4 count units.now) }
+/// A name: its count, the bytes of its units, and the closing zero.
+pub fn put_name<N: Stored>(out: &mut [u8], at: usize, count: N, units: &[u8])
+    ensures { out.new ≡ stored out.old at (counted_units N.WIDTH (N.value count) units.now) }
 {
-    if !has_room(out.len(), at, 6, units.len()) {
+    let width = N::WIDTH;
+    if !has_room(out.len(), at, width + 2, units.len()) {
         return;
     }
-    put_u32(out, at, count);
-    put_closed(out, at + 4, units);
-}
-
-// A name: its count, the bytes of its units, and the closing zero.
-pub fn put_name16(out: &mut [u8], at: usize, count: u16, units: &[u8])
-    ensures { out.new ≡ stored out.old at (counted_units 2 count units.now) }
-{
-    if !has_room(out.len(), at, 4, units.len()) {
-        return;
-    }
-    put_u16(out, at, count);
-    put_closed(out, at + 2, units);
+    put_number(out, at, count);
+    put_closed(out, at + width, units);
 }

@@ -1,44 +1,40 @@
 // Names: counted text units with a closing zero.
 #![tactic(auto)]
 
-ghost use Rattle.std.specs.Prelude.{◌≡◌, ◌+◌, ◌*◌, ◌/◌, ◌%◌, ◌<◌, ◌≤◌, true, false, length};
-ghost use Rattle.algebra.specs.Numbers.{num, nums};
+ghost use Rattle.std.specs.Prelude.{◌≡◌, ◌+◌, ◌*◌, ◌<◌, ◌≤◌, true, false, length};
+ghost use Rattle.algebra.specs.Numbers.{nums};
 ghost use Rattle.algebra.specs.Reader.{done};
 ghost use Rattle.algebra.specs.Text.{any_zero, closed, text, closed_units, name, place};
 ghost use Rattle.algebra.specs.Lanes.{lanes, any_high_bit};
-ghost use Rattle.fields.specs.Answer.{told_field_end};
+ghost use Rattle.fault.specs.Answer.{told_end};
 ghost use Rattle.names.specs.Answer.{told_name};
 
-use fields::{FieldEnd, Number16, Number32};
+use fault::{Fault, Refusal};
+use fields::Number;
 
-// The place of a name's first unit, its number of units without the closing zero, and the next
-// place; or a refusal's number and place.
-#[derive(Drop)]
-pub enum NameAt {
-    Is(usize, u32, usize),
-    Refused(u32, usize),
+/// Where a name lies: the place of its first unit, and its number of units without the closing zero.
+#[derive(Clone, Copy)]
+pub struct Name {
+    pub first: usize,
+    pub units: u32,
 }
 
-fn wide(x: u8) -> u16
-    ensures { (result ≡ x) × (result < 256) }
-{
-    x as u16
+/// A number that may count the units of a name.
+pub trait Count: Number {
+    fn count(self) -> u32
+        ensures { result ≡ Self.value self };
 }
 
-// The unit at `at` with its bytes swapped.
-fn swapped(s: &[u8], at: usize) -> u16
-    requires { at + 2 ≤ length s.now }
-    ensures { 256 * (result % 256) + result / 256 ≡ num 2 s.now at }
-{
-    let a = wide(s[at]);
-    let b = wide(s[at + 1]);
-    a + 256 * b
+impl Count for u16 {
+    fn count(self) -> u32 {
+        u32::from(self)
+    }
 }
 
-fn wide64(x: u8) -> u64
-    ensures { (result ≡ x) × (result < 256) }
-{
-    x as u64
+impl Count for u32 {
+    fn count(self) -> u32 {
+        self
+    }
 }
 
 // Four units from `at` in one word, each with its bytes swapped. Joined by `|` and shifts the eight
@@ -47,14 +43,14 @@ fn four_at(s: &[u8], at: usize) -> u64
     requires { at + 8 ≤ length s.now }
     ensures { any_zero (lanes 4 result) ≡ any_zero (nums 2 4 s.now at) }
 {
-    wide64(s[at])
-        | wide64(s[at + 1]) << 8
-        | wide64(s[at + 2]) << 16
-        | wide64(s[at + 3]) << 24
-        | wide64(s[at + 4]) << 32
-        | wide64(s[at + 5]) << 40
-        | wide64(s[at + 6]) << 48
-        | wide64(s[at + 7]) << 56
+    u64::from(s[at])
+        | u64::from(s[at + 1]) << 8
+        | u64::from(s[at + 2]) << 16
+        | u64::from(s[at + 3]) << 24
+        | u64::from(s[at + 4]) << 32
+        | u64::from(s[at + 5]) << 40
+        | u64::from(s[at + 6]) << 48
+        | u64::from(s[at + 7]) << 56
 }
 
 // A word that is marked exactly where one of the four lanes of x is zero: less one, a zero lane
@@ -72,26 +68,22 @@ fn any_in_fours(s: &[u8], at: usize, k: usize) -> bool
     ensures { result ≡ any_zero (nums 2 (4 * k) s.now at) }
 {
     let mut found: u64 = 0;
-    let mut i: usize = 0;
-    while i < k {
+    for i in 0..k {
         found = found | marks(four_at(s, at + 8 * i));
-        i += 1;
     }
     found & 0x8000_8000_8000_8000 != 0
 }
 
-// Whether one of n units from `at` is zero, one by one; a unit is where it is with its bytes swapped.
+// Whether one of n units from `at` is zero, one by one.
 fn any_one_by_one(s: &[u8], at: usize, n: usize) -> bool
     requires { at + n * 2 ≤ length s.now }
     ensures { result ≡ any_zero (nums 2 n s.now at) }
 {
     let mut found = false;
-    let mut i: usize = 0;
-    while i < n {
-        if swapped(s, at + 2 * i) == 0 {
+    for i in 0..n {
+        if u16::load(s, at + 2 * i) == 0 {
             found = true;
         }
-        i += 1;
     }
     found
 }
@@ -123,10 +115,8 @@ fn is_clear(s: &[u8], at: usize) -> bool
     ensures { result ≡ true → any_zero (nums 2 128 s.now at) ≡ false }
 {
     let mut found: u64 = 0;
-    let mut i: usize = 0;
-    while i < 32 {
+    for i in 0..32 {
         found = found | less(four_at(s, at + 8 * i));
-        i += 1;
     }
     found & 0x8000_8000_8000_8000 == 0
 }
@@ -136,14 +126,12 @@ fn clear_fours(s: &[u8], at: usize, k: usize) -> usize
     requires { at + k * 8 ≤ length s.now }
     ensures { (result ≤ k) × (any_zero (nums 2 (4 * result) s.now at) ≡ false) }
 {
-    let mut i: usize = 0;
-    while k - i >= 32 {
-        if !is_clear(s, at + 8 * i) {
-            return i;
+    for i in 0..k / 32 {
+        if !is_clear(s, at + 8 * (32 * i)) {
+            return 32 * i;
         }
-        i += 32;
     }
-    i
+    32 * (k / 32)
 }
 
 // How many of k fours from `at` have no zero, from the first on, by 32 of them at a time.
@@ -151,14 +139,12 @@ fn sound_fours(s: &[u8], at: usize, k: usize) -> usize
     requires { at + k * 8 ≤ length s.now }
     ensures { (result ≤ k) × (any_zero (nums 2 (4 * result) s.now at) ≡ false) }
 {
-    let mut i: usize = 0;
-    while k - i >= 32 {
-        if any_in_fours(s, at + 8 * i, 32) {
-            return i;
+    for i in 0..k / 32 {
+        if any_in_fours(s, at + 8 * (32 * i), 32) {
+            return 32 * i;
         }
-        i += 32;
     }
-    i
+    32 * (k / 32)
 }
 
 // The same, as far as they are clear at a glance, and then by the exact test.
@@ -182,25 +168,25 @@ fn any_zero(s: &[u8], at: usize, n: usize) -> bool
     any_in_few(s, at + 8 * k, n - 4 * k)
 }
 
-// n units from `at`, none of them zero: the next place, 2 where they pass the end, 8 where one is zero.
-pub fn text_at(s: &[u8], at: usize, n: u32) -> FieldEnd
-    ensures { told_field_end result ≡ done (text n s.now at) }
+/// The place after n units from `at`, none of them zero.
+pub fn text_at(s: &[u8], at: usize, n: u32) -> Result<usize, Refusal>
+    ensures { told_end result ≡ done (text n s.now at) }
 {
     if n == 0 {
-        return FieldEnd::Next(at);
+        return Ok(at);
     }
     let k = n as usize;
     let len = s.len();
     if len < 2 * k {
-        return FieldEnd::Refused(2, at);
+        return Err(Refusal(Fault::Short, at));
     }
     if len - 2 * k < at {
-        return FieldEnd::Refused(2, at);
+        return Err(Refusal(Fault::Short, at));
     }
     if any_zero(s, at, k) {
-        return FieldEnd::Refused(8, at);
+        return Err(Refusal(Fault::BadlyClosed, at));
     }
-    FieldEnd::Next(at + 2 * k)
+    Ok(at + 2 * k)
 }
 
 // Whether the last of n units from `at` is zero, and no other.
@@ -212,46 +198,35 @@ fn is_closed(s: &[u8], at: usize, n: usize) -> bool
         return false;
     }
     // The last unit first: in a long file what stands behind the name is then on its way.
-    if swapped(s, at + 2 * (n - 1)) != 0 {
+    if u16::load(s, at + 2 * (n - 1)) != 0 {
         return false;
     }
     !any_zero(s, at, n - 1)
 }
 
-// A name's n units from `first`, behind a count that stands at `at`.
-fn units_at(s: &[u8], at: usize, first: usize, n: u32) -> NameAt
+// A name's n units from `first`, behind a count that stands at `at`, and the next place.
+fn units_at(s: &[u8], at: usize, first: usize, n: u32) -> Result<(Name, usize), Refusal>
     requires { first ≤ length s.now }
     ensures { told_name result ≡ place (closed_units at n s.now first) }
 {
     if n == 0 {
-        return NameAt::Refused(8, at);
+        return Err(Refusal(Fault::BadlyClosed, at));
     }
     let k = n as usize;
     if s.len() - first < 2 * k {
-        return NameAt::Refused(2, first);
+        return Err(Refusal(Fault::Short, first));
     }
-    if is_closed(s, first, k) {
-        return NameAt::Is(first, n - 1, first + 2 * k);
+    if !is_closed(s, first, k) {
+        return Err(Refusal(Fault::BadlyClosed, at));
     }
-    NameAt::Refused(8, at)
+    let units = n - 1;
+    Ok((Name { first, units }, first + 2 * k))
 }
 
-// The name at `at`, with a count of 16 bits.
-pub fn name16_at(s: &[u8], at: usize) -> NameAt
-    ensures { told_name result ≡ place (name 2 s.now at) }
+/// The name at `at`, with a count of the given width, and the next place.
+pub fn name_at<N: Count>(s: &[u8], at: usize) -> Result<(Name, usize), Refusal>
+    ensures { told_name result ≡ place (name N.WIDTH s.now at) }
 {
-    let Number16::Is(n, first) = fields::u16_at(s, at) else {
-        return NameAt::Refused(2, at);
-    };
-    units_at(s, at, first, n as u32)
-}
-
-// The name at `at`, with a count of 32 bits.
-pub fn name32_at(s: &[u8], at: usize) -> NameAt
-    ensures { told_name result ≡ place (name 4 s.now at) }
-{
-    let Number32::Is(n, first) = fields::u32_at(s, at) else {
-        return NameAt::Refused(2, at);
-    };
-    units_at(s, at, first, n)
+    let (n, first) = fields::number_at::<N>(s, at)?;
+    units_at(s, at, first, n.count())
 }

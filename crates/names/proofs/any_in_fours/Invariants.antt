@@ -7,6 +7,3 @@ use Rattle.names.proofs.any_in_fours.Given as goal
 
 abbrev pub invariant-loop-i : goal.invariant-loop-i
 invariant-loop-i l = (l.i ≤ l.k) × (any_zero (nums 2 (4 * l.k) l.s l.at) ≡ pick (any_high_bit 4 l.found) true (any_zero (nums 2 (4 * (l.k - l.i)) l.s (l.at + 8 * l.i))))
-
-abbrev pub decreases-loop-i : goal.decreases-loop-i
-decreases-loop-i l = l.k - l.i

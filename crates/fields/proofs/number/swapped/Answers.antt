@@ -3,6 +3,4 @@ use Rattle.algebra.proofs.Laws.{num-2}
 use Rattle.fields.proofs.number.swapped.Goals as goal
 
 pub returns : goal.returns
-returns c =
-    let a = c.args in
-    omega (arith, num-2 a.s.now a.at, c.wide16-a.ensures.0, c.wide16-a.ensures.1, c.wide16-b.ensures.0, c.wide16-b.ensures.1)
+returns c = let a = c.args in omega (arith, num-2 a.s.now a.at, c.ranges)
