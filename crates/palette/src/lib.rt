@@ -14,7 +14,8 @@ ghost use Rattle.palette.specs.Answer.{told};
 ghost use Rattle.palette.specs.declared.Kind.TheVariants.{Aco, Ase};
 ghost use Rattle.palette.specs.declared.View.TheVariants.{Samples, Counterparts};
 
-use colour::{Channels, Colour, Made};
+use aco_judge::Rejection;
+use colour::{Channels, Colour};
 
 #[derive(Clone, Copy)]
 pub enum Kind {
@@ -29,20 +30,6 @@ pub enum View {
     Samples,
     Counterparts,
     Channels,
-}
-
-// How many colours a palette has, or its refusal, with the record and field of 7.
-#[derive(Clone, Copy)]
-pub enum Answer {
-    Accepted {
-        colours: usize,
-    },
-    Refused {
-        number: u32,
-        place: usize,
-        record: usize,
-        field: usize,
-    },
 }
 
 // A colour: its space and samples, or its model's tag and the bits of its channels.
@@ -66,46 +53,20 @@ pub struct PaletteStep {
 
 // ---- judging
 
-fn judge_aco(file: &[u8]) -> Answer
+fn judge_aco(file: &[u8]) -> Result<usize, Rejection>
     ensures { told result ≡ verdict length (colours Aco file.now) }
 {
-    match aco_judge::judge(file) {
-        aco_judge::Answer::Refused { number, place } => Answer::Refused {
-            number,
-            place,
-            record: 0,
-            field: 0,
-        },
-        aco_judge::Answer::Differ {
-            place,
-            record,
-            field,
-        } => Answer::Refused {
-            number: 7,
-            place,
-            record,
-            field,
-        },
-        aco_judge::Answer::Accepted { colours, lists: _ } => Answer::Accepted { colours },
-    }
+    Ok(aco_judge::judge(file)?.colours)
 }
 
-fn judge_ase(file: &[u8]) -> Answer
+fn judge_ase(file: &[u8]) -> Result<usize, Rejection>
     ensures { told result ≡ verdict length (colours Ase file.now) }
 {
-    match ase_judge::judge(file) {
-        ase_judge::Answer::Refused { number, place } => Answer::Refused {
-            number,
-            place,
-            record: 0,
-            field: 0,
-        },
-        ase_judge::Answer::Accepted { blocks: _, colours } => Answer::Accepted { colours },
-    }
+    Ok(ase_judge::judge(file)?.colours)
 }
 
-// The whole file, which the caller says to be of a kind.
-pub fn judge(kind: Kind, file: &[u8]) -> Answer
+/// How many colours a whole file has, which the caller says to be of a kind.
+pub fn judge(kind: Kind, file: &[u8]) -> Result<usize, Rejection>
     ensures { told result ≡ verdict length (colours kind file.now) }
 {
     match kind {
@@ -152,23 +113,17 @@ fn none(next: usize) -> PaletteStep
     }
 }
 
-fn wide(x: u16) -> u32
-    ensures { result ≡ x }
-{
-    x as u32
-}
-
 // An ACO colour as it is.
 fn own(colour: Colour) -> Numbers
     ensures { told_numbers result ≡ colour_numbers Samples colour }
 {
     let samples = colour.samples;
     Numbers {
-        tag: wide(colour.space),
-        number0: wide(samples[0]),
-        number1: wide(samples[1]),
-        number2: wide(samples[2]),
-        number3: wide(samples[3]),
+        tag: u32::from(colour.space),
+        number0: u32::from(samples[0]),
+        number1: u32::from(samples[1]),
+        number2: u32::from(samples[2]),
+        number3: u32::from(samples[3]),
     }
 }
 
@@ -192,8 +147,8 @@ fn counterpart(colour: Colour) -> Numbers
     ensures { told_numbers result ≡ colour_numbers Counterparts colour }
 {
     match convert::to_channels(colour) {
-        Made::Is(made) => channels_of(made),
-        Made::Refused(_) => zeros(),
+        Ok(made) => channels_of(made),
+        Err(_) => zeros(),
     }
 }
 

@@ -12,24 +12,23 @@ ghost use Rattle.palette_compare.specs.Compare.{same_numbers, kind_by, rows, fil
 ghost use Rattle.palette_compare.specs.Answer.{told};
 ghost use Rattle.palette_compare.specs.scaffold.Parts.{kinds_in, kind_at, StoredTo, Positions};
 
-use palette::{Answer, Kind, Numbers, PaletteStep, first_at, judge, step_at, view_of};
+use aco_judge::Rejection;
+use palette::{Kind, Numbers, PaletteStep, first_at, judge, step_at, view_of};
 use walk::name_part;
 
-// How many positions the longer palette has and how many of them differ; or a refusal: of file 1, of
-// file 2, or 0 for the table's, with the record and field of 7.
-#[derive(Clone, Copy)]
-pub enum Compared {
-    Is {
-        positions: usize,
-        differences: usize,
-    },
-    Refused {
-        file: u32,
-        number: u32,
-        place: usize,
-        record: usize,
-        field: usize,
-    },
+/// How many positions the longer palette has, and how many of them differ.
+#[derive(Clone, Copy, Debug, PartialEq, Eq)]
+pub struct Comparison {
+    pub positions: usize,
+    pub differences: usize,
+}
+
+/// Why two palettes are not compared: a file's own refusal, or a table that is too short.
+#[derive(Clone, Copy, Debug, PartialEq, Eq)]
+pub enum CompareError {
+    First(Rejection),
+    Second(Rejection),
+    NoRoom,
 }
 
 // Only in the first, and only in the second.
@@ -71,10 +70,8 @@ fn same_bytes(x: &[u8], y: &[u8]) -> bool
         return false;
     }
     let mut any: u8 = 0;
-    let mut i: usize = 0;
-    while i < x.len() {
+    for i in 0..x.len() {
         any |= unequal(x[i], y[i]);
-        i += 1;
     }
     any == 0
 }
@@ -143,8 +140,7 @@ fn fill_both(
     let mut p = first_at(one, first);
     let mut q = first_at(other, second);
     let mut differences: usize = 0;
-    let mut i: usize = 0;
-    while i < n {
+    for i in 0..n {
         let x = step_at(seen, first, p);
         let y = step_at(beside, second, q);
         let kind = kind_at(first, x, second, y);
@@ -152,7 +148,6 @@ fn fill_both(
         differences += counted(kind);
         p = x.next;
         q = y.next;
-        i += 1;
     }
     differences
 }
@@ -162,10 +157,8 @@ fn fill_rest(table: &mut [u32], from: usize, to: usize, kind: u32)
     requires { (from ≤ to) × (2 * to ≤ length table.old) × (to < 2 ^ 32) }
     ensures { table.new ≡ sets table.old (2 * from) (rows from (replicate (to - from) kind)) }
 {
-    let mut i = from;
-    while i < to {
+    for i in from..to {
         put_row(table, i, kind);
-        i += 1;
     }
 }
 
@@ -179,25 +172,19 @@ fn fill_to(
     longer: usize,
     rest: u32,
     table: &mut [u32],
-) -> Compared
+) -> Result<Comparison, CompareError>
     requires { Positions one first.now other second.now shorter longer rest }
     ensures { (told result, table.new) ≡ filled (kinds_in one first.now other second.now) table.old }
 {
     if table.len() / WIDTH < longer {
-        return Compared::Refused {
-            file: 0,
-            number: 11,
-            place: 0,
-            record: 0,
-            field: 0,
-        };
+        return Err(CompareError::NoRoom);
     }
     let both = fill_both(one, first, other, second, shorter, table);
     fill_rest(table, shorter, longer, rest);
-    Compared::Is {
+    Ok(Comparison {
         positions: longer,
         differences: both + (longer - shorter),
-    }
+    })
 }
 
 // The table of two accepted palettes of n and m colours.
@@ -209,7 +196,7 @@ fn fill(
     second: &[u8],
     m: usize,
     table: &mut [u32],
-) -> Compared
+) -> Result<Comparison, CompareError>
     requires { Accepted length (colours one first.now) n × Accepted length (colours other second.now) m }
     ensures { (told result, table.new) ≡ comparison (colours one first.now) (colours other second.now) table.old }
 {
@@ -219,37 +206,17 @@ fn fill(
     fill_to(one, first, other, second, n, m, SECOND, table)
 }
 
-// Compares two files, each said to be of a kind; a refusal leaves the table as it was.
-pub fn compare(one: Kind, first: &[u8], other: Kind, second: &[u8], table: &mut [u32]) -> Compared
+/// Compares two files, each said to be of a kind; a refusal leaves the table as it was.
+pub fn compare(
+    one: Kind,
+    first: &[u8],
+    other: Kind,
+    second: &[u8],
+    table: &mut [u32],
+) -> Result<Comparison, CompareError>
     ensures { (told result, table.new) ≡ comparison (colours one first.now) (colours other second.now) table.old }
 {
-    match judge(one, first) {
-        Answer::Refused {
-            number,
-            place,
-            record,
-            field,
-        } => Compared::Refused {
-            file: 1,
-            number,
-            place,
-            record,
-            field,
-        },
-        Answer::Accepted { colours: n } => match judge(other, second) {
-            Answer::Refused {
-                number,
-                place,
-                record,
-                field,
-            } => Compared::Refused {
-                file: 2,
-                number,
-                place,
-                record,
-                field,
-            },
-            Answer::Accepted { colours: m } => { fill(one, first, n, other, second, m, table) }
-        },
-    }
+    let n = judge(one, first).map_err(CompareError::First)?;
+    let m = judge(other, second).map_err(CompareError::Second)?;
+    fill(one, first, n, other, second, m, table)
 }

@@ -5,6 +5,7 @@ ghost use Rattle.std.specs.Prelude.{◌≡◌, true, map, ◌+◌, ◌<◌, ◌^
 ghost use Rattle.acb.specs.Reading.{acb};
 ghost use Rattle.acb_read.specs.Walked.{walked};
 ghost use Rattle.descriptor.specs.Reading.{descriptor};
+ghost use Rattle.fault.specs.Fault.{number_of};
 ghost use Rattle.palette.specs.Palette.{colours};
 ghost use Rattle.palette.specs.scaffold.Turn.{colours_in};
 ghost use Rattle.palette.specs.declared.View.TheVariants.{Samples, Channels as ChannelBits};
@@ -12,8 +13,10 @@ ghost use Rattle.report.specs.Report.{many, one, plus, sum, book_place, palette_
 ghost use Rattle.report.specs.Answer.{told_added, told_merged};
 ghost use Rattle.report.specs.scaffold.Parts.{told_totals, refused_report, Low, tag_place, units_place, book_row, row_of};
 
+use aco_judge::Rejection;
 use acb_read::text_place;
 use colour::Model;
+use fault::{Fault, Refusal};
 use palette::{View, first_at, step_at, view_of};
 
 #[derive(Clone, Copy)]
@@ -32,28 +35,18 @@ pub struct Report {
     pub totals: [u32; 31],
 }
 
-// The call's own number, the file's number and place, and the report with the file or, for 5, as it
-// was.
+/// What a file was found to be, and the report with it; where a total would pass the bound, a fault,
+/// and the report stays as it was.
 #[derive(Clone, Copy)]
 pub struct Added {
-    pub number: u32,
-    pub refusal: u32,
-    pub place: usize,
-    pub report: Report,
+    pub file: Result<(), Refusal>,
+    pub report: Result<Report, Fault>,
 }
 
-// The sum, or 5 and the first report.
-#[derive(Clone, Copy)]
-pub struct Merged {
-    pub number: u32,
-    pub report: Report,
-}
-
-// One file's number, place and totals.
+// What one file was found to be, and its totals.
 #[derive(Clone, Copy)]
 struct FileTotals {
-    number: u32,
-    place: usize,
+    file: Result<(), Refusal>,
     totals: [u32; 31],
 }
 
@@ -170,13 +163,11 @@ fn count_colours(kind: palette::Kind, file: &[u8], n: usize, totals: &mut [u32])
 {
     let view = view_of(kind, kind);
     let mut p = first_at(kind, file);
-    let mut i: usize = 0;
-    while i < n {
+    for _i in 0..n {
         let x = step_at(view, file, p);
         let place = tag_place(view, x.numbers.tag);
         tally_two(totals, place, units_place(x.units));
         p = x.next;
-        i += 1;
     }
 }
 
@@ -186,27 +177,25 @@ fn count_records(space: u16, file: &[u8], first: usize, n: usize, totals: &mut [
     ensures { totals.new ≡ plus totals.old (sum (map (row_of space) (walked space file.now first n))) }
 {
     let mut p = first;
-    let mut i: usize = 0;
-    while i < n {
+    for _i in 0..n {
         let step = acb_read::step_at(file, p, space);
         let swatch = step.swatch;
         let name = swatch.name;
         let text = text_place(name);
         tally_record(totals, space, text.units);
         p = step.next;
-        i += 1;
     }
 }
 
 // A refused file: one in its own number, and nothing else.
-fn refused(number: u32, place: usize) -> FileTotals
-    ensures { told_totals result ≡ refused_report number place }
+fn refused(refusal: Refusal) -> FileTotals
+    ensures { told_totals result ≡ refused_report (number_of refusal.0) refusal.1 }
 {
+    let Refusal(fault, _) = refusal;
     let mut totals = [0u32; 31];
-    tally(&mut totals, number as usize, 1);
+    tally(&mut totals, fault.number() as usize, 1);
     FileTotals {
-        number,
-        place,
+        file: Err(refusal),
         totals,
     }
 }
@@ -215,19 +204,18 @@ fn palette_totals(kind: palette::Kind, file: &[u8]) -> FileTotals
     ensures { told_totals result ≡ report_of palette_totals (colours kind file.now) }
 {
     match palette::judge(kind, file) {
-        palette::Answer::Refused {
-            number,
+        Err(Rejection::Refused(refusal)) => refused(refusal),
+        Err(Rejection::Differ {
             place,
             record: _,
             field: _,
-        } => refused(number, place),
-        palette::Answer::Accepted { colours } => {
+        }) => refused(Refusal(Fault::ListsDiffer, place)),
+        Ok(colours) => {
             let mut totals = [0u32; 31];
             tally(&mut totals, 0, 1);
             count_colours(kind, file, colours, &mut totals);
             FileTotals {
-                number: 0,
-                place: 0,
+                file: Ok(()),
                 totals,
             }
         }
@@ -238,19 +226,13 @@ fn book_totals(file: &[u8]) -> FileTotals
     ensures { told_totals result ≡ report_of book_totals (acb file.now) }
 {
     match acb_judge::judge(file) {
-        acb_judge::Answer::Refused { number, place } => refused(number, place),
-        acb_judge::Answer::Accepted {
-            header,
-            tag: _,
-            count,
-            first,
-        } => {
+        Err(refusal) => refused(refusal),
+        Ok(book) => {
             let mut totals = [0u32; 31];
             tally(&mut totals, 0, 1);
-            count_records(header.space, file, first, count, &mut totals);
+            count_records(book.header.space, file, book.first, book.count, &mut totals);
             FileTotals {
-                number: 0,
-                place: 0,
+                file: Ok(()),
                 totals,
             }
         }
@@ -261,14 +243,13 @@ fn descriptor_totals(file: &[u8]) -> FileTotals
     ensures { told_totals result ≡ report_of row_totals (descriptor file.now) }
 {
     match descriptor_judge::judge(file) {
-        descriptor_judge::Answer::Refused { number, place } => refused(number, place),
-        descriptor_judge::Answer::Accepted { rows } => {
+        Err(refusal) => refused(refusal),
+        Ok(rows) => {
             let mut totals = [0u32; 31];
             tally(&mut totals, 0, 1);
             tally(&mut totals, ROWS, rows as u32);
             FileTotals {
-                number: 0,
-                place: 0,
+                file: Ok(()),
                 totals,
             }
         }
@@ -293,12 +274,10 @@ fn all_fit(totals: &[u32], more: &[u32]) -> bool
     requires { (length totals.now ≡ 31) × (length more.now ≡ 31) }
     ensures { result ≡ fits (plus totals.now more.now) }
 {
-    let mut i: usize = 0;
-    while i < TOTALS {
+    for i in 0..TOTALS {
         if MOST - totals[i] < more[i] {
             return false;
         }
-        i += 1;
     }
     true
 }
@@ -307,52 +286,36 @@ fn add_all(totals: &mut [u32], more: &[u32])
     requires { (length totals.old ≡ 31) × (length more.now ≡ 31) × (fits (plus totals.old more.now) ≡ true) }
     ensures { totals.new ≡ plus totals.old more.now }
 {
-    let mut i: usize = 0;
-    while i < TOTALS {
+    for i in 0..TOTALS {
         totals[i] += more[i];
-        i += 1;
     }
 }
 
-fn sum_of(first: [u32; 31], second: [u32; 31]) -> Merged
-    ensures { told_merged result ≡ merged first second }
+fn sum_of(first: [u32; 31], second: [u32; 31]) -> Result<Report, Fault>
+    ensures { told_merged first result ≡ merged first second }
 {
     if !all_fit(&first, &second) {
-        return Merged {
-            number: 5,
-            report: Report { totals: first },
-        };
+        return Err(Fault::OutOfRange);
     }
     let mut totals = first;
     add_all(&mut totals, &second);
-    Merged {
-        number: 0,
-        report: Report { totals },
-    }
+    Ok(Report { totals })
 }
 
-// Adds a file's report, or refuses by 5, which leaves the totals as they were.
+/// Adds a file's report. Where a total would pass the bound, the report stays as it was.
 pub fn add(report: Report, kind: Kind, file: &[u8]) -> Added
-    ensures { told_added result ≡ added report.totals (file_report kind file.now) }
+    ensures { told_added report.totals result ≡ added report.totals (file_report kind file.now) }
 {
     let found = file_totals(kind, file);
-    let before = report.totals;
-    let counted = found.totals;
-    let sum = sum_of(before, counted);
-    let after = sum.report;
     Added {
-        number: sum.number,
-        refusal: found.number,
-        place: found.place,
-        report: after,
+        file: found.file,
+        report: sum_of(report.totals, found.totals),
     }
 }
 
-// The sum of two reports, or 5 and the first.
-pub fn merge(first: Report, second: Report) -> Merged
-    ensures { told_merged result ≡ merged first.totals second.totals }
+/// The sum of two reports; where a total would pass the bound, there is none.
+pub fn merge(first: Report, second: Report) -> Result<Report, Fault>
+    ensures { told_merged first.totals result ≡ merged first.totals second.totals }
 {
-    let one = first.totals;
-    let other = second.totals;
-    sum_of(one, other)
+    sum_of(first.totals, second.totals)
 }

@@ -9,10 +9,11 @@ use Rattle.palette.specs.scaffold.Turn.{colours_in, place_of, kind_seen}
 use Rattle.palette.specs.declared.View.{View}
 use Rattle.palette.specs.declared.View.TheVariants.{Samples, Counterparts, Channels as ChannelBits}
 use Rattle.report.specs.Report.{one, plus, sum, colour_totals, book_place, FileReport}
+use Rattle.report.specs.Answer.{told_file}
 use Rattle.report.specs.declared.FileTotals.{FileTotals}
 
 abbrev pub told_totals : FileTotals → FileReport
-told_totals f = record { number = f.number; place = f.place; totals = f.totals }
+told_totals f = record { number = (told_file f.file).0; place = (told_file f.file).1; totals = f.totals }
 
 abbrev pub refused_report : ℕ → ℕ → FileReport
 refused_report x p = record { number = x; place = p; totals = one x }
