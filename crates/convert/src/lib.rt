@@ -133,10 +133,7 @@ pub fn to_channels(colour: Colour) -> Result<Channels, Fault>
     ensures { told result ≡ to_channels colour }
 {
     let space = colour.space;
-    let a = colour.samples[0];
-    let b = colour.samples[1];
-    let c = colour.samples[2];
-    let d = colour.samples[3];
+    let [a, b, c, d] = colour.samples;
     match space {
         RGB => Ok(Channels::Rgb(rgb_channel(a), rgb_channel(b), rgb_channel(c))),
         CMYK => Ok(Channels::Cmyk(

@@ -39,6 +39,7 @@ fn nearest(full: u16, bits: u32) -> u16
 }
 
 /// The sample of a channel of RGB, which was judged.
+// Kept: a name for each of the two scales, since a public function asks nothing of its scale.
 pub fn rgb_sample(bits: u32) -> u16
     ensures { result ≡ sample_of_bits (traits_of Rgb).full bits }
 {
