@@ -19,10 +19,11 @@ use Rattle.colour.specs.Spaces.{known, allowed, sound}
 use Rattle.colour.proofs.Laws.{sound-inv}
 use Rattle.aco.specs.Reading.{most, space, sample, samples, colour, heading, field_of, repeated_field, Entry, entry, Contents, zero_colour, second, unnamed, after, lists, aco, version, first_count}
 use Rattle.aco.specs.scaffold.Raw.{raw_colour, raw_colours, headed, after_heading}
-use Rattle.algebra.specs.Table.{accepted, refused, verdict}
+use Rattle.algebra.specs.Table.{Verdict, accepted, refused, verdict}
 use Rattle.fault.specs.Fault.{number_of}
-use Rattle.aco_judge.specs.Answer.{report, rejected}
-use Rattle.aco_judge.specs.scaffold.Answer.{refused_as}
+use Rattle.aco_judge.specs.Answer.{report, rejected, told}
+use Rattle.aco_judge.specs.scaffold.Answer.{refused_as, told_repeated}
+use Rattle.aco_judge.specs.declared.Counts.{Counts}
 use Rattle.aco_judge.specs.declared.Rejection.{Rejection}
 use Rattle.aco_judge.specs.declared.Rejection.TheVariants as rejection
 use Rattle.aco.proofs.Raw.{colours-raw, colours-inside, length-raw, field-raw, get_d-raw}
@@ -87,6 +88,13 @@ rejecting (rejection.Differ p r f) = record { number = 7; place = p; which = r; 
 pub err-exit : {A E B : Type 0} (f : Result A E → B) (r : Result A E) (e : E) {m : B} → IsErrAnd r (λ y. y ≡ e) → f (Err e) ≡ m → f r ≡ m
 err-exit f r e h rest = let p = err_from_is_err_and r h in ap f (p.1 ∙ ap Err p.2) ∙ rest
 
+-- the same of a rejection, where what refuses it is what refuses the whole
+pub repeated-exit : (r : Result ℕ Rejection) (e : Rejection) {m all : Res Unit} → IsErrAnd r (λ y. y ≡ e) → refused_as e ≡ m → ((x p r f : ℕ) → m ≡ refuse x p r f → all ≡ refuse x p r f) → told_repeated r ≡ all
+repeated-exit r e h is go = let z = rejecting e in err-exit told_repeated r e h (z.reading ∙ sym (go _ _ _ _ (sym is ∙ z.reading)))
+
+pub judged-exit : (r : Result Counts Rejection) (e : Rejection) {m : Res Unit} {all : Verdict (ℕ × ℕ)} → IsErrAnd r (λ y. y ≡ e) → refused_as e ≡ m → ((x p r f : ℕ) → m ≡ refuse x p r f → all ≡ refused x p r f) → told r ≡ all
+judged-exit r e h is go = let z = rejecting e in err-exit told r e h (z.judging ∙ sym (go _ _ _ _ (sym is ∙ z.reading)))
+
 -- ---- a record of list 2, where list 1 has the colour c
 
 abbrev with-name : Colour → Name → Entry
@@ -101,15 +109,15 @@ module _ (s : List ℕ) (i : ℕ) (c : Colour) (at : ℕ) where
   unfolding entry
   entry-parts = entry-done-by (each 5 0 (repeated_field i c) s at) (λ a. name 4 s a) c
 
-  pub entry-refused : (e : Rejection) → refused_as e ≡ done (each 5 0 (repeated_field i c) s at) → refused_as e ≡ done (entry i c s at)
-  entry-refused e h = let z = rejecting e in z.reading ∙ sym (entry-parts ∙ rw (sym h ∙ z.reading))
+  pub entry-refused : {x p r f : ℕ} → done (each 5 0 (repeated_field i c) s at) ≡ refuse x p r f → done (entry i c s at) ≡ refuse x p r f
+  entry-refused e = entry-parts ∙ rw e
 
   pub entry-named : {a : ℕ} → ok tt a ≡ done (each 5 0 (repeated_field i c) s at) → done (place (name 4 s a)) ≡ done (entry i c s at)
   entry-named {a = a} e = done-place (name 4 s a) ∙ sym (entry-parts ∙ rw (sym e))
 
 module _ (s : List ℕ) (c : Colour) (i f at : ℕ) where
-  pub repeat_short : refuse 2 at 0 0 ≡ field 2 s at → done (repeated_field i c f s at) ≡ refuse 2 at 0 0
-  repeat_short e = rw (← e)
+  pub repeat-refused : {x p r g : ℕ} → refuse x p r g ≡ field 2 s at → done (repeated_field i c f s at) ≡ refuse x p r g
+  repeat-refused e = rw (← e)
 
   pub repeat-differs : (v n : ℕ) → ok v n ≡ field 2 s at → (v ≡ field_of c f → ⊥) → done (repeated_field i c f s at) ≡ refuse 7 at i f
   repeat-differs v n e h = rw (← e) (simp (ne_eqb _ _ h))
