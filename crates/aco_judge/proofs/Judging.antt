@@ -11,17 +11,25 @@ use native.Mathlib.Nat.{add-zero}
 use Rattle.algebra.specs.Numbers.{num}
 use Rattle.algebra.specs.Reader.{Res, ok, refuse, Reader, then, pick, rule, field, done, or_zero, each, judged, Judged, fine, fault, limit}
 use Rattle.algebra.specs.Text.{Name, name, place}
-use Rattle.algebra.proofs.Laws.{field_in, judged-short, judged-bad, judged-ok, then_ok, done-refuse, done-const, ended-done, each_turn, turn-ok, turn_end, inner-ok}
+use Rattle.algebra.proofs.Laws.{field_in, judged-short, judged-bad, judged-ok, then_ok, done-refuse, done-const, ended-done, turn-ok, turn_end}
 use Rattle.algebra.proofs.Texts.{done-place}
 use Rattle.algebra.proofs.Inverse.{then-inv, field-inv, judged-inv, ended-inv, done-inv, each-length}
 use Rattle.colour.specs.declared.space.Colour.{Colour}
 use Rattle.colour.specs.Spaces.{known, allowed, sound}
 use Rattle.colour.proofs.Laws.{sound-inv}
 use Rattle.aco.specs.Reading.{most, space, sample, samples, colour, heading, field_of, repeated_field, Entry, entry, Contents, zero_colour, second, unnamed, after, lists, aco, version, first_count}
-use Rattle.aco.specs.scaffold.Raw.{raw_colours, headed, after_heading}
-use Rattle.algebra.specs.Table.{accepted, refused, verdict}
-use Rattle.aco_judge.specs.Answer.{report}
-use Rattle.aco.proofs.Raw.{colours-raw, colours-inside, length-raw, fields-raw}
+use Rattle.aco.specs.scaffold.Raw.{raw_colour, raw_colours, headed, after_heading}
+use Rattle.algebra.specs.Table.{Verdict, accepted, refused, verdict}
+use Rattle.fault.specs.Fault.{number_of}
+use Rattle.aco_judge.specs.Answer.{report, rejected, told}
+use Rattle.aco_judge.specs.scaffold.Answer.{refused_as, told_repeated}
+use Rattle.aco_judge.specs.declared.Counts.{Counts}
+use Rattle.aco_judge.specs.declared.Rejection.{Rejection}
+use Rattle.aco_judge.specs.declared.Rejection.TheVariants as rejection
+use Rattle.aco.proofs.Raw.{colours-raw, colours-inside, length-raw, field-raw, get_d-raw}
+use Rattle.std.specs.Prelude.{Result, Err}
+use Rattle.std.specs.Result.{IsErrAnd}
+use Rattle.std.proofs.lemmas.Result.{err_from_is_err_and}
 
 -- ---- a colour
 
@@ -62,40 +70,54 @@ colour-sound s at x a b c d h ex ea eb ec ed e =
     ∙ samples-sound s x (at + 2) (at + 4) (at + 6) (at + 8) (at + 10) (omega arith) (omega arith) (omega arith) (omega arith) h
     (ap (allowed x 0) (sym ea) ∙ g.first) (ap (allowed x 1) (sym eb) ∙ g.second) (ap (allowed x 2) (sym ec) ∙ g.third) (ap (allowed x 3) (sym ed) ∙ g.fourth)
 
--- ---- the records of list 2, where list 1 has the colours cs
+-- ---- a rejection
+
+pub record Rejecting (e : Rejection) : Type 0 where
+  pub number : ℕ
+  pub place : ℕ
+  pub which : ℕ
+  pub field : ℕ
+  pub reading : refused_as {A = Unit} e ≡ refuse number place which field
+  pub judging : rejected {A = ℕ × ℕ} e ≡ refused number place which field
+
+pub rejecting : (e : Rejection) → Rejecting e
+rejecting (rejection.Refused e) = record { number = number_of e.0; place = e.1; which = 0; field = 0; reading = refl; judging = refl }
+rejecting (rejection.Differ p r f) = record { number = 7; place = p; which = r; field = f; reading = refl; judging = refl }
+
+-- where a `?` hands an error on
+pub err-exit : {A E B : Type 0} (f : Result A E → B) (r : Result A E) (e : E) {m : B} → IsErrAnd r (λ y. y ≡ e) → f (Err e) ≡ m → f r ≡ m
+err-exit f r e h rest = let p = err_from_is_err_and r h in ap f (p.1 ∙ ap Err p.2) ∙ rest
+
+-- the same of a rejection, where what refuses it is what refuses the whole
+pub repeated-exit : (r : Result ℕ Rejection) (e : Rejection) {m all : Res Unit} → IsErrAnd r (λ y. y ≡ e) → refused_as e ≡ m → ((x p r f : ℕ) → m ≡ refuse x p r f → all ≡ refuse x p r f) → told_repeated r ≡ all
+repeated-exit r e h is go = let z = rejecting e in err-exit told_repeated r e h (z.reading ∙ sym (go _ _ _ _ (sym is ∙ z.reading)))
+
+pub judged-exit : (r : Result Counts Rejection) (e : Rejection) {m : Res Unit} {all : Verdict (ℕ × ℕ)} → IsErrAnd r (λ y. y ≡ e) → refused_as e ≡ m → ((x p r f : ℕ) → m ≡ refuse x p r f → all ≡ refused x p r f) → told r ≡ all
+judged-exit r e h is go = let z = rejecting e in err-exit told r e h (z.judging ∙ sym (go _ _ _ _ (sym is ∙ z.reading)))
+
+-- ---- a record of list 2, where list 1 has the colour c
 
 abbrev with-name : Colour → Name → Entry
 with-name c nm = record { colour = c; name = nm }
 
-entry-done-by : {A : Type 0} (m : Res A) (nm : ℕ → Res Name) (c : Colour) (k : ℕ → Res Unit)
-    → then (done (then m (λ vs a. then (nm a) (λ x q. ok (with-name c x) q)))) (λ u q. k q) ≡ then (done m) (λ u a. then (done (nm a)) (λ u q. k q))
-entry-done-by (ok vs a) nm c k = ap (λ (m : Res Unit). then m (λ u q. k q)) (then_ok (λ (x : Name). with-name c x) (nm a))
-entry-done-by (refuse x p r f) nm c k = refl
+entry-done-by : {A : Type 0} (m : Res A) (nm : ℕ → Res Name) (c : Colour) → done (then m (λ vs a. then (nm a) (λ x q. ok (with-name c x) q))) ≡ then (done m) (λ u a. done (nm a))
+entry-done-by (ok vs a) nm c = then_ok (λ (x : Name). with-name c x) (nm a)
+entry-done-by (refuse x p r f) nm c = refl
 
-abbrev pub entry_of : List Colour → ℕ → Reader Entry
-entry_of cs i = entry i (get_or cs i zero_colour)
-
--- what follows the five fields of record i: its name, and the records after it
-abbrev pub named : List Colour → ℕ → List ℕ → ℕ → ℕ → Res Unit
-named cs n s i a = then (done (name 4 s a)) (λ u q. done (each (n - (i + 1)) (i + 1) (entry_of cs) s q))
-
-module _ (s : List ℕ) (cs : List Colour) where
-  pub entry-start : (all : Res Unit) (n i at : ℕ) → all ≡ done (each (n - i) i (entry_of cs) s at) → i < n
-      → all ≡ then (done (each (5 - 0) 0 (repeated_field i (get_or cs i zero_colour)) s at)) (λ u q. named cs n s i q)
+module _ (s : List ℕ) (i : ℕ) (c : Colour) (at : ℕ) where
+  entry-parts : done (entry i c s at) ≡ then (done (each 5 0 (repeated_field i c) s at)) (λ u a. done (name 4 s a))
   unfolding entry
-  entry-start all n i at inv h =
-      inv ∙ each_turn (entry_of cs) s n i at h
-      ∙ entry-done-by (each 5 0 (repeated_field i (get_or cs i zero_colour)) s at) (λ a. name 4 s a) (get_or cs i zero_colour) (λ q. done (each (n - (i + 1)) (i + 1) (entry_of cs) s q))
+  entry-parts = entry-done-by (each 5 0 (repeated_field i c) s at) (λ a. name 4 s a) c
 
-  pub entry_named : (all : Res Unit) (n i at : ℕ) → all ≡ named cs n s i at → {f u q : ℕ} → place (name 4 s at) ≡ ok (f, u) q → all ≡ done (each (n - (i + 1)) (i + 1) (entry_of cs) s q)
-  entry_named all n i at inv e = inv ∙ rw (sym (done-place (name 4 s at)) ∙ ap done e)
+  pub entry-refused : {x p r f : ℕ} → done (each 5 0 (repeated_field i c) s at) ≡ refuse x p r f → done (entry i c s at) ≡ refuse x p r f
+  entry-refused e = entry-parts ∙ rw e
 
-  pub entry-refused : (all : Res Unit) (n i at : ℕ) → all ≡ named cs n s i at → {x q r f : ℕ} → place (name 4 s at) ≡ refuse x q r f → all ≡ refuse x q r f
-  entry-refused all n i at inv e = inv ∙ rw (sym (done-place (name 4 s at)) ∙ ap done e)
+  pub entry-named : {a : ℕ} → ok tt a ≡ done (each 5 0 (repeated_field i c) s at) → done (place (name 4 s a)) ≡ done (entry i c s at)
+  entry-named {a = a} e = done-place (name 4 s a) ∙ sym (entry-parts ∙ rw (sym e))
 
 module _ (s : List ℕ) (c : Colour) (i f at : ℕ) where
-  pub repeat_short : refuse 2 at 0 0 ≡ field 2 s at → done (repeated_field i c f s at) ≡ refuse 2 at 0 0
-  repeat_short e = rw (← e)
+  pub repeat-refused : {x p r g : ℕ} → refuse x p r g ≡ field 2 s at → done (repeated_field i c f s at) ≡ refuse x p r g
+  repeat-refused e = rw (← e)
 
   pub repeat-differs : (v n : ℕ) → ok v n ≡ field 2 s at → (v ≡ field_of c f → ⊥) → done (repeated_field i c f s at) ≡ refuse 7 at i f
   repeat-differs v n e h = rw (← e) (simp (ne_eqb _ _ h))
@@ -104,21 +126,31 @@ module _ (s : List ℕ) (c : Colour) (i f at : ℕ) where
   repeat-same v n e h = rw (← e) (simp (eq-eqb _ _ h))
 
 -- the five fields where all are the same
-module _ (s : List ℕ) (c : Colour) (i at : ℕ) (all : Res Unit) (k : ℕ → Res Unit) (h : at + 10 ≤ length s) (same : (f : ℕ) → f < 5 → num 2 s (at + 2 * f) ≡ field_of c f) where
-  repeats-turn : (f : ℕ) → f < 5 → all ≡ then (done (each (5 - f) f (repeated_field i c) s (at + 2 * f))) (λ u q. k q)
-      → all ≡ then (done (each (5 - (f + 1)) (f + 1) (repeated_field i c) s (at + 2 * (f + 1)))) (λ u q. k q)
-  repeats-turn f l inv =
+module _ (s : List ℕ) (c : Colour) (i at : ℕ) (h : at + 10 ≤ length s) (same : (f : ℕ) → f < 5 → num 2 s (at + 2 * f) ≡ field_of c f) where
+  repeats-turn : (all : Res Unit) (f : ℕ) → f < 5 → all ≡ done (each (5 - f) f (repeated_field i c) s (at + 2 * f)) → all ≡ done (each (5 - (f + 1)) (f + 1) (repeated_field i c) s (at + 2 * (f + 1)))
+  repeats-turn all f l inv =
       let p : at + 2 * f + 2 ≡ at + 2 * (f + 1) = omega arith in
-      inner-ok (repeated_field i c) s all k 5 f (at + 2 * f) inv l _ (repeat-same s c i f (at + 2 * f) _ _ (sym (field_in 2 s (at + 2 * f) (omega arith))) (same f l) ∙ ap (λ (n : ℕ). ok tt n) p)
+      turn-ok (repeated_field i c) s all 5 f (at + 2 * f) inv l _ (repeat-same s c i f (at + 2 * f) _ _ (sym (field_in 2 s (at + 2 * f) (omega arith))) (same f l) ∙ ap (λ (n : ℕ). ok tt n) p)
 
-  pub repeats-same : all ≡ then (done (each (5 - 0) 0 (repeated_field i c) s at)) (λ u q. k q) → all ≡ then (done (each (5 - 5) 5 (repeated_field i c) s (at + 10))) (λ u q. k q)
-  repeats-same inv =
-      let start = inv ∙ ap (λ (p : ℕ). then (done (each 5 0 (repeated_field i c) s p)) (λ u q. k q)) (sym (add-zero at)) in
-      repeats-turn 4 (omega arith) (repeats-turn 3 (omega arith) (repeats-turn 2 (omega arith) (repeats-turn 1 (omega arith) (repeats-turn 0 (omega arith) start))))
+  pub repeats-same : done (each 5 0 (repeated_field i c) s at) ≡ ok tt (at + 10)
+  repeats-same =
+      let all = done (each 5 0 (repeated_field i c) s at) in
+      let start = ap (λ (p : ℕ). done (each 5 0 (repeated_field i c) s p)) (sym (add-zero at)) in
+      turn_end (repeated_field i c) s all 5 5 (at + 10)
+      (repeats-turn all 4 (omega arith) (repeats-turn all 3 (omega arith) (repeats-turn all 2 (omega arith) (repeats-turn all 1 (omega arith) (repeats-turn all 0 (omega arith) start))))) (omega arith)
 
--- field f of colour i of list 1, as it is loaded
-pub raw-field : (n : ℕ) (s : List ℕ) (i f v : ℕ) → 4 + 10 * n ≤ length s → i < n → f < 5 → v ≡ or_zero (field 2 s (4 + 10 * i + 2 * f)) → v ≡ field_of (get_or (raw_colours n s 4) i zero_colour) f
-raw-field n s i f v h g k e = e ∙ ap or_zero (field_in 2 s (4 + 10 * i + 2 * f) (omega arith)) ∙ sym (fields-raw n s 4 i f g k)
+-- field f of the colour at a place, as it is loaded
+pub loaded-field : (s : List ℕ) (at f v : ℕ) → at + 10 ≤ length s → f < 5 → v ≡ or_zero (field 2 s (at + 2 * f)) → v ≡ field_of (raw_colour s at) f
+loaded-field s at f v h k e = e ∙ ap or_zero (field_in 2 s (at + 2 * f) (omega arith)) ∙ sym (field-raw s at f k)
+
+-- ---- the records of list 2, where list 1 has the colours cs
+
+abbrev pub entry_of : List Colour → ℕ → Reader Entry
+entry_of cs i = entry i (get_or cs i zero_colour)
+
+-- record i by the colour that stands at its place in list 1
+pub entry-raw : (n : ℕ) (s : List ℕ) (i at : ℕ) → i < n → done (entry_of (raw_colours n s 4) i s at) ≡ done (entry i (raw_colour s (4 + 10 * i)) s at)
+entry-raw n s i at h = ap (λ (c : Colour). done (entry i c s at)) (get_d-raw n s 4 i h)
 
 -- ---- a heading
 

@@ -1,31 +1,31 @@
 // ACO swatches: judging a file by the layout.
 #![tactic(auto)]
 
-ghost use Rattle.std.specs.Prelude.{◌≡◌, true, ◌+◌, ◌*◌, ◌≤◌, length, get_or};
+ghost use Rattle.std.specs.Prelude.{◌≡◌, true, ◌+◌, ◌*◌, ◌≤◌, ◌<◌, length, get_or};
 ghost use Rattle.algebra.specs.Reader.{done, each};
-ghost use Rattle.fields.specs.Answer.{told_field_end};
-ghost use Rattle.aco.specs.Reading.{samples, colour, entry, zero_colour, second, aco};
-ghost use Rattle.aco.specs.scaffold.Raw.{raw_colours, headed, after_heading, SoundAt, SameAt};
 ghost use Rattle.algebra.specs.Table.{verdict};
+ghost use Rattle.fault.specs.Answer.{told_end, told_at};
+ghost use Rattle.aco.specs.Reading.{samples, colour, repeated_field, entry, zero_colour, second, aco};
+ghost use Rattle.aco.specs.scaffold.Raw.{raw_colour, raw_colours, headed, after_heading, SoundAt, SameAt};
 ghost use Rattle.aco_judge.specs.Answer.{told, report};
-ghost use Rattle.aco_judge.specs.scaffold.Answer.{told_heading, told_list_two_end};
+ghost use Rattle.aco_judge.specs.scaffold.Answer.{told_repeated};
+ghost use Rattle.aco_judge.specs.declared.Rejection.TheVariants as rejection;
 
 use aco::{LIMIT, MOST};
-use fields::{FieldEnd, Number16};
-use names::NameAt;
+use fault::{Fault, Refusal};
 
-// What a file is found to be. Differ is refusal 7, with the first differing record and in it the
-// first differing field.
-#[derive(Drop)]
-pub enum Answer {
-    Accepted {
-        colours: usize,
-        lists: usize,
-    },
-    Refused {
-        number: u32,
-        place: usize,
-    },
+/// What an accepted file holds.
+#[derive(Clone, Copy, Debug, PartialEq, Eq)]
+pub struct Counts {
+    pub colours: usize,
+    pub lists: usize,
+}
+
+/// Why a file is not accepted.
+#[derive(Clone, Copy, Debug, PartialEq, Eq)]
+pub enum Rejection {
+    Refused(Refusal),
+    /// The two lists differ: the first differing record, and in it the first differing field.
     Differ {
         place: usize,
         record: usize,
@@ -33,49 +33,36 @@ pub enum Answer {
     },
 }
 
-// A list's count and the next place, or a refusal.
-#[derive(Drop)]
-pub enum Heading {
-    Is(u16, usize),
-    Refused(u32, usize),
-}
+impl From<Refusal> for Rejection {
+    ghost from_gives = { λ refusal r. r ≡ rejection.Refused refusal };
 
-// How far list 2 goes: the next place, a refusal, or where it differs from list 1.
-#[derive(Drop)]
-enum ListTwoEnd {
-    Next(usize),
-    Refused(u32, usize),
-    Differ(usize, usize, usize),
+    fn from(refusal: Refusal) -> Rejection {
+        Rejection::Refused(refusal)
+    }
 }
 
 // The four samples from `at` of a colour of a space.
-fn samples_at(file: &[u8], at: usize, space: u16) -> FieldEnd
-    ensures { told_field_end result ≡ done (samples space file.now at) }
+fn samples_at(file: &[u8], at: usize, space: u16) -> Result<usize, Refusal>
+    ensures { told_end result ≡ done (samples space file.now at) }
 {
-    let mut k: u16 = 0;
     let mut p = at;
-    while k < 4 {
-        let Number16::Is(v, next) = fields::u16_at(file, p) else {
-            return FieldEnd::Refused(2, p);
-        };
+    for k in 0..4 {
+        let (v, next) = fields::number_at::<u16>(file, p)?;
         if !colour::is_allowed(space, k, v) {
-            return FieldEnd::Refused(5, p);
+            return Err(Refusal(Fault::OutOfRange, p));
         }
         p = next;
-        k += 1;
     }
-    FieldEnd::Next(p)
+    Ok(p)
 }
 
 // The colour at `at`, field by field up to its first fault.
-fn fields_at(file: &[u8], at: usize) -> FieldEnd
-    ensures { told_field_end result ≡ done (colour file.now at) }
+fn fields_at(file: &[u8], at: usize) -> Result<usize, Refusal>
+    ensures { told_end result ≡ done (colour file.now at) }
 {
-    let Number16::Is(space, next) = fields::u16_at(file, at) else {
-        return FieldEnd::Refused(2, at);
-    };
+    let (space, next) = fields::number_at::<u16>(file, at)?;
     if !colour::is_known(space) {
-        return FieldEnd::Refused(4, at);
+        return Err(Refusal(Fault::Unknown, at));
     }
     samples_at(file, next, space)
 }
@@ -94,43 +81,35 @@ fn is_sound(file: &[u8], at: usize) -> bool
     }
     let end = at + 10;
     let part = &file[at..end];
-    let space = fields::u16_or_zero(part, 0);
-    let a = fields::u16_or_zero(part, 2);
-    let b = fields::u16_or_zero(part, 4);
-    let c = fields::u16_or_zero(part, 6);
-    let d = fields::u16_or_zero(part, 8);
+    let space = fields::number_or_zero::<u16>(part, 0);
+    let a = fields::number_or_zero::<u16>(part, 2);
+    let b = fields::number_or_zero::<u16>(part, 4);
+    let c = fields::number_or_zero::<u16>(part, 6);
+    let d = fields::number_or_zero::<u16>(part, 8);
     colour::is_sound(space, a, b, c, d)
 }
 
-// The colour at `at`. Nearly all are sound, and only another is looked into.
-pub fn colour_at(file: &[u8], at: usize) -> FieldEnd
-    ensures { told_field_end result ≡ done (colour file.now at) }
+/// The place after the colour at `at`.
+pub fn colour_at(file: &[u8], at: usize) -> Result<usize, Refusal>
+    ensures { told_end result ≡ done (colour file.now at) }
 {
+    // Nearly all are sound, and only another is looked into.
     if is_sound(file, at) {
-        return FieldEnd::Next(at + 10);
+        return Ok(at + 10);
     }
     fields_at(file, at)
 }
 
 // The n colours of list 1 from `at`.
-fn colours_at(file: &[u8], at: usize, n: u16) -> FieldEnd
+fn colours_at(file: &[u8], at: usize, n: u16) -> Result<usize, Refusal>
     requires { at ≤ length file.now }
-    ensures { told_field_end result ≡ done (each n 0 (λ i. colour) file.now at) }
+    ensures { told_end result ≡ done (each n 0 (λ i. colour) file.now at) }
 {
-    let mut i: u16 = 0;
     let mut p = at;
-    while i < n {
-        match colour_at(file, p) {
-            FieldEnd::Next(next) => {
-                p = next;
-            }
-            FieldEnd::Refused(x, q) => {
-                return FieldEnd::Refused(x, q);
-            }
-        }
-        i += 1;
+    for _i in 0..n {
+        p = colour_at(file, p)?;
     }
-    FieldEnd::Next(p)
+    Ok(p)
 }
 
 // Whether ten bytes stand at `at`, the same as the ten at `first`.
@@ -146,151 +125,118 @@ fn is_same(file: &[u8], at: usize, first: usize) -> bool
     let last = first + 10;
     let a = &file[at..end];
     let b = &file[first..last];
-    if fields::u64_or_zero(a, 0) != fields::u64_or_zero(b, 0) {
+    if fields::number_or_zero::<u64>(a, 0) != fields::number_or_zero::<u64>(b, 0) {
         return false;
     }
-    fields::u16_or_zero(a, 8) == fields::u16_or_zero(b, 8)
+    fields::number_or_zero::<u16>(a, 8) == fields::number_or_zero::<u16>(b, 8)
 }
 
-// The n records of list 2 from `at`, compared with list 1, which stands at 4. Nearly all are the
-// same, and only in another is a field looked for that differs.
-fn entries_at(file: &[u8], at: usize, n: u16) -> ListTwoEnd
-    requires { 4 + 10 * n ≤ length file.now }
-    ensures { told_list_two_end result ≡ done (each n 0 (λ i. entry i (get_or (raw_colours n file.now 4) i zero_colour)) file.now at) }
+// The five fields at `at` of record i of list 2, each compared with that of list 1, which stands
+// at 4.
+fn compared_at(file: &[u8], at: usize, i: usize) -> Result<usize, Rejection>
+    requires { 4 + 10 * i + 10 ≤ length file.now }
+    ensures { told_repeated result ≡ done (each 5 0 (repeated_field i (raw_colour file.now (4 + 10 * i))) file.now at) }
 {
-    let count = n as usize;
-    let mut i: usize = 0;
-    let mut f: usize = 0;
     let mut p = at;
-    'records: while i < count {
-        f = 0;
-        if is_same(file, p, 4 + 10 * i) {
-            f = 5;
-            p += 10;
+    for f in 0..5 {
+        let (v, next) = fields::number_at::<u16>(file, p)?;
+        if v != fields::number_or_zero::<u16>(file, 4 + 10 * i + 2 * f) {
+            return Err(Rejection::Differ {
+                place: p,
+                record: i,
+                field: f,
+            });
         }
-        while f < 5 {
-            let Number16::Is(v, next) = fields::u16_at(file, p) else {
-                return ListTwoEnd::Refused(2, p);
-            };
-            if v != fields::u16_or_zero(file, 4 + 10 * i + 2 * f) {
-                break 'records;
-            }
-            p = next;
-            f += 1;
-        }
-        match names::name32_at(file, p) {
-            NameAt::Is(_, _, next) => {
-                p = next;
-            }
-            NameAt::Refused(x, q) => {
-                return ListTwoEnd::Refused(x, q);
-            }
-        }
-        i += 1;
+        p = next;
     }
-    if i < count {
-        return ListTwoEnd::Differ(p, i, f);
-    }
-    ListTwoEnd::Next(p)
+    Ok(p)
 }
 
-// A list's version, which must be this one, and its count, which is not judged here.
-pub fn heading_at(file: &[u8], at: usize, version: u16) -> Heading
-    ensures { told_heading result ≡ headed version file.now at }
+// The same. Nearly all are those of list 1, and only in another is a field looked for that differs.
+fn repeated_at(file: &[u8], at: usize, i: usize) -> Result<usize, Rejection>
+    requires { 4 + 10 * i + 10 ≤ length file.now }
+    ensures { told_repeated result ≡ done (each 5 0 (repeated_field i (raw_colour file.now (4 + 10 * i))) file.now at) }
 {
-    match fields::u16_is(file, at, version, 3) {
-        FieldEnd::Refused(x, q) => Heading::Refused(x, q),
-        FieldEnd::Next(b) => match fields::u16_at(file, b) {
-            Number16::Is(n, next) => Heading::Is(n, next),
-            Number16::Short => Heading::Refused(2, b),
-        },
+    if is_same(file, at, 4 + 10 * i) {
+        return Ok(at + 10);
     }
+    compared_at(file, at, i)
+}
+
+// Record i of list 2.
+fn entry_at(file: &[u8], at: usize, i: usize) -> Result<usize, Rejection>
+    requires { 4 + 10 * i + 10 ≤ length file.now }
+    ensures { told_repeated result ≡ done (entry i (raw_colour file.now (4 + 10 * i)) file.now at) }
+{
+    let name = repeated_at(file, at, i)?;
+    let (_, next) = names::name_at::<u32>(file, name)?;
+    Ok(next)
+}
+
+// The n records of list 2 from `at`.
+fn entries_at(file: &[u8], at: usize, n: u16) -> Result<usize, Rejection>
+    requires { 4 + 10 * n ≤ length file.now }
+    ensures { told_repeated result ≡ done (each n 0 (λ i. entry i (get_or (raw_colours n file.now 4) i zero_colour)) file.now at) }
+{
+    let mut p = at;
+    for i in 0..n as usize {
+        p = entry_at(file, p, i)?;
+    }
+    Ok(p)
+}
+
+/// A list's count, which is not judged here, and the next place, where its version is this one.
+pub fn heading_at(file: &[u8], at: usize, version: u16) -> Result<(u16, usize), Refusal>
+    ensures { told_at (λ n. n) result ≡ headed version file.now at }
+{
+    let count = fields::number_is(file, at, version, Fault::WrongTag)?;
+    fields::number_at::<u16>(file, count)
 }
 
 // List 2 from `at`, where list 1 has n colours, and the file's end.
-fn second_at(file: &[u8], at: usize, n: u16) -> ListTwoEnd
+fn second_at(file: &[u8], at: usize, n: u16) -> Result<usize, Rejection>
     requires { (4 + 10 * n ≤ at) × (at ≤ length file.now) }
-    ensures { told_list_two_end result ≡ done (second (raw_colours n file.now 4) file.now at) }
+    ensures { told_repeated result ≡ done (second (raw_colours n file.now 4) file.now at) }
 {
-    match heading_at(file, at, 2) {
-        Heading::Refused(x, q) => ListTwoEnd::Refused(x, q),
-        Heading::Is(m, next) => {
-            if m != n {
-                return ListTwoEnd::Differ(at + 2, 0, 5);
-            }
-            match entries_at(file, next, n) {
-                ListTwoEnd::Next(end) => {
-                    if end == file.len() {
-                        return ListTwoEnd::Next(end);
-                    }
-                    ListTwoEnd::Refused(6, end)
-                }
-                ListTwoEnd::Refused(x, q) => ListTwoEnd::Refused(x, q),
-                ListTwoEnd::Differ(q, i, f) => ListTwoEnd::Differ(q, i, f),
-            }
-        }
+    let (m, first) = heading_at(file, at, 2)?;
+    if m != n {
+        return Err(Rejection::Differ {
+            place: at + 2,
+            record: 0,
+            field: 5,
+        });
     }
+    let end = entries_at(file, first, n)?;
+    if end != file.len() {
+        return Err(Rejection::Refused(Refusal(Fault::LeftOver, end)));
+    }
+    Ok(end)
 }
 
 // The lists after the first heading: n colours from 4, and what follows them.
-fn lists_at(file: &[u8], n: u16) -> Answer
+fn lists_at(file: &[u8], n: u16) -> Result<Counts, Rejection>
     requires { 4 ≤ length file.now }
     ensures { told result ≡ verdict report (after_heading n file.now 4) }
 {
-    match colours_at(file, 4, n) {
-        FieldEnd::Refused(x, q) => Answer::Refused {
-            number: x,
-            place: q,
-        },
-        FieldEnd::Next(end) => {
-            if end == file.len() {
-                return Answer::Accepted {
-                    colours: n as usize,
-                    lists: 1,
-                };
-            }
-            match second_at(file, end, n) {
-                ListTwoEnd::Next(_) => Answer::Accepted {
-                    colours: n as usize,
-                    lists: 2,
-                },
-                ListTwoEnd::Refused(x, q) => Answer::Refused {
-                    number: x,
-                    place: q,
-                },
-                ListTwoEnd::Differ(q, i, f) => Answer::Differ {
-                    place: q,
-                    record: i,
-                    field: f,
-                },
-            }
-        }
+    let colours = n as usize;
+    let end = colours_at(file, 4, n)?;
+    if end == file.len() {
+        return Ok(Counts { colours, lists: 1 });
     }
+    second_at(file, end, n)?;
+    Ok(Counts { colours, lists: 2 })
 }
 
-// The whole file.
-pub fn judge(file: &[u8]) -> Answer
+/// The whole file.
+pub fn judge(file: &[u8]) -> Result<Counts, Rejection>
     ensures { told result ≡ verdict report (aco file.now) }
 {
     if LIMIT < file.len() {
-        return Answer::Refused {
-            number: 1,
-            place: 0,
-        };
+        return Err(Rejection::Refused(Refusal(Fault::TooLong, 0)));
     }
-    match heading_at(file, 0, 1) {
-        Heading::Refused(x, q) => Answer::Refused {
-            number: x,
-            place: q,
-        },
-        Heading::Is(n, _) => {
-            if MOST < n {
-                return Answer::Refused {
-                    number: 5,
-                    place: 2,
-                };
-            }
-            lists_at(file, n)
-        }
+    let (n, _) = heading_at(file, 0, 1)?;
+    if MOST < n {
+        return Err(Rejection::Refused(Refusal(Fault::OutOfRange, 2)));
     }
+    lists_at(file, n)
 }

@@ -10,17 +10,22 @@ use native.Mathlib.Omega.{arith}
 use native.Mathlib.Decide.{ℕ_discrete}
 use Rattle.algebra.specs.Numbers.{joined}
 use Rattle.algebra.specs.Reader.{Res, ok, refuse, pick}
-use Rattle.algebra.specs.Table.{Verdict, accepted, refused, seen}
+use Rattle.algebra.specs.Table.{Verdict, accepted, refused, verdict, seen}
 use Rattle.algebra.specs.Filling.{Accepted}
 use Rattle.algebra.proofs.Places.{length-nums}
-use Rattle.algebra.proofs.Table.{record-found}
+use Rattle.algebra.proofs.Table.{record-found, record-refused, filled-refused}
+use Rattle.colour.specs.declared.space.Colour.{Colour}
 use Rattle.aco.specs.Reading.{Entry, Contents, zero_colour, unnamed, aco}
 use Rattle.aco.specs.Row.{RecordRow, width, numbers, named_with, given_of, row}
 use Rattle.aco.specs.scaffold.Raw.{raw_colour}
 use Rattle.aco.proofs.Row.{length-numbers}
 use Rattle.aco.proofs.RoundTrip.{lists-are}
-use Rattle.aco_judge.specs.Answer.{report}
-use Rattle.aco_read.specs.Table.{records, record_at, by_value, name_bytes_in, records_of}
+use Rattle.std.specs.Prelude.{Err}
+use Rattle.aco_judge.specs.Answer.{report, rejected}
+use Rattle.aco_judge.specs.declared.Rejection.{Rejection}
+use Rattle.aco_judge.proofs.Judging.{rejecting}
+use Rattle.aco_read.specs.Answer.{told_record}
+use Rattle.aco_read.specs.Table.{records, filled, record_at, by_value, name_bytes_in, records_of}
 use Rattle.aco_read.proofs.Filling.{listed, length-records, nth, plain_in, plain-is, named_in, named-colour, named-is}
 
 -- the number of colours is that of the records
@@ -109,6 +114,21 @@ name-part s (accepted g) p u e =
     ap₂ (λ (m n : ℕ). take m (drop n s)) k (sym j.0)
 name-part s (refused x q r f) p u e = let w : ◌≡◌ {A = ℕ} 0 1 = cc in absurd (omega arith)
 
-pub name-none : (s : List ℕ) (v : Verdict RecordRow) {x p r f : ℕ} → (by_value v).1 ≡ refused x p r f → [] ≡ name_bytes_in s v
+name-none : (s : List ℕ) (v : Verdict RecordRow) {x p r f : ℕ} → (by_value v).1 ≡ refused x p r f → [] ≡ name_bytes_in s v
 name-none s (accepted g) e = let w : ◌≡◌ {A = ℕ} 0 1 = cc in absurd (omega arith)
 name-none s (refused x p r f) e = refl
+
+-- ---- where the file is rejected
+
+pub filled-rejected : (s t : List ℕ) (e : Rejection) → rejected e ≡ verdict report (aco s) → (rejected e, t) ≡ filled (aco s) t
+filled-rejected s t e h =
+    let z = rejecting e in
+    ap (λ (v : Verdict (ℕ × ℕ)). (v, t)) z.judging ∙ filled-refused records report count counts (aco s) width row t (sym z.judging ∙ h)
+
+pub record-rejected : (s : List ℕ) (i : ℕ) (e : Rejection) → rejected e ≡ verdict report (aco s) → told_record (Err e) ≡ by_value (record_at i (aco s))
+record-rejected s i e h =
+    let z = rejecting e in
+    ap (λ (v : Verdict (ℕ × ℕ)). (zero_colour, v, 0)) z.judging ∙ ap (λ (v : Verdict Entry). by_value (seen given_of v)) (record-refused records report count counts (aco s) (unnamed zero_colour) i (sym z.judging ∙ h))
+
+pub name-rejected : (s : List ℕ) (i : ℕ) (e : Rejection) → told_record (Err e) ≡ by_value (record_at i (aco s)) → [] ≡ name_bytes_in s (record_at i (aco s))
+name-rejected s i e h = let z = rejecting e in name-none s (record_at i (aco s)) (ap (λ (w : Colour × Verdict (ℕ × ℕ) × ℕ). w.1) (sym h) ∙ z.judging)

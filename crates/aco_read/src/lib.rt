@@ -11,35 +11,19 @@ ghost use Rattle.aco.specs.Places.{entry_place};
 ghost use Rattle.aco.specs.Row.{width, numbers, named_with, row};
 ghost use Rattle.aco_judge.specs.Answer.{told, report};
 ghost use Rattle.aco_read.specs.Table.{filled, record_at, by_value, name_bytes_in, records_of};
-ghost use Rattle.aco_read.specs.Answer.{told_place, told_record};
+ghost use Rattle.aco_read.specs.Answer.{told_record, told_swatch};
 
 use aco::WIDTH;
-use aco_judge::Answer;
+use aco_judge::{Counts, Rejection};
 use colour::{Colour, Ink};
+use fault::{Fault, Refusal};
+use names::Name;
 
-// Where a record's name lies in the file, or the refusal.
-#[derive(Drop)]
-pub enum NamePlace {
-    At {
-        place: usize,
-        units: u32,
-    },
-    Refused {
-        number: u32,
-        place: usize,
-    },
-    Differ {
-        place: usize,
-        record: usize,
-        field: usize,
-    },
-}
-
-// A record: its colour, all zeros on a refusal, its name, and its ink, that of number 0 on a refusal.
-#[derive(Drop)]
+/// A record: its colour, where its name lies in the file, and its ink.
+#[derive(Clone, Copy)]
 pub struct SwatchRecord {
     pub colour: Colour,
-    pub name: NamePlace,
+    pub name: Name,
     pub ink: Ink,
 }
 
@@ -50,11 +34,11 @@ fn colour_at(file: &[u8], at: usize) -> Colour
 {
     let end = at + 10;
     let part = &file[at..end];
-    let space = fields::u16_or_zero(part, 0);
-    let a = fields::u16_or_zero(part, 2);
-    let b = fields::u16_or_zero(part, 4);
-    let c = fields::u16_or_zero(part, 6);
-    let d = fields::u16_or_zero(part, 8);
+    let space = fields::number_or_zero::<u16>(part, 0);
+    let a = fields::number_or_zero::<u16>(part, 2);
+    let b = fields::number_or_zero::<u16>(part, 4);
+    let c = fields::number_or_zero::<u16>(part, 6);
+    let d = fields::number_or_zero::<u16>(part, 8);
     Colour {
         space,
         samples: [a, b, c, d],
@@ -81,10 +65,8 @@ fn fill_plain(file: &[u8], n: usize, table: &mut [u32])
     requires { Accepted report (aco file.now) (n, 1) × (width * n ≤ length table.old) }
     ensures { table.new ≡ sets table.old 0 (joined row (records_of (aco file.now))) }
 {
-    let mut i: usize = 0;
-    while i < n {
+    for i in 0..n {
         put_row(table, WIDTH * i, colour_at(file, 4 + 10 * i), 0, 0);
-        i += 1;
     }
 }
 
@@ -94,47 +76,29 @@ fn fill_named(file: &[u8], n: usize, table: &mut [u32])
     requires { Accepted report (aco file.now) (n, 2) × (width * n ≤ length table.old) }
     ensures { table.new ≡ sets table.old 0 (joined row (records_of (aco file.now))) }
 {
-    let mut i: usize = 0;
     let mut p = 8 + 10 * n;
-    while i < n {
-        let count = fields::u32_or_zero(file, p + 10);
+    for i in 0..n {
+        let count = fields::number_or_zero::<u32>(file, p + 10);
         let colour = colour_at(file, 4 + 10 * i);
         put_row(table, WIDTH * i, colour, (p + 14) as u32, count - 1);
         p += 14 + 2 * (count as usize);
-        i += 1;
     }
 }
 
-// Reads a file into a table, which a refusal leaves as it was. Accepted in `Answer` counts the rows.
-pub fn read(file: &[u8], table: &mut [u32]) -> Answer
+/// Reads a file into a table, which a refusal leaves as it was, and counts the rows.
+pub fn read(file: &[u8], table: &mut [u32]) -> Result<Counts, Rejection>
     ensures { (told result, table.new) ≡ filled (aco file.now) table.old }
 {
-    match aco_judge::judge(file) {
-        Answer::Refused { number, place } => Answer::Refused { number, place },
-        Answer::Differ {
-            place,
-            record,
-            field,
-        } => Answer::Differ {
-            place,
-            record,
-            field,
-        },
-        Answer::Accepted { colours, lists } => {
-            if table.len() < WIDTH * colours {
-                return Answer::Refused {
-                    number: 11,
-                    place: 0,
-                };
-            }
-            if lists == 1 {
-                fill_plain(file, colours, table);
-            } else {
-                fill_named(file, colours, table);
-            }
-            Answer::Accepted { colours, lists }
-        }
+    let counts = aco_judge::judge(file)?;
+    if table.len() < WIDTH * counts.colours {
+        return Err(Rejection::Refused(Refusal(Fault::NoRoom, 0)));
     }
+    if counts.lists == 1 {
+        fill_plain(file, counts.colours, table);
+    } else {
+        fill_named(file, counts.colours, table);
+    }
+    Ok(counts)
 }
 
 // The place of record i of list 2.
@@ -142,97 +106,55 @@ fn entry_place(file: &[u8], n: usize, i: usize) -> usize
     requires { Accepted report (aco file.now) (n, 2) × (i < n) }
     ensures { result ≡ entry_place file.now n i }
 {
-    let mut k: usize = 0;
     let mut place = 8 + 10 * n;
-    while k < i {
-        let count = fields::u32_or_zero(file, place + 10);
+    for _k in 0..i {
+        let count = fields::number_or_zero::<u32>(file, place + 10);
         place += 14 + 2 * (count as usize);
-        k += 1;
     }
     place
 }
 
-// No record: a colour of zeros beside the refusal.
-fn none(name: NamePlace) -> SwatchRecord
-    ensures { told_record result ≡ (zero_colour, told_place name, 0) }
-{
-    let colour = Colour {
-        space: 0,
-        samples: [0; 4],
-    };
-    let ink = Ink::Global;
-    SwatchRecord { colour, name, ink }
-}
-
 // Record i of an accepted file, which has it.
-fn found(file: &[u8], colours: usize, lists: usize, i: usize) -> SwatchRecord
-    requires { Accepted report (aco file.now) (colours, lists) × (i < colours) }
-    ensures { told_record result ≡ by_value (record_at i (aco file.now)) }
+fn found(file: &[u8], counts: Counts, i: usize) -> SwatchRecord
+    requires { Accepted report (aco file.now) (counts.colours, counts.lists) × (i < counts.colours) }
+    ensures { told_swatch result ≡ by_value (record_at i (aco file.now)) }
 {
     let colour = colour_at(file, 4 + 10 * i);
     let ink = Ink::NotStated;
-    if lists == 1 {
-        let name = NamePlace::At { place: 0, units: 0 };
+    if counts.lists == 1 {
+        let name = Name { first: 0, units: 0 };
         return SwatchRecord { colour, name, ink };
     }
-    let p = entry_place(file, colours, i);
-    let count = fields::u32_or_zero(file, p + 10);
-    let name = NamePlace::At {
-        place: p + 14,
+    let p = entry_place(file, counts.colours, i);
+    let count = fields::number_or_zero::<u32>(file, p + 10);
+    let name = Name {
+        first: p + 14,
         units: count - 1,
     };
     SwatchRecord { colour, name, ink }
 }
 
-// Record i of a file.
-pub fn record_at(file: &[u8], i: usize) -> SwatchRecord
+/// Record i of a file.
+pub fn record_at(file: &[u8], i: usize) -> Result<SwatchRecord, Rejection>
     ensures { told_record result ≡ by_value (record_at i (aco file.now)) }
 {
-    match aco_judge::judge(file) {
-        Answer::Refused { number, place } => none(NamePlace::Refused { number, place }),
-        Answer::Differ {
-            place,
-            record,
-            field,
-        } => {
-            none(NamePlace::Differ {
-                place,
-                record,
-                field,
-            })
-        }
-        Answer::Accepted { colours, lists } => {
-            if colours <= i {
-                let name = NamePlace::Refused {
-                    number: 12,
-                    place: 0,
-                };
-                return none(name);
-            }
-            found(file, colours, lists, i)
-        }
+    let counts = aco_judge::judge(file)?;
+    if counts.colours <= i {
+        return Err(Rejection::Refused(Refusal(Fault::NoRecord, 0)));
     }
+    Ok(found(file, counts, i))
 }
 
-// The bytes of the name of record i, a part of the file; none where `record_at` refuses.
+/// The bytes of the name of record i, a part of the file; none where `record_at` refuses.
 pub fn name_at(file: &[u8], i: usize) -> &[u8]
     ensures { result.now ≡ name_bytes_in file.now (record_at i (aco file.now)) }
 {
-    let swatch = record_at(file, i);
-    let found = swatch.name;
-    match found {
-        NamePlace::At { place, units } => {
-            let end = place + 2 * (units as usize);
-            &file[place..end]
+    match record_at(file, i) {
+        Ok(swatch) => {
+            let name = swatch.name;
+            let end = name.first + 2 * (name.units as usize);
+            &file[name.first..end]
         }
-        NamePlace::Refused {
-            number: _,
-            place: _,
-        } => &file[..0],
-        NamePlace::Differ {
-            place: _,
-            record: _,
-            field: _,
-        } => &file[..0],
+        Err(_) => &file[..0],
     }
 }

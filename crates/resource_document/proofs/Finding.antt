@@ -11,7 +11,20 @@ use Rattle.algebra.specs.Chars.{chars}
 use Rattle.algebra.specs.Numbers.{num, nums}
 use Rattle.algebra.specs.Reader.{Res, ok, refuse, then, pick, field, body, judged, rule, unless, done, or_zero, limit}
 use Rattle.algebra.proofs.Laws.{field_in, field-short, judged-short, judged-bad, judged-ok, num-split, done-each, then-done}
+use Rattle.std.specs.Prelude.{Result}
+use Rattle.std.specs.Result.{IsErrAnd}
+use Rattle.std.proofs.lemmas.Result.{err_from_is_err_and}
+use Rattle.algebra.specs.Table.{Verdict, refused}
+use Rattle.fault.specs.Fault.{number_of}
+use Rattle.fault.specs.declared.Refusal.{Refusal}
+use Rattle.resource_document.specs.declared.Section.{Section}
+use Rattle.resource_document.specs.Answer.{told}
 use Rattle.resource_document.specs.Reading.{fixed_number, reserved, start, image, colours, resources_in, document}
+
+-- ---- a refusal that a `?` hands on
+
+pub told-no : (r : Result Section Refusal) (e : Refusal) {v : Verdict (ℕ × ℕ)} → IsErrAnd r (λ y. y ≡ e) → refused (number_of e.0) e.1 0 0 ≡ v → told r ≡ v
+told-no r e h rest = let p = err_from_is_err_and r h in rw (p.1, p.2) rest
 
 -- ---- a field, by whether it is there
 

@@ -10,13 +10,19 @@ use Rattle.algebra.specs.Numbers.{num}
 use Rattle.algebra.specs.Reader.{Res, ok, refuse, then, field, body, judged, done, map_res, limit}
 use Rattle.algebra.specs.Table.{Verdict, accepted, refused, verdict}
 use Rattle.algebra.proofs.Laws.{field_in, judged-short, judged-bad, judged-ok, then_ok, done-const, done-each, done-refuse}
-use Rattle.algebra.proofs.Inverse.{clash, ok-value, ok-place, done-inv, field-inv, body-inv}
+use Rattle.algebra.proofs.Inverse.{clash, ok-value, ok-place, then-inv, done-inv, field-inv, judged-inv, body-inv}
 use Rattle.algebra.proofs.Sequence.{step-no, step-on}
 use Rattle.resource.specs.Reading.{Part, Entry, block_part, zeroed, pad, padded_part, sized_part, is_signature, block, blocks, resources}
 use Rattle.resource.specs.Rows.{to_record}
 use Rattle.resource.specs.declared.Record.{Record}
 use Rattle.resource.proofs.Lies.{run_lies, counted-lies, block-lies}
 use Rattle.resource.proofs.Whole.{block-moves, blocks-stop, blocks-no, blocks-ok}
+use Rattle.fault.specs.Fault.{number_of}
+use Rattle.fault.specs.declared.Refusal.{Refusal}
+use Rattle.std.specs.Prelude.{Result}
+use Rattle.std.specs.Result.{IsErrAnd}
+use Rattle.std.proofs.lemmas.Result.{err_from_is_err_and}
+use Rattle.resource_judge.specs.Answer.{told}
 use Rattle.resource_judge.specs.scaffold.Answer.{part_of, parts_from}
 
 pub map-ok : {A B : Type 0} (f : A → B) (m : Res A) {b : B} {q : ℕ} → map_res f m ≡ ok b q → (a : A) × (m ≡ ok a q) × (f a ≡ b)
@@ -26,6 +32,10 @@ map-ok f (refuse x p r g) e = clash e
 pub map-refuse : {A B : Type 0} (f : A → B) (m : Res A) {x p r g : ℕ} → map_res f m ≡ refuse x p r g → m ≡ refuse x p r g
 map-refuse f (ok a q) e = clash (sym e)
 map-refuse f (refuse y q s t) e = cc
+
+-- a refusal that a `?` hands on
+pub told-no : {A : Type 0} (r : Result A Refusal) (e : Refusal) {v : Verdict A} → IsErrAnd r (λ y. y ≡ e) → refused (number_of e.0) e.1 0 0 ≡ v → told r ≡ v
+told-no r e h rest = let p = err_from_is_err_and r h in rw (p.1, p.2) rest
 
 -- ---- a pad
 
@@ -88,7 +98,27 @@ module _ (s : List ℕ) where
       go (ok n q) = followed-part k n q
       go (refuse x q r f) = refl
 
+  -- the same by the answers on its length, and on its bytes and their pad
+  module _ (w k at : ℕ) where
+    pub part-no : {x p r f : ℕ} → refuse x p r f ≡ field w s at → refuse x p r f ≡ map_res part_of (sized_part w k s at)
+    part-no e = step-no _ _ e ∙ sym (counted-part w k at)
+
+    pub part-cut : {n q x p r f : ℕ} → ok n q ≡ field w s at → refuse x p r f ≡ done (padded_part k n s q) → refuse x p r f ≡ map_res part_of (sized_part w k s at)
+    part-cut e g = step-on _ _ e (step-no _ _ g) ∙ sym (counted-part w k at)
+
+    pub part-is : {n q r : ℕ} → ok n q ≡ field w s at → ok tt r ≡ done (padded_part k n s q) → ok (q, n) r ≡ map_res part_of (sized_part w k s at)
+    part-is e g = step-on _ _ e (step-on _ _ g refl) ∙ sym (counted-part w k at)
+
   -- ---- a block
+
+  -- a step of two, and what follows it
+  two-steps : {A B C : Type 0} (m : Res A) (f : A → ℕ → Res B) (k : B → ℕ → Res C) → then (then m f) k ≡ then m (λ a q. then (f a q) k)
+  two-steps (ok a q) f k = refl
+  two-steps (refuse x p r g) f k = refl
+
+  -- signature and ID
+  abbrev pub head : ℕ → Res ℕ
+  head at = then (judged 4 is_signature s at) (λ x a. field 2 s a)
 
   abbrev made : ℕ → Part → Part → Entry
   made i nm l = record { id = i; name = nm; payload = l }
@@ -96,9 +126,9 @@ module _ (s : List ℕ) where
   abbrev shown : ℕ → ℕ × ℕ → ℕ × ℕ → Record
   shown i nm l = record { id = i; name = nm.0; letters = nm.1; payload = l.0; size = l.1 }
 
-  pub block-record : (at : ℕ) → map_res to_record (block s at) ≡ then (judged 4 is_signature s at) (λ x a. then (field 2 s a) (λ i b. parts_from i s b))
+  pub block-record : (at : ℕ) → map_res to_record (block s at) ≡ then (head at) (λ i b. parts_from i s b)
   unfolding block parts_from
-  block-record at = first (judged 4 is_signature s at)
+  block-record at = first (judged 4 is_signature s at) ∙ sym (two-steps (judged 4 is_signature s at) (λ x a. field 2 s a) (λ i b. parts_from i s b))
     where
       last : (i : ℕ) (nm : Part) (m : Res Part) → map_res to_record (then m (λ l q. ok (made i nm l) q))
           ≡ then (map_res part_of m) (λ l q. ok (shown i (part_of nm) l) q)
@@ -152,15 +182,21 @@ module _ (s : List ℕ) where
       let z : q ≡ at + n = omega (arith, (body-inv 1 s at n x.1).2) in
       f ∙ ap (λ (k : ℕ). done (pad k s q)) z
 
-  pub even-number : (w at : ℕ) {v q : ℕ} → ok v q ≡ field w s at → at % 2 ≡ 0 → w % 2 ≡ 0 → q % 2 ≡ 0
-  even-number w at e even same = omega (arith, (field-inv w s at (sym e)).2)
+  -- an even head ends at an even place
+  pub head-even : (at : ℕ) {v q : ℕ} → ok v q ≡ head s at → at % 2 ≡ 0 → q % 2 ≡ 0
+  head-even at e even =
+      let x = then-inv (judged 4 is_signature s at) (λ x a. field 2 s a) (sym e) in
+      let f = judged-inv 4 s at is_signature x.2 in
+      let g = field-inv 2 s x.1 x.3 in
+      omega (arith, f.2, g.2)
 
-  pub block-done : (at : ℕ) → done (block s at) ≡ then (judged 4 is_signature s at) (λ x a. then (field 2 s a) (λ i b. then (done (sized_part 1 1 s b)) (λ u p. done (sized_part 4 0 s p))))
+  pub block-done : (at : ℕ) → done (block s at) ≡ then (head s at) (λ i b. then (done (sized_part 1 1 s b)) (λ u p. done (sized_part 4 0 s p)))
   unfolding block
   block-done at =
       done-each (judged 4 is_signature s at) _ _
       (λ x a. done-each (field 2 s a) _ _
       (λ i b. done-const (sized_part 1 1 s b) _ (λ p. done (sized_part 4 0 s p)) (λ nm p. then_ok (made s i nm) (sized_part 4 0 s p))))
+      ∙ sym (two-steps s (judged 4 is_signature s at) (λ x a. field 2 s a) (λ i b. then (done (sized_part 1 1 s b)) (λ u p. done (sized_part 4 0 s p))))
 
 -- ---- the section
 

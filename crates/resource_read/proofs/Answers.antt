@@ -93,28 +93,11 @@ module _ (s : List ℕ) where
   found-refused i e = sym (ap (found_in i) (refused-of (resources s) e))
 
   module _ {n : ℕ} (v : accepted n ≡ verdict length (resources s)) where
-    records : length (map to_record (rest s 0)) ≡ n
-    records = length-map to_record (rest s 0) ∙ (accepted-of s v).count
+    pub record_is : (i : ℕ) {r : Verdict Record} → r ≡ record_in i (ok (rest s 0) 0) → r ≡ record_in i (resources s)
+    record_is i e = e ∙ sym (ap (record_in i) (accepted-of s v).reads)
 
-    pub record-none : (i : ℕ) → n ≤ i → refused 12 0 0 0 ≡ record_in i (resources s)
-    record-none i h =
-        let l : length (map to_record (rest s 0)) ≤ i = omega (arith, records) in
-        sym (ap (record_in i) (accepted-of s v).reads ∙ simp (le-ltb i (length (map to_record (rest s 0))) l))
-
-    pub record_is : (i : ℕ) → i < n → (r : Record) → r ≡ get_or (map to_record (rest s 0)) i empty_record → accepted r ≡ record_in i (resources s)
-    record_is i h r e =
-        let l : i < length (map to_record (rest s 0)) = omega (arith, records) in
-        ap accepted e ∙ sym (ap (record_in i) (accepted-of s v).reads ∙ simp (lt-ltb i (length (map to_record (rest s 0))) l))
-
-    pub found_none : (id i : ℕ) → i ≡ index_of id (rest s 0) → n ≤ i → refused 12 0 0 0 ≡ found_in id (resources s)
-    found_none id i e h =
-        let l : length (rest s 0) ≤ index_of id (rest s 0) = omega (arith, (accepted-of s v).count) in
-        sym (ap (found_in id) (accepted-of s v).reads ∙ simp (le-ltb (index_of id (rest s 0)) (length (rest s 0)) l))
-
-    pub found-is : (id i : ℕ) → i ≡ index_of id (rest s 0) → i < n → accepted i ≡ found_in id (resources s)
-    found-is id i e h =
-        let l : index_of id (rest s 0) < length (rest s 0) = omega (arith, (accepted-of s v).count) in
-        ap accepted e ∙ sym (ap (found_in id) (accepted-of s v).reads ∙ simp (lt-ltb (index_of id (rest s 0)) (length (rest s 0)) l))
+    pub found-is : (id : ℕ) {r : Verdict ℕ} → r ≡ found_in id (ok (rest s 0) 0) → r ≡ found_in id (resources s)
+    found-is id e = e ∙ sym (ap (found_in id) (accepted-of s v).reads)
 
 -- ---- the parts of a record lie in the section
 

@@ -1,13 +1,15 @@
 -- A loop over the blocks of an accepted section, and what it stores, counts or looks for. Assumes nothing.
 use Prim.Native.Nat.{ℕ, suc, ◌+◌, ◌-◌, ◌*◌, ◌≤◌, ◌<◌}
-use mathlib.Core.Path.{◌≡◌, sym, ap, ap₂, ◌∙◌, subst}
+use mathlib.Core.Path.{◌≡◌, refl, sym, ap, ap₂, ◌∙◌, subst}
 use mathlib.Core.List.{List, [], ◌∷◌, ◌++◌, map}
 use mathlib.Core.Bool.{Bool}
 use lib.ListN.{length, get_or}
 use lib.Seq.{sets, length-sets}
-use borrow.Author.Tests.{eq-eqb, ne_eqb}
+use borrow.Author.Tests.{eq-eqb, ne_eqb, le-ltb, lt-ltb}
+use lib.Dec.{ltb, is_le}
+use Prim.Native.Nat.compare.{suc-suc}
 use native.Mathlib.Omega.{arith}
-use native.Mathlib.Nat.{add-zero}
+use native.Mathlib.Nat.{add-zero, zero-add}
 use Rattle.algebra.specs.Numbers.{joined}
 use Rattle.algebra.specs.Reader.{Res, ok, refuse, then, pick, map_res, limit}
 use Rattle.algebra.proofs.Inverse.{clash, ok-place, then-inv}
@@ -18,7 +20,8 @@ use Rattle.resource.specs.declared.Record.{Record}
 use Rattle.resource.proofs.Lies.{block-lies}
 use Rattle.resource.proofs.Whole.{block-moves, blocks-stop, blocks-no, blocks-ok}
 use Rattle.resource_judge.proofs.Judging.{map-ok, map-refuse}
-use Rattle.resource_read.specs.Table.{entry_row, empty_record, index_of}
+use Rattle.algebra.specs.Table.{Verdict, accepted, refused}
+use Rattle.resource_read.specs.Table.{entry_row, empty_record, record_in, index_of, found_in}
 use Rattle.resource_read.specs.scaffold.Parts.{rest, entries_of, Sound, Small}
 
 module _ (s : List ℕ) (at : ℕ) (fit : Sound s at) where
@@ -102,34 +105,67 @@ module _ (s : List ℕ) (at to : ℕ) (all t : List ℕ) (f : Filling s at to al
 
 -- ---- a record by its number
 
-module _ (s : List ℕ) (at k : ℕ) (fit : Sound s at) (all : Record) (inv : all ≡ get_or (map to_record (rest s at)) k empty_record) where
-  pub nth_end : length s ≤ at → empty_record ≡ all
-  nth_end e = sym (inv ∙ ap (λ (l : List Entry). get_or (map to_record l) k empty_record) (none_left s at fit e))
+ltb-suc : (a b : ℕ) → ltb (suc a) (suc b) ≡ ltb a b
+ltb-suc a b = ap is_le (suc-suc (suc a) b)
+
+record-first : (e : Entry) (es : List Entry) → record_in 0 (ok (e ∷ es) 0) ≡ accepted (to_record e)
+record-first e es = let h = lt-ltb 0 (length (map to_record (e ∷ es))) (omega arith) in simp h
+
+record-next : (k : ℕ) (e : Entry) (es : List Entry) → record_in (suc k) (ok (e ∷ es) 0) ≡ record_in k (ok es 0)
+record-next k e es = ap (λ (b : Bool). pick b (accepted (get_or (map to_record es) k empty_record)) (refused 12 0 0 0)) (ltb-suc k (length (map to_record es)))
+
+module _ (s : List ℕ) (at k : ℕ) (fit : Sound s at) (all : Verdict Record) (inv : all ≡ record_in k (ok (rest s at) 0)) where
+  pub nth_end : length s ≤ at → refused 12 0 0 0 ≡ all
+  nth_end e = sym (inv ∙ ap (λ (l : List Entry). record_in k (ok l 0)) (none_left s at fit e) ∙ simp (le-ltb k 0 (omega arith)))
 
   module _ (more : at < length s) {r : Record} {q : ℕ} (x : Turned s at fit more r q) where
-    pub nth_here : k ≡ 0 → r ≡ all
-    nth_here z = sym (inv ∙ ap₂ (λ (l : List Entry) (n : ℕ). get_or (map to_record l) n empty_record) x.all z ∙ x.is)
+    pub nth_here : k ≡ 0 → accepted r ≡ all
+    nth_here z = sym (inv ∙ ap₂ (λ (l : List Entry) (n : ℕ). record_in n (ok l 0)) x.all z ∙ record-first x.entry (rest s q) ∙ ap accepted x.is)
 
-    pub nth-next : (k ≡ 0 → ⊥) → all ≡ get_or (map to_record (rest s q)) (k - 1) empty_record
-    nth-next z = let e : k ≡ suc (k - 1) = omega arith in inv ∙ ap₂ (λ (l : List Entry) (n : ℕ). get_or (map to_record l) n empty_record) x.all e
+    pub nth-next : (k ≡ 0 → ⊥) → all ≡ record_in (k - 1) (ok (rest s q) 0)
+    nth-next z =
+        let e : k ≡ suc (k - 1) = omega arith in
+        inv ∙ ap₂ (λ (l : List Entry) (n : ℕ). record_in n (ok l 0)) x.all e ∙ record-next (k - 1) x.entry (rest s q)
 
 -- ---- the first block with an ID
 
-module _ (s : List ℕ) (at i id all : ℕ) (fit : Sound s at) (inv : all ≡ i + index_of id (rest s at)) where
-  pub index-end : length s ≤ at → i ≡ all
-  unfolding index_of
-  index-end e = sym (inv ∙ ap (λ (l : List Entry). i + index_of id l) (none_left s at fit e) ∙ add-zero i)
+-- what is found among blocks of which i stand before
+unfoldable pub found_from : ℕ → ℕ → List Entry → Verdict ℕ
+found_from i id es = pick (ltb (index_of id es) (length es)) (accepted (i + index_of id es)) (refused 12 0 0 0)
+
+pub found-start : (id : ℕ) (es : List Entry) → found_in id (ok es 0) ≡ found_from 0 id es
+unfolding found_from
+found-start id es = ap (λ (n : ℕ). pick (ltb (index_of id es) (length es)) (accepted n) (refused 12 0 0 0)) (sym (zero-add (index_of id es)))
+
+found-none : (i id : ℕ) → found_from i id [] ≡ refused 12 0 0 0
+unfolding found_from index_of
+found-none i id = refl
+
+found-first : (i id : ℕ) (e : Entry) (es : List Entry) → e.id ≡ id → found_from i id (e ∷ es) ≡ accepted i
+unfolding found_from index_of
+found-first i id e es h = ap (λ (b : Bool). let n = pick b 0 (index_of id es + 1) in pick (ltb n (suc (length es))) (accepted (i + n)) (refused 12 0 0 0)) (eq-eqb e.id id h)
+    ∙ ap (λ (b : Bool). pick b (accepted (i + 0)) (refused 12 0 0 0)) (lt-ltb 0 (suc (length es)) (omega arith)) ∙ ap accepted (add-zero i)
+
+found-later : (i id : ℕ) (e : Entry) (es : List Entry) → (e.id ≡ id → ⊥) → found_from i id (e ∷ es) ≡ found_from (i + 1) id es
+unfolding found_from index_of
+found-later i id e es h =
+    let n = index_of id es in
+    let a : n + 1 ≡ suc n = omega arith in
+    let b : i + (n + 1) ≡ i + 1 + n = omega arith in
+    ap (λ (b : Bool). let m = pick b 0 (index_of id es + 1) in pick (ltb m (suc (length es))) (accepted (i + m)) (refused 12 0 0 0)) (ne_eqb e.id id h)
+    ∙ ap₂ (λ (x y : ℕ). pick (ltb x (suc (length es))) (accepted y) (refused 12 0 0 0)) a b
+    ∙ ap (λ (b : Bool). pick b (accepted (i + 1 + n)) (refused 12 0 0 0)) (ltb-suc n (length es))
+
+module _ (s : List ℕ) (at i id : ℕ) (all : Verdict ℕ) (fit : Sound s at) (inv : all ≡ found_from i id (rest s at)) where
+  pub index-end : length s ≤ at → refused 12 0 0 0 ≡ all
+  index-end e = sym (inv ∙ ap (found_from i id) (none_left s at fit e) ∙ found-none i id)
 
   module _ (more : at < length s) {r : Record} {q : ℕ} (x : Turned s at fit more r q) where
     same_id : x.entry.id ≡ r.id
     same_id = ap (λ (y : Record). y.id) x.is
 
-    pub index-here : r.id ≡ id → i ≡ all
-    unfolding index_of
-    index-here h = sym (inv ∙ ap (λ (l : List Entry). i + index_of id l) x.all ∙ ap (λ (b : Bool). i + pick b 0 (index_of id (rest s q) + 1)) (eq-eqb x.entry.id id (same_id ∙ h)) ∙ add-zero i)
+    pub index-here : r.id ≡ id → accepted i ≡ all
+    index-here h = sym (inv ∙ ap (found_from i id) x.all ∙ found-first i id x.entry (rest s q) (same_id ∙ h))
 
-    pub index-next : (r.id ≡ id → ⊥) → all ≡ i + 1 + index_of id (rest s q)
-    unfolding index_of
-    index-next h =
-        let z : i + (index_of id (rest s q) + 1) ≡ i + 1 + index_of id (rest s q) = omega arith in
-        inv ∙ ap (λ (l : List Entry). i + index_of id l) x.all ∙ ap (λ (b : Bool). i + pick b 0 (index_of id (rest s q) + 1)) (ne_eqb x.entry.id id (λ e. h (sym same_id ∙ e))) ∙ z
+    pub index-next : (r.id ≡ id → ⊥) → all ≡ found_from (i + 1) id (rest s q)
+    index-next h = inv ∙ ap (found_from i id) x.all ∙ found-later i id x.entry (rest s q) (λ e. h (sym same_id ∙ e))

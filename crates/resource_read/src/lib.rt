@@ -2,55 +2,42 @@
 // its name and data, and the first block with an ID.
 #![tactic(auto)]
 
-ghost use Rattle.std.specs.Prelude.{◌≡◌, map, ◌+◌, ◌*◌, ◌≤◌, ◌<◌, length, get_or};
+ghost use Rattle.std.specs.Prelude.{◌≡◌, ◌+◌, ◌*◌, ◌≤◌, ◌<◌, length};
 ghost use Rattle.std.proofs.lemmas.List.Edits.{sets};
 ghost use Rattle.algebra.specs.Numbers.{joined};
 ghost use Rattle.algebra.specs.Reader.{ok, map_res};
 ghost use Rattle.resource.specs.Reading.{block, resources};
 ghost use Rattle.resource.specs.Rows.{to_record, width, row};
 ghost use Rattle.resource_judge.specs.Answer.{told};
-ghost use Rattle.resource_read.specs.Table.{entry_row, tabled, empty_record, record_in, name_of, payload_of, index_of, found_in};
-ghost use Rattle.resource_read.specs.Answer.{told_record_answer, told_index};
-ghost use Rattle.resource_read.specs.scaffold.Parts.{rest, Sound, Small, behind};
+ghost use Rattle.resource_read.specs.Table.{entry_row, tabled, record_in, name_of, payload_of, found_in};
+ghost use Rattle.resource_read.specs.scaffold.Parts.{rest, Sound, Small};
 
+use fault::{Fault, Refusal};
+use fields::number_or_zero;
 use resource::{Record, WIDTH};
-use resource_judge::Answer;
+use resource_judge::judge;
 
-// A record, or a refusal.
-#[derive(Drop)]
-pub enum RecordAnswer {
-    Is(Record),
-    Refused { number: u32, place: usize },
-}
-
-// A block's number, or a refusal.
-#[derive(Drop)]
-pub enum Index {
-    Is(usize),
-    Refused { number: u32, place: usize },
-}
-
-fn wide(x: u8) -> usize
-    ensures { result ≡ x }
-{
-    x as usize
-}
-
-// The record of the block at `at` of a section that was accepted, by its lengths alone: nothing in it
-// is judged again.
-fn given_at(file: &[u8], at: usize) -> Record
+// The record of the block at `at` of a section that was accepted, by its lengths alone, and the place
+// behind the block: nothing in it is judged again.
+fn given_at(file: &[u8], at: usize) -> (Record, usize)
     requires { Sound file.now at × (at < length file.now) }
-    ensures { ok result (behind result) ≡ map_res to_record (block file.now at) }
+    ensures { ok result.0 result.1 ≡ map_res to_record (block file.now at) }
 {
-    let letters = wide(file[at + 6]);
+    let letters = file[at + 6] as usize;
     let p = at + 8 + letters / 2 * 2;
-    Record {
-        id: fields::u16_or_zero(file, at + 4) as u32,
-        name: at + 7,
-        letters,
-        payload: p + 4,
-        size: fields::u32_or_zero(file, p) as usize,
-    }
+    let payload = p + 4;
+    let size = number_or_zero::<u32>(file, p) as usize;
+    let next = (payload + size + 1) / 2 * 2;
+    (
+        Record {
+            id: u32::from(number_or_zero::<u16>(file, at + 4)),
+            name: at + 7,
+            letters,
+            payload,
+            size,
+        },
+        next,
+    )
 }
 
 // Stores a record's numbers from `to`: no other function stores them.
@@ -73,150 +60,101 @@ fn fill(file: &[u8], table: &mut [u32])
     let mut at: usize = 0;
     let mut to: usize = 0;
     while at < file.len() {
-        let given = given_at(file, at);
-        let end = given.payload + given.size;
-        at = (end + 1) / 2 * 2;
+        let (given, next) = given_at(file, at);
         put_row(table, to, given);
+        at = next;
         to += WIDTH;
     }
 }
 
-fn no_record() -> Record
-    ensures { result ≡ empty_record }
-{
-    Record {
-        id: 0,
-        name: 0,
-        letters: 0,
-        payload: 0,
-        size: 0,
-    }
-}
-
 // Record i of a section that was accepted.
-fn nth(file: &[u8], i: usize) -> Record
+fn nth(file: &[u8], i: usize) -> Result<Record, Refusal>
     requires { Sound file.now 0 }
-    ensures { result ≡ get_or (map to_record (rest file.now 0)) i empty_record }
+    ensures { told result ≡ record_in i (ok (rest file.now 0) 0) }
 {
     let mut at: usize = 0;
     let mut k = i;
     while at < file.len() {
-        let given = given_at(file, at);
+        let (given, next) = given_at(file, at);
         if k == 0 {
-            return given;
+            return Ok(given);
         }
-        let end = given.payload + given.size;
-        at = (end + 1) / 2 * 2;
+        at = next;
         k -= 1;
     }
-    no_record()
+    Err(Refusal(Fault::NoRecord, 0))
 }
 
 // The number of the first block with an ID in a section that was accepted.
-fn index_of(file: &[u8], id: u32) -> usize
+fn index_of(file: &[u8], id: u32) -> Result<usize, Refusal>
     requires { Sound file.now 0 }
-    ensures { result ≡ index_of id (rest file.now 0) }
+    ensures { told result ≡ found_in id (ok (rest file.now 0) 0) }
 {
     let mut at: usize = 0;
     let mut i: usize = 0;
     while at < file.len() {
-        let given = given_at(file, at);
+        let (given, next) = given_at(file, at);
         if given.id == id {
-            return i;
+            return Ok(i);
         }
-        let end = given.payload + given.size;
-        at = (end + 1) / 2 * 2;
+        at = next;
         i += 1;
     }
-    i
+    Err(Refusal(Fault::NoRecord, 0))
 }
 
-// Reads a section into a table, which a refusal leaves as it was.
-pub fn read(file: &[u8], table: &mut [u32]) -> Answer
+/// Reads a section into a table, which a refusal leaves as it was: its number of blocks.
+pub fn read(file: &[u8], table: &mut [u32]) -> Result<usize, Refusal>
     ensures { (told result, table.new) ≡ tabled (resources file.now) table.old }
 {
-    match resource_judge::judge(file) {
-        Answer::Refused { number, place } => Answer::Refused { number, place },
-        Answer::Accepted { blocks } => {
-            if table.len() / WIDTH < blocks {
-                return Answer::Refused {
-                    number: 11,
-                    place: 0,
-                };
-            }
-            fill(file, table);
-            Answer::Accepted { blocks }
-        }
+    let blocks = judge(file)?;
+    if table.len() / WIDTH < blocks {
+        return Err(Refusal(Fault::NoRoom, 0));
     }
+    fill(file, table);
+    Ok(blocks)
 }
 
-// Record i of a section.
-pub fn record_at(file: &[u8], i: usize) -> RecordAnswer
-    ensures { told_record_answer result ≡ record_in i (resources file.now) }
+/// Record i of a section.
+pub fn record_at(file: &[u8], i: usize) -> Result<Record, Refusal>
+    ensures { told result ≡ record_in i (resources file.now) }
 {
-    match resource_judge::judge(file) {
-        Answer::Refused { number, place } => RecordAnswer::Refused { number, place },
-        Answer::Accepted { blocks } => {
-            if blocks <= i {
-                return RecordAnswer::Refused {
-                    number: 12,
-                    place: 0,
-                };
-            }
-            RecordAnswer::Is(nth(file, i))
-        }
-    }
+    judge(file)?;
+    nth(file, i)
 }
 
-// The bytes of the name of record i, a part of the section; none where `record_at` refuses.
+/// The bytes of the name of record i, a part of the section; none where `record_at` refuses.
 pub fn name_at(file: &[u8], i: usize) -> &[u8]
     ensures { result.now ≡ name_of file.now (record_in i (resources file.now)) }
 {
     match record_at(file, i) {
-        RecordAnswer::Is(given) => {
+        Ok(given) => {
             let from = given.name;
             let end = from + given.letters;
             &file[from..end]
         }
-        RecordAnswer::Refused {
-            number: _,
-            place: _,
-        } => &file[..0],
+        Err(_) => &file[..0],
     }
 }
 
-// The data of record i, a part of the section; none where `record_at` refuses.
+/// The data of record i, a part of the section; none where `record_at` refuses.
 pub fn data_at(file: &[u8], i: usize) -> &[u8]
     ensures { result.now ≡ payload_of file.now (record_in i (resources file.now)) }
 {
     match record_at(file, i) {
-        RecordAnswer::Is(given) => {
+        Ok(given) => {
             let from = given.payload;
             let end = from + given.size;
             &file[from..end]
         }
-        RecordAnswer::Refused {
-            number: _,
-            place: _,
-        } => &file[..0],
+        Err(_) => &file[..0],
     }
 }
 
-// The number of the first block with an ID.
-pub fn find(file: &[u8], id: u16) -> Index
-    ensures { told_index result ≡ found_in id (resources file.now) }
+/// The number of the first block with an ID.
+pub fn find(file: &[u8], id: u16) -> Result<usize, Refusal>
+    ensures { told result ≡ found_in id (resources file.now) }
 {
-    match resource_judge::judge(file) {
-        Answer::Refused { number, place } => Index::Refused { number, place },
-        Answer::Accepted { blocks } => {
-            let i = index_of(file, id as u32);
-            if blocks <= i {
-                return Index::Refused {
-                    number: 12,
-                    place: 0,
-                };
-            }
-            Index::Is(i)
-        }
-    }
+    judge(file)?;
+    index_of(file, u32::from(id))
 }

@@ -15,11 +15,18 @@ use Rattle.algebra.specs.Faults.{first_of, faults}
 use Rattle.algebra.specs.Writing.{bytes, refused}
 use Rattle.algebra.proofs.Counted.{counted-turn, counted-end, counted_start}
 use Rattle.algebra.proofs.Tells.{first-none, first_some}
-use Rattle.algebra.proofs.Writing.{needs-no, needs-all}
+use Rattle.algebra.proofs.Writing.{needs-no, needs-all, size-passes}
 use Rattle.resource.specs.Rows.{width, taken}
 use Rattle.resource.specs.declared.Record.{Record}
 use Rattle.resource_write_judge.specs.Parts.{record_in}
 use Rattle.resource_writing.specs.Writing.{size_within, sizes, part_fault, record_fault, fault, needed}
+use Rattle.std.specs.Prelude.{Result}
+use Rattle.std.specs.Result.{IsErrAnd}
+use Rattle.std.proofs.lemmas.Result.{err_from_is_err_and}
+use Rattle.fault.specs.Fault.{number_of as fault_number}
+use Rattle.fault.specs.declared.Fault.{Fault}
+use Rattle.fault.specs.declared.Fault.TheVariants as kind
+use Rattle.resource_write_judge.specs.scaffold.Parts.{told_judged}
 use Rattle.resource_write_judge.specs.scaffold.Writing.{givens}
 
 -- the records of a run, one by one
@@ -29,6 +36,27 @@ record_at run k = taken (row_at width run k)
 -- number j of row k
 pub row_number : (run : List ℕ) (k j : ℕ) → j < width → get_or (row_at width run k) j 0 ≡ get_or run (width * k + j) 0
 row_number run k j h = get_or-take width (drop (width * k) run) j 0 h ∙ get_or-drop (width * k) run j 0
+
+-- ---- a fault that a `?` hands on
+
+pub judged-exit : (r : Result Unit Fault) (f : Fault) {n : ℕ} → IsErrAnd r (λ y. y ≡ f) → fault_number f ≡ n → told_judged r ≡ n
+judged-exit r f h rest = let p = err_from_is_err_and r h in rw (p.1, p.2) rest
+
+pub some-number : (f : Fault) → fault_number f ≡ 0 → ⊥
+some-number kind.TooLong e = omega arith
+some-number kind.Short e = omega arith
+some-number kind.WrongTag e = omega arith
+some-number kind.Unknown e = omega arith
+some-number kind.OutOfRange e = omega arith
+some-number kind.LeftOver e = omega arith
+some-number kind.ListsDiffer e = omega arith
+some-number kind.BadlyClosed e = omega arith
+some-number kind.Unbalanced e = omega arith
+some-number kind.TooDeep e = omega arith
+some-number kind.NoRoom e = omega arith
+some-number kind.NoRecord e = omega arith
+some-number kind.WrongLength e = omega arith
+some-number kind.NoCounterpart e = omega arith
 
 -- ---- sizes
 
@@ -82,6 +110,10 @@ module _ (text : List ℕ) (rs : List Record) where
   pub too_long : limit < sizes rs → refused 1 0 ≡ needed text rs
   unfolding fault
   too_long h = needs-no (fault text rs) (sizes rs) 1 (sym (simp (lt-leb (sizes rs) limit h))) (λ z. omega arith)
+
+  -- what counting refuses is 1
+  pub size-fault : {x : ℕ} → refused x 0 ≡ pick (leb (sizes rs) limit) (bytes (sizes rs)) (refused 1 0) → refused x 0 ≡ needed text rs
+  size-fault {x} e = let h = size-passes (sizes rs) x e in e ∙ simp (lt-leb (sizes rs) limit h) (too_long h)
 
   module _ (short : sizes rs ≤ limit) where
     pub fault_is : fault text rs ≡ faults (record_fault text) rs

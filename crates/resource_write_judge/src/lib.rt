@@ -6,16 +6,16 @@ ghost use Rattle.algebra.specs.Reader.{pick, limit};
 ghost use Rattle.algebra.specs.Table.{row_at};
 ghost use Rattle.algebra.specs.Faults.{faults};
 ghost use Rattle.algebra.specs.Writing.{bytes, refused};
-ghost use Rattle.fields.specs.Answer.{told_written};
+ghost use Rattle.fault.specs.Answer.{told_written};
 ghost use Rattle.resource.specs.Rows.{width, taken};
 ghost use Rattle.resource.specs.Tiling.{even};
 ghost use Rattle.resource_writing.specs.Writing.{given, size_within, sizes, part_fault, record_fault, needed};
 ghost use Rattle.resource_write_judge.specs.scaffold.Writing.{givens};
 ghost use Rattle.resource_write_judge.specs.Parts.{record_in};
-ghost use Rattle.resource_write_judge.specs.scaffold.Parts.{Counted};
+ghost use Rattle.resource_write_judge.specs.scaffold.Parts.{Counted, told_judged};
 
-use fields::{FieldEnd, Written};
-use resource::{Record, WIDTH};
+use fault::Fault;
+use resource::{LIMIT, Record, WIDTH};
 
 // Record k of a run that has it; no other function takes one out of a run.
 fn whole_at(run: &[u32], k: usize) -> Record
@@ -23,17 +23,12 @@ fn whole_at(run: &[u32], k: usize) -> Record
     ensures { (result ≡ taken (row_at width run.now k)) × Counted result }
 {
     let at = WIDTH * k;
-    let id = run[at];
-    let name = fields::wide(run[at + 1]);
-    let letters = fields::wide(run[at + 2]);
-    let payload = fields::wide(run[at + 3]);
-    let size = fields::wide(run[at + 4]);
     Record {
-        id,
-        name,
-        letters,
-        payload,
-        size,
+        id: run[at],
+        name: run[at + 1] as usize,
+        letters: run[at + 2] as usize,
+        payload: run[at + 3] as usize,
+        size: run[at + 4] as usize,
     }
 }
 
@@ -49,7 +44,7 @@ fn no_record() -> Record
     }
 }
 
-// Record k of a run, all zeros where the run does not have it whole.
+/// Record k of a run, all zeros where the run does not have it whole.
 pub fn record_at(run: &[u32], k: usize) -> Record
     ensures { result ≡ record_in run.now k }
 {
@@ -77,78 +72,63 @@ fn size_in(given: Record) -> usize
 }
 
 // How many bytes the n records take. It stops at the limit, so that no sum passes 64 bits.
-fn size_of(run: &[u32], n: usize) -> Written
+fn size_of(run: &[u32], n: usize) -> Result<usize, Fault>
     requires { width * n ≤ length run.now }
     ensures { told_written result ≡ pick (leb (sizes (givens run.now n 0)) limit) (bytes (sizes (givens run.now n 0))) (refused 1 0) }
 {
     let mut total: usize = 0;
-    let mut i: usize = 0;
-    while i < n {
+    for i in 0..n {
         total += size_in(whole_at(run, i));
-        if resource::LIMIT < total {
-            return Written::Refused(1);
+        if LIMIT < total {
+            return Err(Fault::TooLong);
         }
-        i += 1;
     }
-    Written::Bytes(total)
+    Ok(total)
 }
 
 // ---- judging
 
-// The fault of a name or of data.
-fn part_fault(text: &[u8], first: usize, n: usize) -> u32
-    ensures { result ≡ part_fault text.now first n }
+// A name or data.
+fn judge_part(text: &[u8], first: usize, n: usize) -> Result<(), Fault>
+    ensures { told_judged result ≡ part_fault text.now first n }
 {
     match fields::run_at(text, first, n) {
-        FieldEnd::Next(_) => 0,
-        FieldEnd::Refused(x, _) => x,
+        Ok(_) => Ok(()),
+        Err(refusal) => Err(refusal.0),
     }
 }
 
-// The fault of a record.
-fn record_fault(text: &[u8], given: Record) -> u32
-    ensures { result ≡ record_fault text.now given }
+// A record.
+fn judge_record(text: &[u8], given: Record) -> Result<(), Fault>
+    ensures { told_judged result ≡ record_fault text.now given }
 {
     if 65535 < given.id {
-        return 5;
+        return Err(Fault::OutOfRange);
     }
     if 255 < given.letters {
-        return 5;
+        return Err(Fault::OutOfRange);
     }
-    let x = part_fault(text, given.name, given.letters);
-    if x != 0 {
-        return x;
-    }
-    part_fault(text, given.payload, given.size)
+    judge_part(text, given.name, given.letters)?;
+    judge_part(text, given.payload, given.size)
 }
 
-// The first fault of the n records.
-fn records_fault(run: &[u32], text: &[u8], n: usize) -> u32
+// The n records, up to the first with a fault.
+fn judge_records(run: &[u32], text: &[u8], n: usize) -> Result<(), Fault>
     requires { width * n ≤ length run.now }
-    ensures { result ≡ faults (record_fault text.now) (givens run.now n 0) }
+    ensures { told_judged result ≡ faults (record_fault text.now) (givens run.now n 0) }
 {
-    let mut i: usize = 0;
-    while i < n {
-        let x = record_fault(text, whole_at(run, i));
-        if x != 0 {
-            return x;
-        }
-        i += 1;
+    for i in 0..n {
+        judge_record(text, whole_at(run, i))?;
     }
-    0
+    Ok(())
 }
 
-// The exact length that writing needs, or the refusal.
-pub fn write_length(records: &[u32], text: &[u8]) -> Written
+/// The exact length that writing needs, or the refusal.
+pub fn write_length(records: &[u32], text: &[u8]) -> Result<usize, Fault>
     ensures { told_written result ≡ needed text.now (given records.now) }
 {
     let n = records.len() / WIDTH;
-    let Written::Bytes(size) = size_of(records, n) else {
-        return Written::Refused(1);
-    };
-    let x = records_fault(records, text, n);
-    if x != 0 {
-        return Written::Refused(x);
-    }
-    Written::Bytes(size)
+    let size = size_of(records, n)?;
+    judge_records(records, text, n)?;
+    Ok(size)
 }

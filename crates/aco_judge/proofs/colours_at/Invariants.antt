@@ -6,7 +6,4 @@ use lib.ListN.{length}
 use Rattle.aco_judge.proofs.colours_at.Given as goal
 
 abbrev pub invariant-loop-i : goal.invariant-loop-i
-invariant-loop-i l = (l.i ≤ l.n) × (done (each l.n 0 (λ k. colour) l.file l.at) ≡ done (each (l.n - l.i) l.i (λ k. colour) l.file l.p)) × (l.p ≤ length l.file)
-
-abbrev pub decreases-loop-i : goal.decreases-loop-i
-decreases-loop-i l = l.n - l.i
+invariant-loop-i l = (l._i ≤ l.n) × (done (each l.n 0 (λ k. colour) l.file l.at) ≡ done (each (l.n - l._i) l._i (λ k. colour) l.file l.p)) × (l.p ≤ length l.file)

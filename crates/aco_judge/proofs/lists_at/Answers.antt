@@ -1,31 +1,25 @@
-use mathlib.Core.Path.{sym, ap, ◌∙◌}
+use mathlib.Core.Path.{sym}
 use native.Mathlib.Omega.{arith}
-use Rattle.fields.specs.Answer.{told_field_end}
-use Rattle.aco_judge.specs.scaffold.Answer.{told_list_two_end}
-use Rattle.aco_judge.proofs.Judging.{colours-refused, colours-end, colours-within, lists-one, lists-two, lists-refused}
+use Rattle.aco_judge.specs.Answer.{told}
+use Rattle.aco_judge.proofs.Judging.{err-exit, judged-exit, colours-refused, colours-end, colours-within, lists-one, lists-two, lists-refused}
 use Rattle.aco_judge.proofs.lists_at.Goals as goal
 
+pub returns-in_err-end : goal.returns-in_err-end
+returns-in_err-end c = err-exit told _ _ c.from_residual.ensures.1 (sym (colours-refused _ _ (sym c.in_err-end.ensures)))
+
 pub returns-then-end-file : goal.returns-then-end-file
-returns-then-end-file c =
-    sym (lists-one _ _ _ (sym c.colours_at.ensures ∙ ap told_field_end c.in-Next.is) c.if-end-file.true)
+returns-then-end-file c = sym (lists-one _ _ _ (sym c.in_ok-end.ensures) c.if-end-file.true)
 
 pub second_at-requires : goal.second_at-requires
 second_at-requires c =
     let a = c.args in
-    let e = sym c.colours_at.ensures ∙ ap told_field_end c.in-Next.is in
+    let e = sym c.in_ok-end.ensures in
     (omega (arith, colours-end a.file.now a.n _ e), colours-within a.file.now a.n _ e c.requires)
 
-pub returns-in-Refused : goal.returns-in-Refused
-returns-in-Refused c = sym (colours-refused _ _ (sym c.colours_at.ensures ∙ ap told_field_end c.in-Refused.is))
+pub returns-in_err-second_at : goal.returns-in_err-second_at
+returns-in_err-second_at c =
+    judged-exit _ _ c.from_residual-in_err-second_at.ensures.1 c.in_err-second_at.ensures
+    (λ x p r f e. lists-refused _ _ _ (sym c.in_ok-end.ensures) c.if-end-file.false e)
 
-pub returns-in-Next-second_at : goal.returns-in-Next-second_at
-returns-in-Next-second_at c =
-    sym (lists-two _ _ _ (sym c.colours_at.ensures ∙ ap told_field_end c.in-Next.is) c.if-end-file.false (sym c.second_at.ensures ∙ ap told_list_two_end c.in-Next-second_at.is))
-
-pub returns-in-Refused-second_at : goal.returns-in-Refused-second_at
-returns-in-Refused-second_at c =
-    sym (lists-refused _ _ _ (sym c.colours_at.ensures ∙ ap told_field_end c.in-Next.is) c.if-end-file.false (sym c.second_at.ensures ∙ ap told_list_two_end c.in-Refused-second_at.is))
-
-pub returns-in-Differ : goal.returns-in-Differ
-returns-in-Differ c =
-    sym (lists-refused _ _ _ (sym c.colours_at.ensures ∙ ap told_field_end c.in-Next.is) c.if-end-file.false (sym c.second_at.ensures ∙ ap told_list_two_end c.in-Differ.is))
+pub returns : goal.returns
+returns c = sym (lists-two _ _ _ (sym c.in_ok-end.ensures) c.if-end-file.false (sym c.in_ok-second_at.ensures))

@@ -6,6 +6,3 @@ use Rattle.aco_judge.proofs.samples_at.Given as goal
 
 abbrev pub invariant-loop-k : goal.invariant-loop-k
 invariant-loop-k l = (l.k ≤ 4) × (done (samples l.space l.file l.at) ≡ done (each (4 - l.k) l.k (λ j. judged 2 (sample l.space j)) l.file l.p))
-
-abbrev pub decreases-loop-k : goal.decreases-loop-k
-decreases-loop-k l = 4 - l.k

@@ -1,16 +1,16 @@
 -- Scaffolding: the form in which the code goes; cited by private contracts and by proofs.
-use Rattle.std.specs.Prelude.{ℕ}
+use Rattle.std.specs.Prelude.{ℕ, Result, Ok, Err}
 use Rattle.algebra.specs.Reader.{Res, ok, refuse}
-use Rattle.aco_judge.specs.declared.Heading.{Heading}
-use Rattle.aco_judge.specs.declared.Heading.TheVariants as vh
-use Rattle.aco_judge.specs.declared.ListTwoEnd.{ListTwoEnd}
-use Rattle.aco_judge.specs.declared.ListTwoEnd.TheVariants as vw
+use Rattle.fault.specs.Fault.{number_of}
+use Rattle.aco_judge.specs.declared.Rejection.{Rejection}
+use Rattle.aco_judge.specs.declared.Rejection.TheVariants as rejection
 
-abbrev pub told_list_two_end : ListTwoEnd → Res Unit
-told_list_two_end (vw.Next n) = ok tt n
-told_list_two_end (vw.Refused x p) = refuse x p 0 0
-told_list_two_end (vw.Differ p r f) = refuse 7 p r f
+-- a rejection, as reading refuses
+abbrev pub refused_as : {A : Type 0} → Rejection → Res A
+refused_as (rejection.Refused e) = refuse (number_of e.0) e.1 0 0
+refused_as (rejection.Differ p r f) = refuse 7 p r f
 
-abbrev pub told_heading : Heading → Res ℕ
-told_heading (vh.Is n next) = ok n next
-told_heading (vh.Refused x p) = refuse x p 0 0
+-- the next place, where list 2 repeats list 1
+abbrev pub told_repeated : Result ℕ Rejection → Res Unit
+told_repeated (Ok n) = ok tt n
+told_repeated (Err e) = refused_as e

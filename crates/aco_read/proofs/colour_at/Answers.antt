@@ -13,8 +13,8 @@ returns c =
     let s = a.file.now in
     let k = a.at + 10 - a.at in
     five s a.at _ _ _ _ _
-    (load_part 2 s a.at k 0 _ (omega arith) (omega arith) c.u16_or_zero-space.ensures ∙ ap (num 2 s) (add-zero a.at))
-    (load_part 2 s a.at k 2 _ (omega arith) (omega arith) c.u16_or_zero-a.ensures)
-    (load_part 2 s a.at k 4 _ (omega arith) (omega arith) c.u16_or_zero-b.ensures)
-    (load_part 2 s a.at k 6 _ (omega arith) (omega arith) c.u16_or_zero-c.ensures)
-    (load_part 2 s a.at k 8 _ (omega arith) (omega arith) c.u16_or_zero-d.ensures)
+    (load_part 2 s a.at k 0 _ (omega arith) (omega arith) c.number_or_zero-space.ensures ∙ ap (num 2 s) (add-zero a.at))
+    (load_part 2 s a.at k 2 _ (omega arith) (omega arith) c.number_or_zero-a.ensures)
+    (load_part 2 s a.at k 4 _ (omega arith) (omega arith) c.number_or_zero-b.ensures)
+    (load_part 2 s a.at k 6 _ (omega arith) (omega arith) c.number_or_zero-c.ensures)
+    (load_part 2 s a.at k 8 _ (omega arith) (omega arith) c.number_or_zero-d.ensures)

@@ -28,32 +28,32 @@ colour_at-colour-requires c =
     named-colour c.args.file.now c.args.n 2 c.requires.0 refl c.loop-i.i c.loop-i-test.true
 
 pub overflow_add-p-in-loop-i-2 : goal.overflow_add-p-in-loop-i-2
-overflow_add-p-in-loop-i-2 c = omega (arith, counted c.args.file.now c.args.n 2 c.requires.0 refl c.loop-i.i c.loop-i-test.true c.loop-i.p c.loop-i.invariant.3 _ c.u32_or_zero-count.ensures)
+overflow_add-p-in-loop-i-2 c = omega (arith, counted c.args.file.now c.args.n 2 c.requires.0 refl c.loop-i.i c.loop-i-test.true c.loop-i.p c.loop-i.invariant.3 _ c.number_or_zero-count.ensures)
 
 pub overflow_cast-p : goal.overflow_cast-p
-overflow_cast-p c = omega (arith, counted c.args.file.now c.args.n 2 c.requires.0 refl c.loop-i.i c.loop-i-test.true c.loop-i.p c.loop-i.invariant.3 _ c.u32_or_zero-count.ensures)
+overflow_cast-p c = omega (arith, counted c.args.file.now c.args.n 2 c.requires.0 refl c.loop-i.i c.loop-i-test.true c.loop-i.p c.loop-i.invariant.3 _ c.number_or_zero-count.ensures)
 
 pub overflow_sub-count : goal.overflow_sub-count
-overflow_sub-count c = omega (arith, counted c.args.file.now c.args.n 2 c.requires.0 refl c.loop-i.i c.loop-i-test.true c.loop-i.p c.loop-i.invariant.3 _ c.u32_or_zero-count.ensures)
+overflow_sub-count c = omega (arith, counted c.args.file.now c.args.n 2 c.requires.0 refl c.loop-i.i c.loop-i-test.true c.loop-i.p c.loop-i.invariant.3 _ c.number_or_zero-count.ensures)
 
 pub overflow_cast-p-in-loop-i : goal.overflow_cast-p-in-loop-i
-overflow_cast-p-in-loop-i c = omega (arith, counted c.args.file.now c.args.n 2 c.requires.0 refl c.loop-i.i c.loop-i-test.true c.loop-i.p c.loop-i.invariant.3 _ c.u32_or_zero-count.ensures)
+overflow_cast-p-in-loop-i c = omega (arith, counted c.args.file.now c.args.n 2 c.requires.0 refl c.loop-i.i c.loop-i-test.true c.loop-i.p c.loop-i.invariant.3 _ c.number_or_zero-count.ensures)
 
 pub overflow_mul-p-in-loop-i : goal.overflow_mul-p-in-loop-i
-overflow_mul-p-in-loop-i c = omega (arith, counted c.args.file.now c.args.n 2 c.requires.0 refl c.loop-i.i c.loop-i-test.true c.loop-i.p c.loop-i.invariant.3 _ c.u32_or_zero-count.ensures)
+overflow_mul-p-in-loop-i c = omega (arith, counted c.args.file.now c.args.n 2 c.requires.0 refl c.loop-i.i c.loop-i-test.true c.loop-i.p c.loop-i.invariant.3 _ c.number_or_zero-count.ensures)
 
 pub overflow_add-p-in-loop-i-3 : goal.overflow_add-p-in-loop-i-3
-overflow_add-p-in-loop-i-3 c = omega (arith, counted c.args.file.now c.args.n 2 c.requires.0 refl c.loop-i.i c.loop-i-test.true c.loop-i.p c.loop-i.invariant.3 _ c.u32_or_zero-count.ensures)
+overflow_add-p-in-loop-i-3 c = omega (arith, counted c.args.file.now c.args.n 2 c.requires.0 refl c.loop-i.i c.loop-i-test.true c.loop-i.p c.loop-i.invariant.3 _ c.number_or_zero-count.ensures)
 
 pub overflow_add-p-in-loop-i-4 : goal.overflow_add-p-in-loop-i-4
-overflow_add-p-in-loop-i-4 c = omega (arith, counted c.args.file.now c.args.n 2 c.requires.0 refl c.loop-i.i c.loop-i-test.true c.loop-i.p c.loop-i.invariant.3 _ c.u32_or_zero-count.ensures)
+overflow_add-p-in-loop-i-4 c = omega (arith, counted c.args.file.now c.args.n 2 c.requires.0 refl c.loop-i.i c.loop-i-test.true c.loop-i.p c.loop-i.invariant.3 _ c.number_or_zero-count.ensures)
 
 pub loop-i-preserved : goal.loop-i-preserved
 loop-i-preserved c =
     let l = c.loop-i in
     let s = c.args.file.now in
-    let k = counted c.args.file.now c.args.n 2 c.requires.0 refl c.loop-i.i c.loop-i-test.true c.loop-i.p c.loop-i.invariant.3 _ c.u32_or_zero-count.ensures in
-    let e = c.put_row.ensures ∙ ap (λ (x : Colour). sets l.table (width * l.i) (numbers (named_with x (l.p + 14) (c.u32_or_zero-count.result - 1)))) c.colour_at-colour.ensures in (
+    let k = counted c.args.file.now c.args.n 2 c.requires.0 refl c.loop-i.i c.loop-i-test.true c.loop-i.p c.loop-i.invariant.3 _ c.number_or_zero-count.ensures in
+    let e = c.put_row.ensures ∙ ap (λ (x : Colour). sets l.table (width * l.i) (numbers (named_with x (l.p + 14) (c.number_or_zero-count.result - 1)))) c.colour_at-colour.ensures in (
       omega arith,
       fill-turn width row (records_of (aco s)) _ l.table l.i l.invariant.1 (unnamed zero_colour) (omega (arith, length-records s c.args.n 2 c.requires.0)) _ _ (ap numbers k.is) (row-wide s (4 + 10 * l.i) _ _) e,
       c.put_row.auto.table ∙ l.invariant.2,

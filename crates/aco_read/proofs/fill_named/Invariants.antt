@@ -1,4 +1,4 @@
-use Prim.Native.Nat.{◌-◌, ◌*◌, ◌≤◌}
+use Prim.Native.Nat.{◌*◌, ◌≤◌}
 use mathlib.Core.Path.{◌≡◌}
 use lib.ListN.{length, drop}
 use lib.Seq.{sets}
@@ -11,6 +11,3 @@ use Rattle.aco_read.proofs.fill_named.Given as goal
 
 abbrev pub invariant-loop-i : goal.invariant-loop-i
 invariant-loop-i l = (l.i ≤ l.n) × (sets l.initial.table 0 (joined row (records_of (aco l.file))) ≡ sets l.table (width * l.i) (joined row (drop l.i (records_of (aco l.file))))) × (length l.table ≡ length l.initial.table) × (l.p ≡ entry_place l.file l.n l.i)
-
-abbrev pub decreases-loop-i : goal.decreases-loop-i
-decreases-loop-i l = l.n - l.i

@@ -1,15 +1,15 @@
-use mathlib.Core.Path.{sym, ap, ◌∙◌}
-use Rattle.fields.specs.Answer.{told32}
-use Rattle.resource_document.proofs.Finding.{colours-done}
+use mathlib.Core.Path.{sym, ◌∙◌}
 use Rattle.algebra.proofs.Sequence.{step-no, step-on}
+use Rattle.fault.proofs.Exit.{told-exit}
+use Rattle.resource_document.proofs.Finding.{colours-done}
 use Rattle.resource_document.proofs.colours_at.Goals as goal
 
-pub returns-in_default : goal.returns-in_default
-returns-in_default c =
+pub returns-in_err-size : goal.returns-in_err-size
+returns-in_err-size c =
     let a = c.args in
-    step-no _ _ (sym (ap (told32 _) c.in_default.is) ∙ c.u32_at.ensures) ∙ sym (colours-done a.file.now a.at)
+    told-exit _ _ _ c.from_residual.ensures.1 (step-no _ _ c.in_err-size.ensures ∙ sym (colours-done a.file.now a.at))
 
 pub returns : goal.returns
 returns c =
     let a = c.args in
-    step-on _ _ (sym (ap (told32 _) c.in-Is.is) ∙ c.u32_at.ensures) c.run_at.ensures ∙ sym (colours-done a.file.now a.at)
+    step-on _ _ c.in_ok-size.ensures c.run_at.ensures ∙ sym (colours-done a.file.now a.at)

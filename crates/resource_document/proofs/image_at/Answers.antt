@@ -1,30 +1,30 @@
-use mathlib.Core.Path.{sym, ap, ◌∙◌}
-use Rattle.fields.specs.Answer.{told_field_end}
-use Rattle.resource_document.proofs.Finding.{image-done}
+use mathlib.Core.Path.{sym, ◌∙◌}
 use Rattle.algebra.proofs.Sequence.{step-no, step-on}
+use Rattle.fault.proofs.Exit.{told-exit}
+use Rattle.resource_document.proofs.Finding.{image-done}
 use Rattle.resource_document.proofs.image_at.Goals as goal
 
-pub returns-in-Refused : goal.returns-in-Refused
-returns-in-Refused c =
+pub returns-in_err-height : goal.returns-in_err-height
+returns-in_err-height c =
     let a = c.args in
-    step-no _ _ (sym (ap told_field_end c.in-Refused.is) ∙ c.run_at.ensures) ∙ sym (image-done a.file.now a.at)
+    told-exit _ _ _ c.from_residual.ensures.1 (step-no _ _ c.in_err-height.ensures ∙ sym (image-done a.file.now a.at))
 
-pub returns-in-Refused-run_at : goal.returns-in-Refused-run_at
-returns-in-Refused-run_at c =
+pub returns-in_err-width : goal.returns-in_err-width
+returns-in_err-width c =
     let a = c.args in
-    step-on _ _ (sym (ap told_field_end c.in-Next.is) ∙ c.run_at.ensures) (step-no _ _ (sym (ap told_field_end c.in-Refused-run_at.is) ∙ c.run_at-in-Next.ensures)) ∙ sym (image-done a.file.now a.at)
+    told-exit _ _ _ c.from_residual-in_err-width.ensures.1 (step-on _ _ c.in_ok-height.ensures (step-no _ _ c.in_err-width.ensures) ∙ sym (image-done a.file.now a.at))
 
-pub returns-in-Refused-run_at-2 : goal.returns-in-Refused-run_at-2
-returns-in-Refused-run_at-2 c =
+pub returns-in_err-depth : goal.returns-in_err-depth
+returns-in_err-depth c =
     let a = c.args in
-    step-on _ _ (sym (ap told_field_end c.in-Next.is) ∙ c.run_at.ensures) (step-on _ _ (sym (ap told_field_end c.in-Next-run_at.is) ∙ c.run_at-in-Next.ensures) (step-no _ _ (sym (ap told_field_end c.in-Refused-run_at-2.is) ∙ c.run_at-in-Next-run_at.ensures))) ∙ sym (image-done a.file.now a.at)
+    told-exit _ _ _ c.from_residual-in_err-depth.ensures.1 (step-on _ _ c.in_ok-height.ensures (step-on _ _ c.in_ok-width.ensures (step-no _ _ c.in_err-depth.ensures)) ∙ sym (image-done a.file.now a.at))
 
-pub returns-in-Refused-run_at-3 : goal.returns-in-Refused-run_at-3
-returns-in-Refused-run_at-3 c =
+pub returns-in_err-mode : goal.returns-in_err-mode
+returns-in_err-mode c =
     let a = c.args in
-    step-on _ _ (sym (ap told_field_end c.in-Next.is) ∙ c.run_at.ensures) (step-on _ _ (sym (ap told_field_end c.in-Next-run_at.is) ∙ c.run_at-in-Next.ensures) (step-on _ _ (sym (ap told_field_end c.in-Next-run_at-2.is) ∙ c.run_at-in-Next-run_at.ensures) (step-no _ _ (sym (ap told_field_end c.in-Refused-run_at-3.is) ∙ c.run_at-in-Next-run_at-2.ensures)))) ∙ sym (image-done a.file.now a.at)
+    told-exit _ _ _ c.from_residual-in_err-mode.ensures.1 (step-on _ _ c.in_ok-height.ensures (step-on _ _ c.in_ok-width.ensures (step-on _ _ c.in_ok-depth.ensures (step-no _ _ c.in_err-mode.ensures))) ∙ sym (image-done a.file.now a.at))
 
-pub returns-in-Next-run_at-3 : goal.returns-in-Next-run_at-3
-returns-in-Next-run_at-3 c =
+pub returns : goal.returns
+returns c =
     let a = c.args in
-    step-on _ _ (sym (ap told_field_end c.in-Next.is) ∙ c.run_at.ensures) (step-on _ _ (sym (ap told_field_end c.in-Next-run_at.is) ∙ c.run_at-in-Next.ensures) (step-on _ _ (sym (ap told_field_end c.in-Next-run_at-2.is) ∙ c.run_at-in-Next-run_at.ensures) (step-on _ _ (sym (ap told_field_end c.in-Next-run_at-3.is) ∙ c.run_at-in-Next-run_at-2.ensures) c.run_at-in-Next-run_at-3.ensures))) ∙ sym (image-done a.file.now a.at)
+    step-on _ _ c.in_ok-height.ensures (step-on _ _ c.in_ok-width.ensures (step-on _ _ c.in_ok-depth.ensures (step-on _ _ c.in_ok-mode.ensures c.run_at-5.ensures))) ∙ sym (image-done a.file.now a.at)

@@ -1,32 +1,17 @@
+use Prim.Native.Nat.{ℕ}
 use mathlib.Core.Path.{sym, ap, ◌∙◌}
-use Rattle.fields.specs.Answer.{told16, told32}
-use Rattle.resource_judge.proofs.Judging.{block-record}
 use Rattle.algebra.proofs.Sequence.{step-no, step-on}
-use borrow.Author.Tests.{eq-eqb, ne_eqb}
-use mathlib.Core.Bool.{Bool}
-use Rattle.algebra.specs.Reader.{unless}
-use Rattle.resource.specs.Reading.{is_signature}
-use Rattle.algebra.proofs.Laws.{judged-short, judged-bad, judged-ok}
+use Rattle.fault.proofs.Exit.{told-exit}
+use Rattle.resource_judge.specs.scaffold.Answer.{parts_from}
+use Rattle.resource_judge.proofs.Judging.{block-record}
 use Rattle.resource_judge.proofs.block_at.Goals as goal
 
-pub returns-in_default : goal.returns-in_default
-returns-in_default c =
+pub returns-in_err-id : goal.returns-in_err-id
+returns-in_err-id c =
     let a = c.args in
-    step-no _ _ (sym (judged-short 4 a.file.now a.at is_signature (sym (ap (told32 _) c.in_default.is) ∙ c.u32_at.ensures))) ∙ sym (block-record a.file.now a.at)
-
-pub returns-then-signature-ne-SIGNATURE : goal.returns-then-signature-ne-SIGNATURE
-returns-then-signature-ne-SIGNATURE c =
-    let a = c.args in
-    step-no _ _ (sym (judged-bad 4 a.file.now a.at is_signature 3 0 0 (sym (ap (told32 _) c.in-Is.is) ∙ c.u32_at.ensures) (ap (λ (b : Bool). unless b 3) (ne_eqb _ _ c.if-signature-ne-SIGNATURE.true)))) ∙ sym (block-record a.file.now a.at)
-
-pub returns-in_default-u16_at : goal.returns-in_default-u16_at
-returns-in_default-u16_at c =
-    let a = c.args in
-    let one = sym (judged-ok 4 a.file.now a.at is_signature (sym (ap (told32 _) c.in-Is.is) ∙ c.u32_at.ensures) (ap (λ (b : Bool). unless b 3) (eq-eqb _ _ c.if-signature-ne-SIGNATURE.false))) in
-    step-on _ _ one (step-no _ _ (sym (ap (told16 _) c.in_default-u16_at.is) ∙ c.u16_at.ensures)) ∙ sym (block-record a.file.now a.at)
+    told-exit _ _ _ c.from_residual.ensures.1 (step-no _ _ c.in_err-id.ensures ∙ sym (block-record a.file.now a.at))
 
 pub returns : goal.returns
 returns c =
     let a = c.args in
-    let one = sym (judged-ok 4 a.file.now a.at is_signature (sym (ap (told32 _) c.in-Is.is) ∙ c.u32_at.ensures) (ap (λ (b : Bool). unless b 3) (eq-eqb _ _ c.if-signature-ne-SIGNATURE.false))) in
-    step-on _ _ one (step-on _ _ (sym (ap (told16 _) c.in-Is-u16_at.is) ∙ c.u16_at.ensures) c.parts_at.ensures) ∙ sym (block-record a.file.now a.at)
+    step-on _ _ c.in_ok-id.ensures (c.parts_at.ensures ∙ ap (λ (i : ℕ). parts_from i a.file.now c.in_ok-id.parts) c.from.ensures) ∙ sym (block-record a.file.now a.at)

@@ -1,15 +1,15 @@
-use mathlib.Core.Path.{sym, ap, ◌∙◌}
-use Rattle.fields.specs.Answer.{told_field_end}
-use Rattle.resource_judge.proofs.Judging.{followed-done}
+use mathlib.Core.Path.{sym, ◌∙◌}
 use Rattle.algebra.proofs.Sequence.{step-no, step-on}
+use Rattle.fault.proofs.Exit.{told-exit}
+use Rattle.resource_judge.proofs.Judging.{followed-done}
 use Rattle.resource_judge.proofs.followed_at.Goals as goal
 
-pub returns-in-Refused : goal.returns-in-Refused
-returns-in-Refused c =
+pub returns-in_err-q : goal.returns-in_err-q
+returns-in_err-q c =
     let a = c.args in
-    step-no _ _ (sym (ap told_field_end c.in-Refused.is) ∙ c.run_at.ensures) ∙ sym (followed-done a.file.now a.k a.n a.at)
+    told-exit _ _ _ c.from_residual.ensures.1 (step-no _ _ c.in_err-q.ensures ∙ sym (followed-done a.file.now a.k a.n a.at))
 
-pub returns-in-Next : goal.returns-in-Next
-returns-in-Next c =
+pub returns : goal.returns
+returns c =
     let a = c.args in
-    step-on _ _ (sym (ap told_field_end c.in-Next.is) ∙ c.run_at.ensures) c.pad_at.ensures ∙ sym (followed-done a.file.now a.k a.n a.at)
+    step-on _ _ c.in_ok-q.ensures c.pad_at.ensures ∙ sym (followed-done a.file.now a.k a.n a.at)

@@ -1,18 +1,12 @@
 -- Scaffolding: the form in which the code goes; cited by private contracts and by proofs.
 use Rattle.std.specs.Prelude.{ℕ, List, length}
-use Rattle.algebra.specs.Reader.{Res, ok, refuse, then, map_res}
+use Rattle.algebra.specs.Reader.{Res, ok, then, map_res}
 use Rattle.resource.specs.Reading.{Part, sized_part}
 use Rattle.resource.specs.declared.Record.{Record}
-use Rattle.resource_judge.specs.declared.Run.{Run}
-use Rattle.resource_judge.specs.declared.Run.TheVariants as vr
 
 -- where bytes lie: the first's place, and their number
 abbrev pub part_of : Part → ℕ × ℕ
 part_of p = (p.first, length p.bytes)
-
-abbrev pub told_part : Run → Res (ℕ × ℕ)
-told_part (vr.Is p n q) = ok (p, n) q
-told_part (vr.Refused x p) = refuse x p 0 0
 
 -- a block's record from its name on, where its ID was read
 unfoldable pub parts_from : ℕ → List ℕ → ℕ → Res Record

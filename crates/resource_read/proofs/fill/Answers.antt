@@ -8,39 +8,15 @@ loop-at-init c =
     let p = c.requires in
     (record { sound = p.0; room = omega (arith, p.1); is = refl }, refl, omega arith)
 
-pub given_at-given-requires : goal.given_at-given-requires
-given_at-given-requires c = (c.loop-at.invariant.0.sound, c.loop-at-test.true)
-
-pub overflow_add-end : goal.overflow_add-end
-overflow_add-end c =
-    let l = c.loop-at in
-    let s = c.args.file.now in
-    let more = c.loop-at-test.true in
-    let x = turned s l.at l.invariant.0.sound more c.given_at-given.ensures in
-    omega (arith, x.sound.inside, x.sound.short)
-
-pub overflow_add-at : goal.overflow_add-at
-overflow_add-at c =
-    let l = c.loop-at in
-    let s = c.args.file.now in
-    let more = c.loop-at-test.true in
-    let x = turned s l.at l.invariant.0.sound more c.given_at-given.ensures in
-    omega (arith, x.sound.inside, x.sound.short)
-
-pub overflow_mul-at : goal.overflow_mul-at
-overflow_mul-at c =
-    let l = c.loop-at in
-    let s = c.args.file.now in
-    let more = c.loop-at-test.true in
-    let x = turned s l.at l.invariant.0.sound more c.given_at-given.ensures in
-    omega (arith, x.sound.inside, x.sound.short)
+pub given_at-next-requires : goal.given_at-next-requires
+given_at-next-requires c = (c.loop-at.invariant.0.sound, c.loop-at-test.true)
 
 pub put_row-requires : goal.put_row-requires
 put_row-requires c =
     let l = c.loop-at in
     let s = c.args.file.now in
     let more = c.loop-at-test.true in
-    let x = turned s l.at l.invariant.0.sound more c.given_at-given.ensures in
+    let x = turned s l.at l.invariant.0.sound more c.given_at-next.ensures in
     (fill-room s l.at l.to _ _ l.invariant.0 more x, x.small)
 
 pub overflow_add-to : goal.overflow_add-to
@@ -48,7 +24,7 @@ overflow_add-to c =
     let l = c.loop-at in
     let s = c.args.file.now in
     let more = c.loop-at-test.true in
-    let x = turned s l.at l.invariant.0.sound more c.given_at-given.ensures in
+    let x = turned s l.at l.invariant.0.sound more c.given_at-next.ensures in
     omega (arith, l.invariant.2, l.invariant.0.sound.inside, l.invariant.0.sound.short)
 
 pub loop-at-smaller : goal.loop-at-smaller
@@ -56,7 +32,7 @@ loop-at-smaller c =
     let l = c.loop-at in
     let s = c.args.file.now in
     let more = c.loop-at-test.true in
-    let x = turned s l.at l.invariant.0.sound more c.given_at-given.ensures in
+    let x = turned s l.at l.invariant.0.sound more c.given_at-next.ensures in
     omega (arith, x.moved, x.sound.inside)
 
 pub loop-at-preserved : goal.loop-at-preserved
@@ -64,7 +40,7 @@ loop-at-preserved c =
     let l = c.loop-at in
     let s = c.args.file.now in
     let more = c.loop-at-test.true in
-    let x = turned s l.at l.invariant.0.sound more c.given_at-given.ensures in
+    let x = turned s l.at l.invariant.0.sound more c.given_at-next.ensures in
     let e = c.put_row.ensures in
     (fill-next s l.at l.to _ _ l.invariant.0 more x _ e, fill-kept s l.at l.to _ _ l.invariant.0 more x _ e ∙ l.invariant.1, omega (arith, l.invariant.2, x.moved))
 

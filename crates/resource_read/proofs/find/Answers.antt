@@ -1,28 +1,19 @@
-use mathlib.Core.Path.{sym, ap, ◌∙◌}
-use Rattle.resource_judge.specs.Answer.{told}
-use Rattle.resource_read.proofs.Answers.{accepted-of, found-refused, found_none, found-is}
+use mathlib.Core.Path.{ap, ◌∙◌}
+use Prim.Native.Nat.{ℕ}
+use Rattle.algebra.specs.Reader.{ok}
+use Rattle.resource_judge.proofs.Judging.{told-no}
+use Rattle.resource_read.specs.Table.{found_in}
+use Rattle.resource_read.specs.scaffold.Parts.{rest}
+use Rattle.resource_read.proofs.Answers.{accepted-of, found-refused, found-is}
 use Rattle.resource_read.proofs.find.Goals as goal
 
-pub index_of-i-requires : goal.index_of-i-requires
-index_of-i-requires c =
-    let a = c.args in
-    let v = sym (ap told c.in-Accepted.is) ∙ c.judge.ensures in
-    (accepted-of a.file.now v).sound
+pub returns-in_err-judge : goal.returns-in_err-judge
+returns-in_err-judge c = told-no _ _ c.from_residual.ensures.1 (found-refused c.args.file.now c.args.id c.in_err-judge.ensures)
 
-pub returns-then-blocks-i : goal.returns-then-blocks-i
-returns-then-blocks-i c =
-    let a = c.args in
-    let v = sym (ap told c.in-Accepted.is) ∙ c.judge.ensures in
-    found_none a.file.now v a.id _ c.index_of-i.ensures c.if-blocks-i.true
+pub index_of-requires : goal.index_of-requires
+index_of-requires c = (accepted-of c.args.file.now c.in_ok-judge.ensures).sound
 
-pub returns-in-Refused : goal.returns-in-Refused
-returns-in-Refused c =
-    let a = c.args in
-    let v = sym (ap told c.in-Refused.is) ∙ c.judge.ensures in
-    found-refused a.file.now a.id v
-
-pub returns-else-blocks-i : goal.returns-else-blocks-i
-returns-else-blocks-i c =
-    let a = c.args in
-    let v = sym (ap told c.in-Accepted.is) ∙ c.judge.ensures in
-    found-is a.file.now v a.id _ c.index_of-i.ensures c.if-blocks-i.false
+pub returns : goal.returns
+returns c =
+    let s = c.args.file.now in
+    found-is s c.in_ok-judge.ensures c.args.id (c.index_of.ensures ∙ ap (λ (i : ℕ). found_in i (ok (rest s 0) 0)) c.from.ensures)

@@ -1,30 +1,24 @@
-use mathlib.Core.Path.{sym, ap, ◌∙◌}
+use Prim.Native.Nat.{ℕ}
+use mathlib.Core.Path.{refl, ap, ◌∙◌}
+use mathlib.Core.List.{List}
 use native.Mathlib.Omega.{arith}
-use Rattle.resource_judge.specs.Answer.{told}
+use Rattle.algebra.specs.Table.{Verdict}
+use Rattle.resource_judge.proofs.Judging.{told-no}
 use Rattle.resource_read.proofs.Answers.{accepted-of, room-enough, table-refused, table-short, table_filled}
 use Rattle.resource_read.proofs.read.Goals as goal
 
-pub returns-then-table-blocks : goal.returns-then-table-blocks
-returns-then-table-blocks c =
+pub returns-in_err-blocks : goal.returns-in_err-blocks
+returns-in_err-blocks c =
     let a = c.args in
-    let v = sym (ap told c.in-Accepted.is) ∙ c.judge.ensures in
-    table-short a.file.now a.table.now v c.if-table-blocks.true
+    ap (λ (v : Verdict ℕ). (v, a.table.now)) (told-no _ _ c.from_residual.ensures.1 refl) ∙ table-refused a.file.now a.table.now c.in_err-blocks.ensures
+
+pub returns-then-table-blocks : goal.returns-then-table-blocks
+returns-then-table-blocks c = table-short c.args.file.now c.args.table.now c.in_ok-blocks.ensures c.if-table-blocks.true
 
 pub fill-requires : goal.fill-requires
 fill-requires c =
-    let a = c.args in
-    let v = sym (ap told c.in-Accepted.is) ∙ c.judge.ensures in
-    let x = accepted-of a.file.now v in
+    let x = accepted-of c.args.file.now c.in_ok-blocks.ensures in
     (x.sound, omega (arith, room-enough _ _ c.if-table-blocks.false, x.count))
 
-pub returns-in-Refused : goal.returns-in-Refused
-returns-in-Refused c =
-    let a = c.args in
-    let v = sym (ap told c.in-Refused.is) ∙ c.judge.ensures in
-    table-refused a.file.now a.table.now v
-
-pub returns-else-table-blocks : goal.returns-else-table-blocks
-returns-else-table-blocks c =
-    let a = c.args in
-    let v = sym (ap told c.in-Accepted.is) ∙ c.judge.ensures in
-    table_filled a.file.now a.table.now v c.if-table-blocks.false _ c.fill.ensures
+pub returns : goal.returns
+returns c = table_filled c.args.file.now c.args.table.now c.in_ok-blocks.ensures c.if-table-blocks.false _ c.fill.ensures

@@ -1,5 +1,5 @@
 -- Scaffolding: what the parts of filling and searching take. No rule stands here.
-use Rattle.std.specs.Prelude.{ℕ, ◌+◌, ◌*◌, ◌/◌, ◌%◌, ◌≤◌, ◌<◌, ◌≡◌, List, [], length}
+use Rattle.std.specs.Prelude.{ℕ, ◌%◌, ◌≤◌, ◌<◌, ◌≡◌, List, [], length}
 use Rattle.algebra.specs.Reader.{Res, ok, refuse, limit}
 use Rattle.resource.specs.Reading.{Entry, blocks}
 use Rattle.resource.specs.declared.Record.{Record}
@@ -25,7 +25,3 @@ pub record Small (r : Record) : Type 0 where
   pub letters : r.letters < 4294967296
   pub payload : r.payload < 4294967296
   pub size : r.size < 4294967296
-
--- the place behind a block that begins at an even place, by its record
-abbrev pub behind : Record → ℕ
-behind r = (r.payload + r.size + 1) / 2 * 2

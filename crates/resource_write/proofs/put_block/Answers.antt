@@ -42,7 +42,7 @@ put_padded-requires c =
     let us = c.part_of.ensures in
     let ds = c.part_of-2.ensures in
     let l = lent-lengths t r c.requires.sound _ _ us ds in
-    (omega (arith, payload-fits t r c.requires.sound _ _ us ds a.at _ _ c.requires.inside c.put_padded-p.ensures.1, c.put_head.auto.out, c.put_padded-p.auto.out, c.put_u32.auto.out), omega arith, omega (arith, l.1, c.requires.short))
+    (omega (arith, payload-fits t r c.requires.sound _ _ us ds a.at _ _ c.requires.inside c.put_padded-p.ensures.1, c.put_head.auto.out, c.put_padded-p.auto.out, c.put_number.auto.out), omega arith, omega (arith, l.1, c.requires.short))
 
 pub returns : goal.returns
 returns c =
@@ -55,4 +55,4 @@ returns c =
     let two = c.put_padded in
     let h = c.put_head in
     let kept = one.auto.out ∙ h.auto.out in
-    (block-put t r c.requires.sound _ _ us ds a.out.now _ _ _ _ a.at _ c.requires.inside one.ensures.1 kept h.ensures one.ensures.0 c.put_u32.ensures two.ensures.0, block-ends t r c.requires.sound _ _ us ds a.at _ _ one.ensures.1 two.ensures.1)
+    (block-put t r c.requires.sound _ _ us ds a.out.now _ _ _ _ a.at _ c.requires.inside one.ensures.1 kept h.ensures one.ensures.0 c.put_number.ensures two.ensures.0, block-ends t r c.requires.sound _ _ us ds a.at _ _ one.ensures.1 two.ensures.1)

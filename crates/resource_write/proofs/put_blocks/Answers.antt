@@ -17,18 +17,6 @@ put_block-p-requires c =
     let w = record-whole a.run.now l.i (omega (arith, tk, c.requires.0)) in
     put-fits a.text.now a.run.now a.n l.i l.p _ _ _ l.invariant.1 tk _ (c.record_at.ensures ∙ w)
 
-pub overflow_add-i : goal.overflow_add-i
-overflow_add-i c =
-    let l = c.loop-i in
-    let a = c.args in
-    omega (arith, c.loop-i-test.true, c.requires.0, c.well_formed)
-
-pub loop-i-smaller : goal.loop-i-smaller
-loop-i-smaller c =
-    let l = c.loop-i in
-    let a = c.args in
-    omega (arith, c.loop-i-test.true)
-
 pub loop-i-preserved : goal.loop-i-preserved
 loop-i-preserved c =
     let l = c.loop-i in

@@ -1,5 +1,5 @@
 use Rattle.resource_write.proofs.Puts.{Putting}
-use Prim.Native.Nat.{◌-◌, ◌≤◌}
+use Prim.Native.Nat.{◌≤◌}
 use lib.ListN.{length}
 use lib.Seq.{sets}
 use Rattle.resource.specs.Grammar.{section_bytes}
@@ -10,6 +10,3 @@ use Rattle.resource_write.proofs.put_blocks.Given as goal
 
 abbrev pub invariant-loop-i : goal.invariant-loop-i
 invariant-loop-i l = (l.i ≤ l.n) × Putting l.text l.run l.n l.i l.p (length l.initial.out) (sets l.initial.out 0 (section_bytes (map (block_by_row l.text) (givens l.run l.n 0)))) l.out
-
-abbrev pub decreases-loop-i : goal.decreases-loop-i
-decreases-loop-i l = l.n - l.i

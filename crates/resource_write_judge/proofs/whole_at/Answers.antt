@@ -1,12 +1,13 @@
 use mathlib.Core.Path.{refl}
+use Prim.Native.Nat.{◌+◌, ◌*◌}
+use native.Mathlib.Omega.{arith}
 use Rattle.resource_write_judge.proofs.Judging.{row-taken}
 use Rattle.resource_write_judge.proofs.whole_at.Goals as goal
 
 pub returns : goal.returns
 returns c =
-    let a = c.args in
-    let b = c.wide-name.ensures in
-    let l = c.wide-letters.ensures in
-    let d = c.wide-payload.ensures in
-    let e = c.wide-size.ensures in
-    (row-taken a.run.now a.k _ _ _ _ _ refl b.0 l.0 d.0 e.0, (l.1, e.1))
+    let run = c.args.run.now in
+    let k = c.args.k in
+    let l = c.type_inv.run (5 * k + 2) in
+    let e = c.type_inv.run (5 * k + 4) in
+    (row-taken run k _ _ _ _ _ refl refl refl refl refl, (omega arith, omega arith))

@@ -1,9 +1,16 @@
 -- Scaffolding: the form in which the code goes; cited by private contracts and by proofs.
-use Rattle.std.specs.Prelude.{ℕ, ◌+◌, ◌≤◌, ◌<◌, ◌≡◌, List}
+use Rattle.std.specs.Prelude.{ℕ, ◌+◌, ◌≤◌, ◌<◌, ◌≡◌, List, Result, Ok, Err}
+use Rattle.fault.specs.Fault.{number_of}
+use Rattle.fault.specs.declared.Fault.{Fault}
 use Rattle.algebra.specs.Reader.{limit}
 use Rattle.algebra.specs.Faults.{faults}
 use Rattle.resource.specs.declared.Record.{Record}
 use Rattle.resource_writing.specs.Writing.{size_within, sizes, record_fault}
+
+-- what is judged of a part or a record: its fault's number, 0 where it has none
+abbrev pub told_judged : Result Unit Fault → ℕ
+told_judged (Ok u) = 0
+told_judged (Err f) = number_of f
 
 -- lengths of 32 bits, as a run has them
 abbrev pub Counted : Record → Type 0
