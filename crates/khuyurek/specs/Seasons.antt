@@ -1,16 +1,15 @@
 -- What the exported answer about two palettes says: number 0 is compared, and all that an answer does not have is 0.
-use Rattle.std.specs.Prelude.{ℕ, List, eqb}
+use Rattle.std.specs.Prelude.{ℕ, List, Option, Some, None, eqb}
 use Rattle.algebra.specs.Reader.{pick}
 use Rattle.palette.specs.Palette.{colours}
+use Rattle.palette.specs.declared.Kind.{Kind}
 use Rattle.palette.specs.declared.Kind.TheVariants.{Aco, Ase}
 use Rattle.palette_compare.specs.Compare.{Comparison, compared, refused_by, comparison}
-use Rattle.khuyurek.specs.declared.seasons.KnownPalette.{KnownPalette}
-use Rattle.khuyurek.specs.declared.seasons.KnownPalette.TheVariants.{Is, Unknown}
 use Rattle.khuyurek.specs.declared.seasons.ComparedAnswer.{ComparedAnswer}
 
 -- 0 ACO, 1 ASE; a comparison takes no other kind
-unfoldable pub palette_kind : ℕ → KnownPalette
-palette_kind n = pick (eqb n 0) (Is Aco) (pick (eqb n 1) (Is Ase) Unknown)
+unfoldable pub palette_kind : ℕ → Option Kind
+palette_kind n = pick (eqb n 0) (Some Aco) (pick (eqb n 1) (Some Ase) None)
 
 abbrev pub comparison_of : Comparison → ComparedAnswer
 comparison_of (compared n d) = record { number = 0; file = 0; place = 0; rec = 0; field = 0; positions = n; differences = d }
@@ -24,7 +23,7 @@ unknown_kind = comparison_of (refused_by 0 4 0 0 0)
 abbrev pub compared_of : Comparison × List ℕ → ComparedAnswer × List ℕ
 compared_of v = (comparison_of v.0, v.1)
 
-abbrev pub compared_by : KnownPalette → List ℕ → KnownPalette → List ℕ → List ℕ → ComparedAnswer × List ℕ
-compared_by Unknown s j t table = (unknown_kind, table)
-compared_by (Is k) s Unknown t table = (unknown_kind, table)
-compared_by (Is k) s (Is j) t table = compared_of (comparison (colours k s) (colours j t) table)
+abbrev pub compared_by : Option Kind → List ℕ → Option Kind → List ℕ → List ℕ → ComparedAnswer × List ℕ
+compared_by None s j t table = (unknown_kind, table)
+compared_by (Some k) s None t table = (unknown_kind, table)
+compared_by (Some k) s (Some j) t table = compared_of (comparison (colours k s) (colours j t) table)

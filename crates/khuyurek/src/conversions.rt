@@ -4,7 +4,7 @@ ghost use Rattle.conversion.specs.Convert.{to_channel, to_sample};
 ghost use Rattle.convert.specs.Answer.{told_channel, told_sample};
 ghost use Rattle.khuyurek.specs.Convert.{channel_of, sample_of};
 
-use convert::{Channel, Sample};
+use fault::Fault;
 
 // Number 0 is given, with the bits of the channel; else the refusal, whose place is 0.
 #[repr(C)]
@@ -22,24 +22,30 @@ pub struct SampleValue {
     pub sample: u16,
 }
 
-fn exported_channel(c: Channel) -> ChannelBits
+fn exported_channel(c: Result<f32, Fault>) -> ChannelBits
     ensures { result ≡ channel_of (told_channel c) }
 {
     match c {
-        Channel::Is(x) => ChannelBits {
+        Ok(x) => ChannelBits {
             number: 0,
             bits: colour::bits_of(x),
         },
-        Channel::Refused(number) => ChannelBits { number, bits: 0 },
+        Err(fault) => ChannelBits {
+            number: fault.number(),
+            bits: 0,
+        },
     }
 }
 
-fn exported_sample(s: Sample) -> SampleValue
+fn exported_sample(s: Result<u16, Fault>) -> SampleValue
     ensures { result ≡ sample_of (told_sample s) }
 {
     match s {
-        Sample::Is(sample) => SampleValue { number: 0, sample },
-        Sample::Refused(number) => SampleValue { number, sample: 0 },
+        Ok(sample) => SampleValue { number: 0, sample },
+        Err(fault) => SampleValue {
+            number: fault.number(),
+            sample: 0,
+        },
     }
 }
 

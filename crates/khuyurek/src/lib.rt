@@ -21,7 +21,7 @@ mod trays;
 mod walks;
 
 ghost use Rattle.std.specs.Prelude.{◌≡◌};
-ghost use Rattle.fields.specs.Answer.{told_written};
+ghost use Rattle.fault.specs.Answer.{told_written};
 ghost use Rattle.khuyurek.specs.Written.{written_of};
 
 pub use books::{
@@ -41,7 +41,7 @@ pub use descriptors::{
     DescriptorAnswer, DescriptorTyped, DescriptorValue, khuyurek_descriptor_judge,
     khuyurek_descriptor_typed_at, khuyurek_descriptor_value_at,
 };
-use fields::Written;
+use fault::Fault;
 pub use indexes::{AcbFound, AcbIndexed, khuyurek_acb_find, khuyurek_acb_index};
 pub use keys::{Found, khuyurek_descriptor_find};
 pub use palettes::{
@@ -84,11 +84,14 @@ pub struct Length {
     pub size: usize,
 }
 
-fn exported_length(w: Written) -> Length
+fn exported_length(w: Result<usize, Fault>) -> Length
     ensures { result ≡ written_of (told_written w) }
 {
     match w {
-        Written::Bytes(n) => Length { number: 0, size: n },
-        Written::Refused(x) => Length { number: x, size: 0 },
+        Ok(size) => Length { number: 0, size },
+        Err(fault) => Length {
+            number: fault.number(),
+            size: 0,
+        },
     }
 }

@@ -32,22 +32,16 @@ pub struct MergedReport {
     pub report: SeasonReport,
 }
 
-#[derive(Drop)]
-enum KnownFile {
-    Is(Kind),
-    Unknown,
-}
-
 // The kind of file that a number says.
-fn report_kind(number: u32) -> KnownFile
+fn report_kind(number: u32) -> Option<Kind>
     ensures { result ≡ report_kind number }
 {
     match number {
-        0 => KnownFile::Is(Kind::Aco),
-        1 => KnownFile::Is(Kind::Ase),
-        2 => KnownFile::Is(Kind::Acb),
-        3 => KnownFile::Is(Kind::Descriptor),
-        _ => KnownFile::Unknown,
+        0 => Some(Kind::Aco),
+        1 => Some(Kind::Ase),
+        2 => Some(Kind::Acb),
+        3 => Some(Kind::Descriptor),
+        _ => None,
     }
 }
 
@@ -71,13 +65,13 @@ pub extern "C" fn khuyurek_report_add(report: SeasonReport, kind: u32, file: &[u
     ensures { result ≡ reported_by (report_kind kind) report.totals file.now }
 {
     match report_kind(kind) {
-        KnownFile::Unknown => Reported {
+        None => Reported {
             number: 4,
             file_number: 0,
             file_place: 0,
             report,
         },
-        KnownFile::Is(known) => {
+        Some(known) => {
             let totals = report.totals;
             let before = Report { totals };
             exported_report(report::add(before, known, file))

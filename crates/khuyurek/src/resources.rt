@@ -12,9 +12,7 @@ ghost use Rattle.khuyurek.specs.Written.{written_of, wrote_of};
 ghost use Rattle.khuyurek.specs.Resource.{answer_of, read_of, to_record, found_of, section_of};
 
 use crate::{Length, exported_length};
-use resource_document::SectionPlace;
-use resource_judge::Answer;
-use resource_read::{Index, RecordAnswer};
+use fault::Refusal;
 
 // Number 0 is accepted, with the number of blocks; else the refusal.
 #[repr(C)]
@@ -57,17 +55,17 @@ pub struct Section {
     pub length: usize,
 }
 
-fn exported(a: Answer) -> ResourceAnswer
+fn exported(a: Result<usize, Refusal>) -> ResourceAnswer
     ensures { result ≡ answer_of (told a) }
 {
     match a {
-        Answer::Accepted { blocks } => ResourceAnswer {
+        Ok(blocks) => ResourceAnswer {
             number: 0,
             place: 0,
             blocks,
         },
-        Answer::Refused { number, place } => ResourceAnswer {
-            number,
+        Err(Refusal(fault, place)) => ResourceAnswer {
+            number: fault.number(),
             place,
             blocks: 0,
         },
@@ -96,7 +94,7 @@ pub extern "C" fn khuyurek_resource_record_at(section: &[u8], index: usize) -> R
     ensures { result ≡ to_record (record_in index (resources section.now)) }
 {
     match resource_read::record_at(section, index) {
-        RecordAnswer::Is(given) => ResourceRecord {
+        Ok(given) => ResourceRecord {
             number: 0,
             id: given.id,
             place: 0,
@@ -105,8 +103,8 @@ pub extern "C" fn khuyurek_resource_record_at(section: &[u8], index: usize) -> R
             data: given.payload,
             data_length: given.size,
         },
-        RecordAnswer::Refused { number, place } => ResourceRecord {
-            number,
+        Err(Refusal(fault, place)) => ResourceRecord {
+            number: fault.number(),
             id: 0,
             place,
             name: 0,
@@ -123,13 +121,13 @@ pub extern "C" fn khuyurek_resource_find(section: &[u8], id: u16) -> ResourceFou
     ensures { result ≡ found_of (found_in id (resources section.now)) }
 {
     match resource_read::find(section, id) {
-        Index::Is(index) => ResourceFound {
+        Ok(index) => ResourceFound {
             number: 0,
             place: 0,
             index,
         },
-        Index::Refused { number, place } => ResourceFound {
-            number,
+        Err(Refusal(fault, place)) => ResourceFound {
+            number: fault.number(),
             place,
             index: 0,
         },
@@ -158,14 +156,14 @@ pub extern "C" fn khuyurek_document_resources(document: &[u8]) -> Section
     ensures { result ≡ section_of (verdict (λ x. x) (documentIn document.now)) }
 {
     match resource_document::resources(document) {
-        SectionPlace::Is { first, size } => Section {
+        Ok(found) => Section {
             number: 0,
             place: 0,
-            first,
-            length: size,
+            first: found.first,
+            length: found.size,
         },
-        SectionPlace::Refused { number, place } => Section {
-            number,
+        Err(Refusal(fault, place)) => Section {
+            number: fault.number(),
             place,
             first: 0,
             length: 0,

@@ -20,20 +20,14 @@ pub struct ComparedAnswer {
     pub differences: usize,
 }
 
-#[derive(Drop)]
-enum KnownPalette {
-    Is(Kind),
-    Unknown,
-}
-
 // The kind of palette that a number says.
-fn palette_kind(number: u32) -> KnownPalette
+fn palette_kind(number: u32) -> Option<Kind>
     ensures { result ≡ palette_kind number }
 {
     match number {
-        0 => KnownPalette::Is(Kind::Aco),
-        1 => KnownPalette::Is(Kind::Ase),
-        _ => KnownPalette::Unknown,
+        0 => Some(Kind::Aco),
+        1 => Some(Kind::Ase),
+        _ => None,
     }
 }
 
@@ -97,10 +91,10 @@ pub extern "C" fn khuyurek_compare(
     ensures { (result, table.new) ≡ compared_by (palette_kind first_kind) first.now (palette_kind second_kind) second.now table.old }
 {
     match palette_kind(first_kind) {
-        KnownPalette::Unknown => unknown(),
-        KnownPalette::Is(one) => match palette_kind(second_kind) {
-            KnownPalette::Unknown => unknown(),
-            KnownPalette::Is(other) => {
+        None => unknown(),
+        Some(one) => match palette_kind(second_kind) {
+            None => unknown(),
+            Some(other) => {
                 exported_comparison(palette_compare::compare(one, first, other, second, table))
             }
         },

@@ -3,8 +3,8 @@ use Rattle.khuyurek.specs.Written.{written_of}
 use Rattle.fields.specs.Answer.{told_written}
 use Rattle.khuyurek.proofs.exported_length.Goals as goal
 
-pub returns-in-Bytes : goal.returns-in-Bytes
-returns-in-Bytes c = sym (ap (λ (v : _). written_of (told_written v)) c.in-Bytes.is)
+pub returns-in-Ok : goal.returns-in-Ok
+returns-in-Ok c = sym (ap (λ (v : _). written_of (told_written v)) c.in-Ok.is)
 
-pub returns-in-Refused : goal.returns-in-Refused
-returns-in-Refused c = sym (ap (λ (v : _). written_of (told_written v)) c.in-Refused.is)
+pub returns-in-Err : goal.returns-in-Err
+returns-in-Err c = rw c.number.ensures (sym (ap (λ (v : _). written_of (told_written v)) c.in-Err.is))

@@ -3,8 +3,8 @@ use mathlib.Core.Path.{sym, ap, ◌∙◌}
 use Rattle.khuyurek.specs.Resource.{section_of}
 use Rattle.khuyurek.proofs.resources.khuyurek_document_resources.Goals as goal
 
-pub returns-in-Is : goal.returns-in-Is
-returns-in-Is c = ap section_of (sym (ap told_place c.in-Is.is) ∙ c.resources.ensures)
+pub returns-in-Ok : goal.returns-in-Ok
+returns-in-Ok c = ap section_of c.in-Ok.ensures
 
-pub returns-in-Refused : goal.returns-in-Refused
-returns-in-Refused c = ap section_of (sym (ap told_place c.in-Refused.is) ∙ c.resources.ensures)
+pub returns-in-Err : goal.returns-in-Err
+returns-in-Err c = rw c.number.ensures (ap section_of c.in-Err.ensures)
