@@ -6,7 +6,12 @@ use mathlib.Core.Bool.{Bool, true, false}
 use lib.Dec.{leb, eqb}
 use lib.ListN.{length, get_or, take, drop}
 use lib.Seq.{drop-cons}
-use borrow.Author.Tests.{le-leb, lt-leb, eq-eqb, ne_eqb, leb-true}
+use borrow.Author.Tests.{le-leb, lt-leb, eq-eqb, ne_eqb, leb-true, eqb-true, eqb-false}
+use denote.Enum.Bare.{sameb}
+use Rattle.fault.specs.Fault.{number_of}
+use Rattle.fault.specs.declared.Fault.{Fault}
+use Rattle.fault.specs.declared.Fault.TheVariants as kind
+use Rattle.fault.specs.contracts.Fault.{the_type}
 use native.Mathlib.Omega.{arith}
 use native.Mathlib.Numerals.{add-one}
 use Rattle.algebra.specs.Chars.{chars}
@@ -38,6 +43,30 @@ use Rattle.resource_list.specs.scaffold.Parts.{shown, Lying}
 -- a name as a part of the section, as the code lends it
 pub put-part : (s : List ℕ) (from k : ℕ) (o : Buffer) {p : Buffer} → p ≡ put_all o (name (take (from + k - from) (drop from s))) → p ≡ put_all o (name (part s from k))
 put-part s from k o e = e ∙ ap (λ (l : List ℕ). put_all o (name l)) (part_of s from k)
+
+-- ---- whether a field was cut
+
+cut-number : (f : Fault) → sameb the_type f kind.Short ≡ eqb (number_of f) 2
+cut-number kind.TooLong = refl
+cut-number kind.Short = refl
+cut-number kind.WrongTag = refl
+cut-number kind.Unknown = refl
+cut-number kind.OutOfRange = refl
+cut-number kind.LeftOver = refl
+cut-number kind.ListsDiffer = refl
+cut-number kind.BadlyClosed = refl
+cut-number kind.Unbalanced = refl
+cut-number kind.TooDeep = refl
+cut-number kind.NoRoom = refl
+cut-number kind.NoRecord = refl
+cut-number kind.WrongLength = refl
+cut-number kind.NoCounterpart = refl
+
+pub cut-is : (f : Fault) {b : Bool} → b ≡ sameb the_type f kind.Short → b ≡ true → number_of f ≡ 2
+cut-is f e t = eqb-true (number_of f) 2 (sym (cut-number f) ∙ sym e ∙ t)
+
+pub cut-not : (f : Fault) {b : Bool} → b ≡ sameb the_type f kind.Short → b ≡ false → number_of f ≡ 2 → ⊥
+cut-not f e t = eqb-false (number_of f) 2 (sym (cut-number f) ∙ sym e ∙ t)
 
 -- ---- where the section of a document lies
 

@@ -14,10 +14,10 @@ ghost use Rattle.resource_list.specs.Listing.{line, most, reached, section_of, l
 ghost use Rattle.resource_list.specs.Listing.{section as Listing·section};
 ghost use Rattle.resource_list.specs.scaffold.Parts.{shown, Lying};
 
+use fault::{Fault, Refusal};
 use listing::{finish, put, put_name, put_number, put_refusal, put_text, put_word, take_input};
 use resource::Record;
-use resource_document::SectionPlace;
-use resource_judge::{Answer, BlockAnswer};
+use resource_document::Section;
 
 // The longest section that is listed, and the last place where that of a document may end.
 const TAKEN: usize = 65536;
@@ -57,18 +57,11 @@ fn put_blocks(out: &mut [u8], n: usize, section: &[u8], first: usize) -> usize
     let mut at: usize = 0;
     let mut i: usize = 0;
     while at < section.len() {
-        match resource_judge::block_at(section, at) {
-            BlockAnswer::Refused {
-                number: _,
-                place: _,
-            } => {
-                return full;
-            }
-            BlockAnswer::Is { given, next } => {
-                full = put_block(out, full, section, first, i, given);
-                at = next;
-            }
-        }
+        let Ok((given, next)) = resource_judge::block_at(section, at) else {
+            return full;
+        };
+        full = put_block(out, full, section, first, i, given);
+        at = next;
         i += 1;
     }
     full
@@ -80,8 +73,8 @@ fn put_section(out: &mut [u8], section: &[u8], first: usize) -> usize
     ensures { (out.new, result) ≡ put_all (out.old, 0) (Listing·section first (resources section.now)) }
 {
     match resource_judge::judge(section) {
-        Answer::Refused { number, place } => put_refusal(out, number, first + place),
-        Answer::Accepted { blocks } => {
+        Err(Refusal(fault, place)) => put_refusal(out, Refusal(fault, first + place)),
+        Ok(blocks) => {
             let mut at = put_text(out, 0, b"8BIM");
             at = put_word(out, at, blocks as u64);
             at = put(out, at, b'\n');
@@ -92,59 +85,50 @@ fn put_section(out: &mut [u8], section: &[u8], first: usize) -> usize
 }
 
 // Where the section of a document lies, which may be longer than what is listed.
-fn section_within(file: &[u8]) -> SectionPlace
+fn section_within(file: &[u8]) -> Result<Section, Refusal>
     ensures { told result ≡ reached (length file.now) (verdict (λ v. v) (document file.now)) }
 {
     match resource_document::resources(file) {
-        SectionPlace::Is { first, size } => {
-            if TAKEN < first + size {
-                return SectionPlace::Refused {
-                    number: 1,
-                    place: 0,
-                };
+        Ok(section) => {
+            if TAKEN < section.first + section.size {
+                return Err(Refusal(Fault::TooLong, 0));
             }
-            SectionPlace::Is { first, size }
+            Ok(section)
         }
-        SectionPlace::Refused { number, place } => {
+        Err(refusal) => {
             if file.len() <= TAKEN {
-                return SectionPlace::Refused { number, place };
+                return Err(refusal);
             }
-            if number == 2 {
-                return SectionPlace::Refused {
-                    number: 1,
-                    place: 0,
-                };
+            if refusal.0 == Fault::Short {
+                return Err(Refusal(Fault::TooLong, 0));
             }
-            SectionPlace::Refused { number, place }
+            Err(refusal)
         }
     }
 }
 
 // Where the section of an input lies.
-fn section_of(file: &[u8]) -> SectionPlace
+fn section_of(file: &[u8]) -> Result<Section, Refusal>
     ensures { told result ≡ section_of file.now }
 {
-    if fields::u32_or_zero(file, 0) == DOCUMENT {
+    if fields::number_or_zero::<u32>(file, 0) == DOCUMENT {
         return section_within(file);
     }
     if TAKEN < file.len() {
-        return SectionPlace::Refused {
-            number: 1,
-            place: 0,
-        };
+        return Err(Refusal(Fault::TooLong, 0));
     }
-    SectionPlace::Is {
+    Ok(Section {
         first: 0,
         size: file.len(),
-    }
+    })
 }
 
 fn put_listing(out: &mut [u8], file: &[u8]) -> usize
     ensures { (out.new, result) ≡ put_all (out.old, 0) (listing file.now) }
 {
     match section_of(file) {
-        SectionPlace::Refused { number, place } => put_refusal(out, number, place),
-        SectionPlace::Is { first, size } => {
+        Err(refusal) => put_refusal(out, refusal),
+        Ok(Section { first, size }) => {
             let end = first + size;
             put_section(out, &file[first..end], first)
         }
