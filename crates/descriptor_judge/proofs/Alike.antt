@@ -9,7 +9,6 @@ use Rattle.algebra.specs.Reader.{Res, ok, refuse, Reader, then, field, judged}
 use Rattle.descriptor.specs.Reading.{Known, is, unknown, known, Sort, leaf, list, object, reference, array, sort_of, form_of, id, class, Row, headed, plain, siblings, children, ref_value, ref_item, column, column_type, array_pair, array_of, Items, keyed, object_of, value_of, item}
 use Rattle.descriptor_judge.specs.scaffold.Cycle.{member_of}
 use Rattle.descriptor_judge.specs.scaffold.Counting.{walked}
-use Rattle.descriptor_judge.specs.declared.RowsEnd.TheVariants as vw
 
 -- as many rows up to the same place, or the same refusal
 pub data Alike : Res (List Row) → Res (List Row) → Type 0 where
@@ -17,7 +16,7 @@ pub data Alike : Res (List Row) → Res (List Row) → Type 0 where
   refusal : {x p r f : ℕ} → Alike (refuse x p r f) (refuse x p r f)
 
 pub alike-walked : {m n : Res (List Row)} → Alike m n → walked m ≡ walked n
-alike-walked (rows rs qs q e) = ap (λ (k : ℕ). vw.Next q k) e
+alike-walked (rows rs qs q e) = ap (λ (k : ℕ). ok k q) e
 alike-walked refusal = refl
 
 alike_self : (m : Res (List Row)) → Alike m m

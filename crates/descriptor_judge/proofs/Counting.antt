@@ -1,40 +1,36 @@
--- Rows are counted: siblings in a loop, and the answers in one number. Assumes nothing.
-use Prim.Native.Nat.{ℕ, suc, ◌+◌, ◌*◌, ◌-◌, ◌/◌, ◌%◌, ◌≤◌, ◌<◌}
+-- Rows are counted: siblings in a loop, one row or more each. Assumes nothing.
+use Prim.Native.Nat.{ℕ, suc, ◌+◌, ◌*◌, ◌-◌, ◌≤◌, ◌<◌}
 use mathlib.Core.Path.{◌≡◌, refl, sym, ap, ap₂, subst, ◌∙◌}
 use mathlib.Core.List.{List, [], ◌++◌}
 use mathlib.Core.Bool.{Bool, true, false}
 use lib.ListN.{length, length-append}
-use borrow.Author.Tests.{lt-ltb, le-ltb}
 use native.Mathlib.Omega.{arith}
 use native.Mathlib.Nat.{add-zero}
 use Rattle.algebra.specs.Reader.{Res, ok, refuse, Reader, then}
-use Rattle.algebra.specs.Refusal.{Of, Placed, ends, fails}
-use Rattle.algebra.proofs.Placed.{of-each}
-use Rattle.descriptor.specs.Reading.{Row, headed, siblings, item, ref_item}
-use Rattle.descriptor.specs.Refusals.{refusals}
+use Rattle.std.specs.Prelude.{Result, Ok, Err}
+use Rattle.fault.specs.Answer.{told_end}
+use Rattle.fault.specs.declared.Refusal.{Refusal}
+use Rattle.descriptor.specs.Reading.{Row, headed, siblings}
 use Rattle.descriptor.proofs.Ends.{Accepts, yes, accepted}
 use Rattle.descriptor.proofs.Tiling.{Reach, list-reach, object-reach, reference-reach, array-reach}
-use Rattle.descriptor.proofs.Placed.{children-placed, ref-placed, array_placed, object-placed, item-placed}
-use Rattle.descriptor_judge.specs.declared.RowsEnd.{RowsEnd}
-use Rattle.descriptor_judge.specs.declared.RowsEnd.TheVariants as vw
 use Rattle.descriptor_judge.specs.scaffold.Cycle.{holder_of, held_of}
-use Rattle.descriptor_judge.specs.scaffold.Counting.{walked, single, own_too, Small, packed, Within}
+use Rattle.descriptor_judge.specs.scaffold.Counting.{told_row, walked, single, own_too, Small, Within}
 use Rattle.descriptor_judge.proofs.Alike.{alike-walked, Free, alike-siblings}
 
 -- ---- answers
 
 -- an answer that accepts tells the layout's case
-pub walked_next : (m : Res (List Row)) (q j : ℕ) → vw.Next q j ≡ walked m → (rs : List Row) × (m ≡ ok rs q) × (j ≡ length rs)
+pub walked_next : (m : Res (List Row)) (q j : ℕ) → ok j q ≡ walked m → (rs : List Row) × (m ≡ ok rs q) × (j ≡ length rs)
 walked_next (ok rs r) q j h = (rs, let z : r ≡ q = cc in ap (λ (x : ℕ). ok rs x) z, cc)
 walked_next (refuse x p r f) q j h = let z : ◌≡◌ {A = ℕ} 0 1 = cc in absurd (omega arith)
 
 -- a refusal by the layout's
-pub walked-no : {m : Res (List Row)} {x p r f : ℕ} → m ≡ refuse x p r f → vw.Refused x p ≡ walked m
+pub walked-no : {m : Res (List Row)} {x p r f : ℕ} → m ≡ refuse x p r f → refuse x p 0 0 ≡ walked m
 walked-no e = sym (ap walked e)
 
 -- a row counts for one
 pub walked-headed : (t d p first v : ℕ) (m : Res (List Row)) → own_too (walked m) ≡ walked (headed t d p first v m)
-walked-headed t d p first v (ok rs q) = let z : length rs + 1 ≡ suc (length rs) = omega arith in ap (λ (k : ℕ). vw.Next q k) z
+walked-headed t d p first v (ok rs q) = let z : length rs + 1 ≡ suc (length rs) = omega arith in ap (λ (k : ℕ). ok k q) z
 walked-headed t d p first v (refuse x y r f) = refl
 
 -- a row that has no member
@@ -42,66 +38,41 @@ pub walked-plain : (t d p first v : ℕ) (m : Res Unit) → single m ≡ walked 
 walked-plain t d p first v (ok u q) = refl
 walked-plain t d p first v (refuse x y r f) = refl
 
--- ---- answers in one number
+pub told-row : (r : Result ℕ Refusal) → told_row r ≡ single (told_end r)
+told-row (Ok n) = refl
+told-row (Err e) = refl
 
-module _ {W : Type 0} (next refused : ℕ → ℕ → W) where
-  pub next-is : (n : ℕ) → n < 0x8000_0000_0000_0000 → packed next refused n ≡ next (n % 0x1_0000_0000) (n / 0x1_0000_0000)
-  unfolding packed
-  next-is n h = rw (lt-ltb n 0x8000_0000_0000_0000 h)
+-- counts in a file within the limit are small
+walked-small : (s : List ℕ) (lo : ℕ) (m : Res (List Row)) → length s ≤ 16777216 → Accepts (Reach s lo) m → Small (walked m)
+walked-small s lo (ok rs q) l (yes b r w) = omega (arith, w.low, w.high)
+walked-small s lo (refuse x p r f) l w = tt
 
-  pub refused-is : (n : ℕ) → 0x8000_0000_0000_0000 ≤ n → packed next refused n ≡ refused ((n - 0x8000_0000_0000_0000) / 0x1_0000_0000) (n % 0x1_0000_0000)
-  unfolding packed
-  refused-is n h = rw (le-ltb n 0x8000_0000_0000_0000 h)
-
-  pub next-packed : (q k : ℕ) → q < 0x1_0000_0000 → k < 0x8000_0000 → packed next refused (k * 0x1_0000_0000 + q) ≡ next q k
-  next-packed q k a b =
-      let e : (k * 0x1_0000_0000 + q) % 0x1_0000_0000 ≡ q = omega arith in
-      let f : (k * 0x1_0000_0000 + q) / 0x1_0000_0000 ≡ k = omega arith in
-      next-is (k * 0x1_0000_0000 + q) (omega arith) ∙ ap₂ next e f
-
-  pub refused-packed : (x p : ℕ) → p < 0x1_0000_0000 → x < 0x8000_0000 → packed next refused (0x8000_0000_0000_0000 + x * 0x1_0000_0000 + p) ≡ refused x p
-  refused-packed x p a b =
-      let e : (0x8000_0000_0000_0000 + x * 0x1_0000_0000 + p - 0x8000_0000_0000_0000) / 0x1_0000_0000 ≡ x = omega arith in
-      let f : (0x8000_0000_0000_0000 + x * 0x1_0000_0000 + p) % 0x1_0000_0000 ≡ p = omega arith in
-      refused-is (0x8000_0000_0000_0000 + x * 0x1_0000_0000 + p) (omega arith) ∙ ap₂ refused e f
-
--- no refusal's number is past the table's
-pub few : (x : ℕ) → Of refusals x → x ≤ 14
-few x h = of-each (λ n. n ≤ 14) refusals (omega arith, (omega arith, (omega arith, (omega arith, (omega arith, (omega arith, (omega arith, (omega arith, tt)))))))) h
-
--- places and counts in a file within the limit are small
-walked-small : (s : List ℕ) (lo : ℕ) (m : Res (List Row)) → length s ≤ 16777216 → Placed refusals s m → Accepts (Reach s lo) m → Small (walked m)
-walked-small s lo (ok rs q) l (ends a) (yes b r w) = (omega arith, omega (arith, w.low))
-walked-small s lo (refuse x p r f) l (fails t a) w = (omega arith, omega (arith, few x t))
-
-module _ {s : List ℕ} {d at : ℕ} (here : Within s d at at) {w : RowsEnd} where
+module _ {s : List ℕ} {d at : ℕ} (here : Within s d at at) {w : Res ℕ} where
   pub holder-small : (b : Bool) → w ≡ walked (holder_of b d 0 s at) → Small w
-  holder-small true e =
-      subst Small (sym e) (walked-small s at _ here.size (object-placed (item d) (item-placed d) d 0 at here.inside) (object-reach s d 0 at here.levels here.inside))
-  holder-small false e =
-      subst Small (sym e) (walked-small s at _ here.size (children-placed (λ j s q. item d 0 j q s q) (λ j q z. item-placed d 0 j q q z z) 0 at here.inside) (list-reach s d 0 at here.levels here.inside))
+  holder-small true e = subst Small (sym e) (walked-small s at _ here.size (object-reach s d 0 at here.levels here.inside))
+  holder-small false e = subst Small (sym e) (walked-small s at _ here.size (list-reach s d 0 at here.levels here.inside))
 
   pub held_small : (b : Bool) → w ≡ walked (held_of b d 0 s at) → Small w
-  held_small true e = subst Small (sym e) (walked-small s at _ here.size (array_placed d 0 at here.inside) (array-reach s d 0 at here.levels here.inside))
-  held_small false e = subst Small (sym e) (walked-small s at _ here.size (children-placed (ref_item d 0) (ref-placed d 0) 0 at here.inside) (reference-reach s d 0 at here.levels here.inside))
+  held_small true e = subst Small (sym e) (walked-small s at _ here.size (array-reach s d 0 at here.levels here.inside))
+  held_small false e = subst Small (sym e) (walked-small s at _ here.size (reference-reach s d 0 at here.levels here.inside))
 
 -- ---- siblings
 
 -- rows, and those of an answer
-abbrev pub add : ℕ → RowsEnd → RowsEnd
-add n (vw.Next q k) = vw.Next q (n + k)
-add n (vw.Refused x p) = vw.Refused x p
+abbrev pub add : ℕ → Res ℕ → Res ℕ
+add n (ok k q) = ok (n + k) q
+add n (refuse x p r f) = refuse x p r f
 
-add_none : (w : RowsEnd) → w ≡ add 0 w
-add_none (vw.Next q k) = let z : k ≡ 0 + k = omega arith in ap (λ (n : ℕ). vw.Next q n) z
-add_none (vw.Refused x p) = refl
+add_none : (w : Res ℕ) → w ≡ add 0 w
+add_none (ok k q) = let z : k ≡ 0 + k = omega arith in ap (λ (n : ℕ). ok n q) z
+add_none (refuse x p r f) = refl
 
-add-add : (n m : ℕ) (w : RowsEnd) → add n (add m w) ≡ add (n + m) w
-add-add n m (vw.Next q k) = let z : n + (m + k) ≡ n + m + k = omega arith in ap (λ (n : ℕ). vw.Next q n) z
-add-add n m (vw.Refused x p) = refl
+add-add : (n m : ℕ) (w : Res ℕ) → add n (add m w) ≡ add (n + m) w
+add-add n m (ok k q) = let z : n + (m + k) ≡ n + m + k = omega arith in ap (λ (n : ℕ). ok n q) z
+add-add n m (refuse x p r f) = refl
 
 add-walked : (rs : List Row) (m : Res (List Row)) → walked (then m (λ qs e. ok (rs ++ qs) e)) ≡ add (length rs) (walked m)
-add-walked rs (ok qs q) = ap (λ (n : ℕ). vw.Next q n) (length-append rs qs)
+add-walked rs (ok qs q) = ap (λ (n : ℕ). ok n q) (length-append rs qs)
 add-walked rs (refuse x p r f) = refl
 
 module _ (f : ℕ → Reader (List Row)) (s : List ℕ) (n at₀ : ℕ) where
@@ -130,23 +101,23 @@ module _ (f : ℕ → Reader (List Row)) (s : List ℕ) (n at₀ : ℕ) where
 
   module _ {next rows i : ℕ} (g : Going next rows i) where
     -- all of them were read
-    pub all_read : n ≤ i → vw.Next next rows ≡ walked (siblings f n 1 s at₀)
-    all_read h = sym (g.rest ∙ ap (λ (m : Res (List Row)). add rows (walked m)) (no_more i next h) ∙ ap (λ (k : ℕ). vw.Next next k) (add-zero rows))
+    pub all_read : n ≤ i → ok rows next ≡ walked (siblings f n 1 s at₀)
+    all_read h = sym (g.rest ∙ ap (λ (m : Res (List Row)). add rows (walked m)) (no_more i next h) ∙ ap (λ (k : ℕ). ok k next) (add-zero rows))
 
-    module _ (free : Free s f f) (h : i < n) {w : RowsEnd} (e : w ≡ walked (f 0 s next)) where
+    module _ (free : Free s f f) (h : i < n) {w : Res ℕ} (e : w ≡ walked (f 0 s next)) where
       -- what the sibling is, by any row number
       sibling : walked (f 1 s next) ≡ w
       sibling = alike-walked (free 1 0 next) ∙ sym e
 
       -- how far a sibling reaches that was read
-      pub turn-reach : Accepts (Reach s next) (f 0 s next) → (q j : ℕ) → w ≡ vw.Next q j → (next + 5 * j ≤ q) × (q ≤ length s)
+      pub turn-reach : Accepts (Reach s next) (f 0 s next) → (q j : ℕ) → w ≡ ok j q → (next + 5 * j ≤ q) × (q ≤ length s)
       turn-reach b q j x =
           let y = walked_next (f 0 s next) q j (sym x ∙ e) in
           let z = accepted b y.0 q y.1 in
           (omega (arith, y.2, z.low), z.high)
 
       -- a turn whose sibling was read
-      pub turn : Accepts (Reach s next) (f 0 s next) → (q j : ℕ) → w ≡ vw.Next q j → Going q (rows + j) (i + 1)
+      pub turn : Accepts (Reach s next) (f 0 s next) → (q j : ℕ) → w ≡ ok j q → Going q (rows + j) (i + 1)
       turn b q j x =
           let y = walked_next (f 1 s next) q j (sym x ∙ sym sibling) in
           let z = turn-reach b q j x in
@@ -160,13 +131,13 @@ module _ (f : ℕ → Reader (List Row)) (s : List ℕ) (n at₀ : ℕ) where
           }
 
       -- a turn whose sibling is refused: so is all
-      pub turn-no : (x p : ℕ) → w ≡ vw.Refused x p → vw.Refused x p ≡ walked (siblings f n 1 s at₀)
+      pub turn-no : (x p : ℕ) → w ≡ refuse x p 0 0 → refuse x p 0 0 ≡ walked (siblings f n 1 s at₀)
       turn-no x p y = sym (g.rest ∙ ap (add rows) (ap walked (one_more i next h) ∙ go (f 1 s next) (sibling ∙ y)))
         where
-          go : (m : Res (List Row)) → walked m ≡ vw.Refused x p → walked (then m (λ rs q. then (siblings f (n - (i + 1)) (1 + length rs) s q) (λ qs e. ok (rs ++ qs) e))) ≡ vw.Refused x p
+          go : (m : Res (List Row)) → walked m ≡ refuse x p 0 0 → walked (then m (λ rs q. then (siblings f (n - (i + 1)) (1 + length rs) s q) (λ qs e. ok (rs ++ qs) e))) ≡ refuse x p 0 0
           go (ok rs q) z = let z : ◌≡◌ {A = ℕ} 0 1 = cc in absurd (omega arith)
           go (refuse a b r f) z = z
 
   -- the same of members that are one row each
-  pub all-single : {next i : ℕ} → Going next i i → n ≤ i → vw.Next next n ≡ walked (siblings f n 1 s at₀)
-  all-single {next} {i} g h = let z : n ≡ i = omega (arith, g.turns) in ap (λ (k : ℕ). vw.Next next k) z ∙ all_read g h
+  pub all-single : {next i : ℕ} → Going next i i → n ≤ i → ok n next ≡ walked (siblings f n 1 s at₀)
+  all-single {next} {i} g h = let z : n ≡ i = omega (arith, g.turns) in ap (λ (k : ℕ). ok k next) z ∙ all_read g h

@@ -3,6 +3,7 @@ use Prim.Native.Nat.{ℕ, zero, suc, ◌+◌, ◌-◌, ◌≤◌}
 use mathlib.Core.Path.{◌≡◌, refl, sym, ap, ◌∙◌, subst}
 use mathlib.Core.List.{List}
 use mathlib.Core.Bool.{Bool, true, false}
+use Rattle.std.specs.Prelude.{Option, Some, None}
 use lib.ListN.{length}
 use borrow.Author.Tests.{eq-eqb, ne_eqb}
 use native.Mathlib.Omega.{arith}
@@ -25,33 +26,33 @@ NonZero n = n ≡ 0 → ⊥
 
 -- ---- what stands after a type
 
-ends_at : (m : Res Unit) (q : ℕ) → end_of m ≡ vv.Ends q → m ≡ ok tt q
+ends_at : (m : Res Unit) (q : ℕ) → ok (Some (vv.Ends q)) 0 ≡ end_of m → m ≡ ok tt q
 ends_at (ok u r) q e = let z : r ≡ q = cc in ap (λ (k : ℕ). ok tt k) z
 ends_at (refuse x p r f) q e = let z : ◌≡◌ {A = ℕ} 0 1 = cc in absurd (omega arith)
 
-ends-no : (m : Res Unit) (x p : ℕ) → end_of m ≡ vv.Refused x p → (r : ℕ) × (f : ℕ) × (m ≡ refuse x p r f)
+ends-no : (m : Res Unit) (x p : ℕ) → refuse x p 0 0 ≡ end_of m → (r : ℕ) × (f : ℕ) × (m ≡ refuse x p r f)
 ends-no (ok u q) x p e = let z : ◌≡◌ {A = ℕ} 0 1 = cc in absurd (omega arith)
 ends-no (refuse y q r f) x p e = let a : y ≡ x = cc in let b : q ≡ p = cc in (r, f, cc)
 
 -- the end of fields is no sort of members
-abbrev Plain : Value → Type 0
-Plain (vv.Ends q) = Unit {0}
-Plain (vv.Refused x p) = Unit {0}
-Plain vv.List = ⊥
-Plain vv.Object = ⊥
-Plain vv.Reference = ⊥
-Plain vv.Array = ⊥
-Plain vv.Unknown = ⊥
+abbrev Plain : Res (Option Value) → Type 0
+Plain (ok (Some (vv.Ends q)) n) = Unit {0}
+Plain (ok (Some vv.List) n) = ⊥
+Plain (ok (Some vv.Object) n) = ⊥
+Plain (ok (Some vv.Reference) n) = ⊥
+Plain (ok (Some vv.Array) n) = ⊥
+Plain (ok None n) = ⊥
+Plain (refuse x p r f) = Unit {0}
 
 end-plain : (m : Res Unit) → Plain (end_of m)
 end-plain (ok u q) = tt
 end-plain (refuse x p r f) = tt
 
-not_plain : (m : Res Unit) (w : Value) → end_of m ≡ w → Plain w
-not_plain m w e = subst Plain e (end-plain m)
+not_plain : (m : Res Unit) (w : Res (Option Value)) → w ≡ end_of m → Plain w
+not_plain m w e = subst Plain (sym e) (end-plain m)
 
 module _ (s : List ℕ) (v : ℕ) where
-  pub begun-ends : (k : Known Sort) (q : ℕ) → begun k s v ≡ vv.Ends q → (p : Reader Unit) × (k ≡ is (leaf p)) × (p s v ≡ ok tt q)
+  pub begun-ends : (k : Known Sort) (q : ℕ) → ok (Some (vv.Ends q)) 0 ≡ begun k s v → (p : Reader Unit) × (k ≡ is (leaf p)) × (p s v ≡ ok tt q)
   begun-ends (is (leaf p)) q e = (p, refl, ends_at (p s v) q e)
   begun-ends (is list) q e = let z : ◌≡◌ {A = ℕ} 0 1 = cc in absurd (omega arith)
   begun-ends (is object) q e = let z : ◌≡◌ {A = ℕ} 0 1 = cc in absurd (omega arith)
@@ -59,7 +60,7 @@ module _ (s : List ℕ) (v : ℕ) where
   begun-ends (is array) q e = let z : ◌≡◌ {A = ℕ} 0 1 = cc in absurd (omega arith)
   begun-ends unknown q e = let z : ◌≡◌ {A = ℕ} 0 1 = cc in absurd (omega arith)
 
-  pub begun-no : (k : Known Sort) (x q : ℕ) → begun k s v ≡ vv.Refused x q → (p : Reader Unit) × (k ≡ is (leaf p)) × (r : ℕ) × (f : ℕ) × (p s v ≡ refuse x q r f)
+  pub begun-no : (k : Known Sort) (x q : ℕ) → refuse x q 0 0 ≡ begun k s v → (p : Reader Unit) × (k ≡ is (leaf p)) × (r : ℕ) × (f : ℕ) × (p s v ≡ refuse x q r f)
   begun-no (is (leaf p)) x q e = let i = ends-no (p s v) x q e in (p, refl, i.0, i.1, i.2)
   begun-no (is list) x q e = let z : ◌≡◌ {A = ℕ} 0 1 = cc in absurd (omega arith)
   begun-no (is object) x q e = let z : ◌≡◌ {A = ℕ} 0 1 = cc in absurd (omega arith)
@@ -67,40 +68,40 @@ module _ (s : List ℕ) (v : ℕ) where
   begun-no (is array) x q e = let z : ◌≡◌ {A = ℕ} 0 1 = cc in absurd (omega arith)
   begun-no unknown x q e = let z : ◌≡◌ {A = ℕ} 0 1 = cc in absurd (omega arith)
 
-  pub begun-list : (k : Known Sort) → begun k s v ≡ vv.List → k ≡ is list
-  begun-list (is (leaf p)) e = absurd (not_plain (p s v) vv.List e)
+  pub begun-list : (k : Known Sort) → ok (Some vv.List) 0 ≡ begun k s v → k ≡ is list
+  begun-list (is (leaf p)) e = absurd (not_plain (p s v) (ok (Some vv.List) 0) e)
   begun-list (is list) e = refl
   begun-list (is object) e = let z : ◌≡◌ {A = ℕ} 0 1 = cc in absurd (omega arith)
   begun-list (is reference) e = let z : ◌≡◌ {A = ℕ} 0 1 = cc in absurd (omega arith)
   begun-list (is array) e = let z : ◌≡◌ {A = ℕ} 0 1 = cc in absurd (omega arith)
   begun-list unknown e = let z : ◌≡◌ {A = ℕ} 0 1 = cc in absurd (omega arith)
 
-  pub begun-object : (k : Known Sort) → begun k s v ≡ vv.Object → k ≡ is object
-  begun-object (is (leaf p)) e = absurd (not_plain (p s v) vv.Object e)
+  pub begun-object : (k : Known Sort) → ok (Some vv.Object) 0 ≡ begun k s v → k ≡ is object
+  begun-object (is (leaf p)) e = absurd (not_plain (p s v) (ok (Some vv.Object) 0) e)
   begun-object (is list) e = let z : ◌≡◌ {A = ℕ} 0 1 = cc in absurd (omega arith)
   begun-object (is object) e = refl
   begun-object (is reference) e = let z : ◌≡◌ {A = ℕ} 0 1 = cc in absurd (omega arith)
   begun-object (is array) e = let z : ◌≡◌ {A = ℕ} 0 1 = cc in absurd (omega arith)
   begun-object unknown e = let z : ◌≡◌ {A = ℕ} 0 1 = cc in absurd (omega arith)
 
-  pub begun-reference : (k : Known Sort) → begun k s v ≡ vv.Reference → k ≡ is reference
-  begun-reference (is (leaf p)) e = absurd (not_plain (p s v) vv.Reference e)
+  pub begun-reference : (k : Known Sort) → ok (Some vv.Reference) 0 ≡ begun k s v → k ≡ is reference
+  begun-reference (is (leaf p)) e = absurd (not_plain (p s v) (ok (Some vv.Reference) 0) e)
   begun-reference (is list) e = let z : ◌≡◌ {A = ℕ} 0 1 = cc in absurd (omega arith)
   begun-reference (is object) e = let z : ◌≡◌ {A = ℕ} 0 1 = cc in absurd (omega arith)
   begun-reference (is reference) e = refl
   begun-reference (is array) e = let z : ◌≡◌ {A = ℕ} 0 1 = cc in absurd (omega arith)
   begun-reference unknown e = let z : ◌≡◌ {A = ℕ} 0 1 = cc in absurd (omega arith)
 
-  pub begun-array : (k : Known Sort) → begun k s v ≡ vv.Array → k ≡ is array
-  begun-array (is (leaf p)) e = absurd (not_plain (p s v) vv.Array e)
+  pub begun-array : (k : Known Sort) → ok (Some vv.Array) 0 ≡ begun k s v → k ≡ is array
+  begun-array (is (leaf p)) e = absurd (not_plain (p s v) (ok (Some vv.Array) 0) e)
   begun-array (is list) e = let z : ◌≡◌ {A = ℕ} 0 1 = cc in absurd (omega arith)
   begun-array (is object) e = let z : ◌≡◌ {A = ℕ} 0 1 = cc in absurd (omega arith)
   begun-array (is reference) e = let z : ◌≡◌ {A = ℕ} 0 1 = cc in absurd (omega arith)
   begun-array (is array) e = refl
   begun-array unknown e = let z : ◌≡◌ {A = ℕ} 0 1 = cc in absurd (omega arith)
 
-  pub begun-unknown : (k : Known Sort) → begun k s v ≡ vv.Unknown → k ≡ unknown
-  begun-unknown (is (leaf p)) e = absurd (not_plain (p s v) vv.Unknown e)
+  pub begun-unknown : (k : Known Sort) → ok None 0 ≡ begun k s v → k ≡ unknown
+  begun-unknown (is (leaf p)) e = absurd (not_plain (p s v) (ok None 0) e)
   begun-unknown (is list) e = let z : ◌≡◌ {A = ℕ} 0 1 = cc in absurd (omega arith)
   begun-unknown (is object) e = let z : ◌≡◌ {A = ℕ} 0 1 = cc in absurd (omega arith)
   begun-unknown (is reference) e = let z : ◌≡◌ {A = ℕ} 0 1 = cc in absurd (omega arith)

@@ -1,9 +1,9 @@
 -- What each answer of the code says.
-use Rattle.std.specs.Prelude.{ℕ, List, length}
+use Rattle.std.specs.Prelude.{ℕ, List, Result, Ok, Err, length}
 use Rattle.algebra.specs.Reader.{Res, ok, refuse}
 use Rattle.descriptor.specs.Reading.{Row}
-use Rattle.descriptor_judge.specs.declared.Answer.{Answer}
-use Rattle.descriptor_judge.specs.declared.Answer.TheVariants as va
+use Rattle.fault.specs.Fault.{number_of}
+use Rattle.fault.specs.declared.Refusal.{Refusal}
 
 -- accepted: the number of rows; refused: number and place
 pub data Verdict : Type 0 where
@@ -15,6 +15,6 @@ abbrev pub verdict : Res (List Row) → Verdict
 verdict (ok rs q) = accepted (length rs)
 verdict (refuse x p r f) = refused x p
 
-abbrev pub told : Answer → Verdict
-told (va.Accepted n) = accepted n
-told (va.Refused x p) = refused x p
+abbrev pub told : Result ℕ Refusal → Verdict
+told (Ok n) = accepted n
+told (Err e) = refused (number_of e.0) e.1

@@ -15,8 +15,7 @@ use Rattle.descriptor.specs.Reading.{Known, is, unknown, known, Sort, leaf, list
 use Rattle.descriptor_fields.specs.scaffold.Answer.{reader_of}
 use Rattle.descriptor_fields.specs.scaffold.Answer as DA
 use Rattle.descriptor_fields.specs.declared.Form.{Form}
-use Rattle.descriptor_fields.specs.declared.KnownForm.{KnownForm}
-use Rattle.descriptor_fields.specs.declared.KnownForm.TheVariants as vk
+use Rattle.std.specs.Prelude.{Option, Some, None}
 use Rattle.descriptor_judge.specs.scaffold.Cycle.{optional}
 use Rattle.descriptor_raw.specs.Raw.{due_of, Sees}
 use Rattle.descriptor_raw.specs.scaffold.Raw.{Ends, Values, Items}
@@ -207,14 +206,14 @@ form-of-known s at t e z f = record {
         (a ∙ i.1, i.2, i.3, f r (ap form_of a ∙ h) q (ap (ref_value r s) b ∙ i.0), b ∙ i.4)
     go d o q u v a b unknown h g = clash g
 
-pub as-form : (s : List ℕ) (at t c a b e : ℕ) (k : KnownForm) (g : Form) (r : RawHead) → t ≡ or_zero (field 4 s at) → Ends (class s (at + 4)) a c → DA.known k ≡ form_of t → k ≡ vk.Is g → Ends (reader_of g s c) b e → r ≡ bare_head t (at + 4) e → Sees (λ d. member_head d forms s at) r
+pub as-form : (s : List ℕ) (at t c a b e : ℕ) (k : Option Form) (g : Form) (r : RawHead) → t ≡ or_zero (field 4 s at) → Ends (class s (at + 4)) a c → DA.known k ≡ form_of t → k ≡ Some g → Ends (reader_of g s c) b e → r ≡ bare_head t (at + 4) e → Sees (λ d. member_head d forms s at) r
 unfolding ref_value
 as-form s at t c a b e k g r z f h w x y = subst (Sees (λ d. member_head d forms s at)) (sym y) (form-of-known s at t e z (λ p u q v.
     let m : reader_of g ≡ p = value_of (sym (ap DA.known w) ∙ h ∙ u) in
     let i = then-inv (class s (at + 4)) _ v in
     x.ends q (ap (reader_of g s) (f.ends i.1 i.2) ∙ ap (λ (n : Reader Unit). n s i.1) m ∙ i.3)))
 
-pub no-form : (s : List ℕ) (at t e : ℕ) (k : KnownForm) (r : RawHead) → t ≡ or_zero (field 4 s at) → DA.known k ≡ form_of t → k ≡ vk.Unknown → r ≡ bare_head t (at + 4) e → Sees (λ d. member_head d forms s at) r
+pub no-form : (s : List ℕ) (at t e : ℕ) (k : Option Form) (r : RawHead) → t ≡ or_zero (field 4 s at) → DA.known k ≡ form_of t → k ≡ None → r ≡ bare_head t (at + 4) e → Sees (λ d. member_head d forms s at) r
 no-form s at t e k r z h w y = subst (Sees (λ d. member_head d forms s at)) (sym y) (form-of-known s at t e z (λ p u q v. absurd (none (sym (ap DA.known w) ∙ h ∙ u))))
 
 -- ---- pairs of object arrays

@@ -18,7 +18,7 @@ use descriptor::{
     ALIAS, ARRAY, BOOL, CLASS, COMP, DOUBLE, ENUMERATED, GLOBAL_CLASS, GLOBAL_OBJECT, LIST, LONG,
     OBJECT, PATH, RAW, REFERENCE, TEXT, UNIT_DOUBLE,
 };
-use descriptor_fields::{Form, KnownForm};
+use descriptor_fields::Form;
 use descriptor_judge::LIMIT;
 
 // A head: its kind, what its children are (0 items, 1 pairs, 2 reference items, 3 the pairs of an
@@ -37,7 +37,7 @@ pub struct RawHead {
 fn count_at(file: &[u8], at: usize) -> usize
     ensures { (result ≡ or_zero (field 4 file.now at)) × (result < 4294967296) }
 {
-    fields::wide(fields::u32_or_zero(file, at))
+    fields::number_or_zero::<u32>(file, at) as usize
 }
 
 // Behind an ID.
@@ -107,7 +107,7 @@ fn opens(file: &[u8], kind: u32, what: u32, objects: u32, value: usize, at: usiz
         kind,
         what,
         objects,
-        count: fields::u32_or_zero(file, at),
+        count: fields::number_or_zero::<u32>(file, at),
         value,
         end: at + 4,
     }
@@ -198,11 +198,11 @@ fn form_head(file: &[u8], at: usize) -> RawHead
     requires { at < 144115188075855872 }
     ensures { Sees (λ d. member_head d forms file.now at) result }
 {
-    let kind = fields::u32_or_zero(file, at);
+    let kind = fields::number_or_zero::<u32>(file, at);
     let class = class_end(file, at + 4);
     match descriptor_fields::form_of(kind) {
-        KnownForm::Is(form) => leaf(kind, at + 4, form_end(file, form, class)),
-        KnownForm::Unknown => leaf(kind, at + 4, class),
+        Some(form) => leaf(kind, at + 4, form_end(file, form, class)),
+        None => leaf(kind, at + 4, class),
     }
 }
 
@@ -215,7 +215,7 @@ fn column_head(file: &[u8], objects: u32, at: usize) -> RawHead
     leaf(
         descriptor::COLUMN,
         value,
-        value + 8 + 8 * fields::wide(objects),
+        value + 8 + 8 * (objects as usize),
     )
 }
 
@@ -259,7 +259,7 @@ fn item_at(file: &[u8], kind: u32, v: usize) -> RawHead
         LIST => list_head(file, kind, 0, v),
         REFERENCE => list_head(file, kind, 2, v),
         OBJECT | GLOBAL_OBJECT => object_head(file, kind, v),
-        ARRAY => array_head(file, kind, fields::u32_or_zero(file, v), v),
+        ARRAY => array_head(file, kind, fields::number_or_zero::<u32>(file, v), v),
         _ => fixed(kind, v, 0),
     }
 }
@@ -272,7 +272,7 @@ pub fn head_at(file: &[u8], what: u32, objects: u32, at: usize) -> RawHead
     }
     if what < 2 {
         let start = key_end(file, what == 1, at);
-        return item_at(file, fields::u32_or_zero(file, start), start + 4);
+        return item_at(file, fields::number_or_zero::<u32>(file, start), start + 4);
     }
     if what == 2 {
         return form_head(file, at);
@@ -298,7 +298,7 @@ fn item_to_fill(file: &[u8], kind: u32, v: usize) -> RawHead
         LIST => list_head(file, kind, 0, v),
         REFERENCE => list_head(file, kind, 2, v),
         OBJECT | GLOBAL_OBJECT => object_head(file, kind, v),
-        ARRAY => array_head(file, kind, fields::u32_or_zero(file, v), v),
+        ARRAY => array_head(file, kind, fields::number_or_zero::<u32>(file, v), v),
         _ => fixed(kind, v, 0),
     }
 }
@@ -311,7 +311,7 @@ pub fn head_to_fill(file: &[u8], what: u32, objects: u32, at: usize) -> RawHead
     }
     if what < 2 {
         let start = key_end(file, what == 1, at);
-        return item_to_fill(file, fields::u32_or_zero(file, start), start + 4);
+        return item_to_fill(file, fields::number_or_zero::<u32>(file, start), start + 4);
     }
     if what == 2 {
         return form_head(file, at);
@@ -337,7 +337,7 @@ fn item_to_value(file: &[u8], kind: u32, v: usize) -> RawHead
         LIST => list_head(file, kind, 0, v),
         REFERENCE => list_head(file, kind, 2, v),
         OBJECT | GLOBAL_OBJECT => object_head(file, kind, v),
-        ARRAY => array_head(file, kind, fields::u32_or_zero(file, v), v),
+        ARRAY => array_head(file, kind, fields::number_or_zero::<u32>(file, v), v),
         _ => fixed(kind, v, 0),
     }
 }
@@ -350,7 +350,7 @@ pub fn head_to_value(file: &[u8], what: u32, objects: u32, at: usize) -> RawHead
     }
     if what < 2 {
         let start = key_end(file, what == 1, at);
-        return item_to_value(file, fields::u32_or_zero(file, start), start + 4);
+        return item_to_value(file, fields::number_or_zero::<u32>(file, start), start + 4);
     }
     if what == 2 {
         return form_head(file, at);
@@ -376,7 +376,7 @@ fn item_to_compare(file: &[u8], kind: u32, v: usize) -> RawHead
         LIST => list_head(file, kind, 0, v),
         REFERENCE => list_head(file, kind, 2, v),
         OBJECT | GLOBAL_OBJECT => object_head(file, kind, v),
-        ARRAY => array_head(file, kind, fields::u32_or_zero(file, v), v),
+        ARRAY => array_head(file, kind, fields::number_or_zero::<u32>(file, v), v),
         _ => fixed(kind, v, 0),
     }
 }
@@ -389,7 +389,7 @@ pub fn head_to_compare(file: &[u8], what: u32, objects: u32, at: usize) -> RawHe
     }
     if what < 2 {
         let start = key_end(file, what == 1, at);
-        return item_to_compare(file, fields::u32_or_zero(file, start), start + 4);
+        return item_to_compare(file, fields::number_or_zero::<u32>(file, start), start + 4);
     }
     if what == 2 {
         return form_head(file, at);

@@ -1,16 +1,11 @@
-use mathlib.Core.Path.{refl}
-use Rattle.fields.specs.Answer.{told32}
 use Rattle.descriptor.specs.Reading.{raw_bytes}
-use Rattle.descriptor.proofs.Fields.{after}
+use Rattle.descriptor_fields.proofs.Exits.{onward, exit}
 use Rattle.descriptor_fields.proofs.bytes_at.Goals as goal
 
-pub returns-in_default : goal.returns-in_default
+pub returns-in_err-n : goal.returns-in_err-n
 unfolding raw_bytes
-returns-in_default c =
-    after (told32 c.args.at) c.u32_at.ensures c.in_default.is _ refl
+returns-in_err-n c = exit _ _ _ _ c.from_residual.ensures.1 c.in_err-n.ensures
 
 pub returns : goal.returns
 unfolding raw_bytes
-returns c =
-    let a = c.args in
-    after (told32 a.at) c.u32_at.ensures c.in-Is.is _ c.run_at.ensures
+returns c = onward c.in_ok-n.ensures _ c.run_at.ensures

@@ -5,7 +5,4 @@ use Rattle.descriptor.specs.Reading.{double}
 use Rattle.descriptor_fields.proofs.doubles_at.Given as goal
 
 abbrev pub invariant-loop-i : goal.invariant-loop-i
-invariant-loop-i l = (l.i ≤ l.n) × (done (each l.n 0 (λ j. double) l.file l.at) ≡ done (each (l.n - l.i) l.i (λ j. double) l.file l.p))
-
-abbrev pub decreases-loop-i : goal.decreases-loop-i
-decreases-loop-i l = l.n - l.i
+invariant-loop-i l = (l._i ≤ l.n) × (done (each l.n 0 (λ j. double) l.file l.at) ≡ done (each (l.n - l._i) l._i (λ j. double) l.file l.p))

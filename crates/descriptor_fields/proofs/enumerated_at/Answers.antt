@@ -1,13 +1,11 @@
-use mathlib.Core.Path.{refl}
-use Rattle.fields.specs.Answer.{told_field_end}
 use Rattle.descriptor.specs.Reading.{enumerated}
-use Rattle.descriptor.proofs.Fields.{after}
+use Rattle.descriptor_fields.proofs.Exits.{onward, exit}
 use Rattle.descriptor_fields.proofs.enumerated_at.Goals as goal
 
-pub returns-in-Refused : goal.returns-in-Refused
+pub returns-in_err-next : goal.returns-in_err-next
 unfolding enumerated
-returns-in-Refused c = after told_field_end c.id_at.ensures c.in-Refused.is _ refl
+returns-in_err-next c = exit _ _ _ _ c.from_residual.ensures.1 c.in_err-next.ensures
 
-pub returns-in-Next : goal.returns-in-Next
+pub returns : goal.returns
 unfolding enumerated
-returns-in-Next c = after told_field_end c.id_at.ensures c.in-Next.is _ c.id_at-in-Next.ensures
+returns c = onward c.in_ok-next.ensures _ c.id_at-2.ensures

@@ -1,13 +1,11 @@
-use mathlib.Core.Path.{refl}
-use Rattle.fields.specs.Answer.{told_field_end}
 use Rattle.descriptor.specs.Reading.{ref_value}
-use Rattle.descriptor.proofs.Fields.{after}
+use Rattle.descriptor_fields.proofs.Exits.{onward, exit}
 use Rattle.descriptor_fields.proofs.ref_value_at.Goals as goal
 
-pub returns-in-Refused : goal.returns-in-Refused
+pub returns-in_err-next : goal.returns-in_err-next
 unfolding ref_value
-returns-in-Refused c = after told_field_end c.class_at.ensures c.in-Refused.is _ refl
+returns-in_err-next c = exit _ _ _ _ c.from_residual.ensures.1 c.in_err-next.ensures
 
-pub returns-in-Next : goal.returns-in-Next
+pub returns : goal.returns
 unfolding ref_value
-returns-in-Next c = after told_field_end c.class_at.ensures c.in-Next.is _ c.form_at.ensures
+returns c = onward c.in_ok-next.ensures _ c.form_at.ensures

@@ -16,7 +16,4 @@ abbrev pub decreases-pair : goal.decreases-pair
 decreases-pair l = length l.file.now - l.at + 1
 
 abbrev pub invariant-list-loop-i : goal.invariant-list-loop-i
-invariant-list-loop-i l = Going (member_of l.keyed l.left 0) l.file l.n l.from l.next l.rows l.i
-
-abbrev pub decreases-list-loop-i : goal.decreases-list-loop-i
-decreases-list-loop-i l = l.n - l.i
+invariant-list-loop-i l = Going (member_of l.keyed l.left 0) l.file l.n l.from l.next l.rows l._i

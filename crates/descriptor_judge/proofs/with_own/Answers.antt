@@ -1,10 +1,14 @@
-use mathlib.Core.Path.{sym, ap}
-use Rattle.descriptor_judge.specs.scaffold.Counting.{own_too}
-use Rattle.descriptor_judge.proofs.Counting.{next-is, refused-is}
+use native.Mathlib.Omega.{arith}
+use mathlib.Core.Path.{sym, ap, subst}
+use Rattle.fault.proofs.Exit.{told-exit}
+use Rattle.descriptor_judge.specs.scaffold.Counting.{told_rows, own_too, Small}
 use Rattle.descriptor_judge.proofs.with_own.Goals as goal
 
-pub returns-then-n-ge9223372036854775808 : goal.returns-then-n-ge9223372036854775808
-returns-then-n-ge9223372036854775808 c = sym (ap own_too (refused-is _ _ _ c.if-n-ge9223372036854775808.true))
+pub overflow_add-result : goal.overflow_add-result
+overflow_add-result c = let h = subst (λ b. Small (told_rows b)) c.in_ok-rows.was c.requires in omega arith
+
+pub returns-in_err-rows : goal.returns-in_err-rows
+returns-in_err-rows c = told-exit _ _ _ c.from_residual.ensures.1 (sym (ap (λ b. own_too (told_rows b)) c.in_err-rows.was))
 
 pub returns : goal.returns
-returns c = sym (ap own_too (next-is _ _ _ c.if-n-ge9223372036854775808.false))
+returns c = sym (ap (λ b. own_too (told_rows b)) c.in_ok-rows.was)

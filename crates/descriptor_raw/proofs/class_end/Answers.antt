@@ -4,7 +4,6 @@ use Rattle.descriptor_raw.proofs.Laws as L
 use Rattle.descriptor.specs.Reading.{id, unicode, class}
 use Rattle.descriptor_raw.proofs.class_end.Goals as goal
 
--- src/lib.rt:66:1
 pub returns : goal.returns
 unfolding class
 returns c =

@@ -2,7 +2,6 @@ use Rattle.descriptor_raw.proofs.Laws as L
 use Rattle.descriptor.specs.Reading.{class}
 use Rattle.descriptor_raw.proofs.class_head.Goals as goal
 
--- src/lib.rt:163:1
 pub returns : goal.returns
 returns c =
     let a = c.args in

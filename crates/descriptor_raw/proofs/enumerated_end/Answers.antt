@@ -4,7 +4,6 @@ use Rattle.descriptor_raw.proofs.Laws as L
 use Rattle.descriptor.specs.Reading.{id, enumerated}
 use Rattle.descriptor_raw.proofs.enumerated_end.Goals as goal
 
--- src/lib.rt:74:1
 pub returns : goal.returns
 unfolding enumerated
 returns c =

@@ -2,7 +2,6 @@ use Rattle.descriptor_raw.proofs.Laws as L
 use Rattle.descriptor.specs.Reading.{enumerated}
 use Rattle.descriptor_raw.proofs.enumerated_head.Goals as goal
 
--- src/lib.rt:155:1
 pub returns : goal.returns
 returns c =
     let a = c.args in

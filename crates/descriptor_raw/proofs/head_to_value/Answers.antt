@@ -3,24 +3,20 @@ use native.Mathlib.Omega.{arith}
 use Rattle.descriptor_raw.proofs.Laws as L
 use Rattle.descriptor_raw.proofs.head_to_value.Goals as goal
 
--- src/lib.rt:361:9
 pub returns-then-at-gt-LIMIT : goal.returns-then-at-gt-LIMIT
 returns-then-at-gt-LIMIT c =
     λ l. absurd (omega (arith, l, c.if-at-gt-LIMIT.true))
 
--- src/lib.rt:365:9
 pub returns-then-what-lt2 : goal.returns-then-what-lt2
 returns-then-what-lt2 c =
     let a = c.args in
-    λ l. L.as-keyed a.file.now a.what a.objects a.at _ _ _ _ c.if-what-lt2.true refl c.key_end-start.ensures (L.item-sees a.file.now _ _ _ c.u32_or_zero.ensures c.item_to_value.ensures)
+    λ l. L.as-keyed a.file.now a.what a.objects a.at _ _ _ _ c.if-what-lt2.true refl c.key_end-start.ensures (L.item-sees a.file.now _ _ _ c.number_or_zero.ensures c.item_to_value.ensures)
 
--- src/lib.rt:368:9
 pub returns-then-what-eq2 : goal.returns-then-what-eq2
 returns-then-what-eq2 c =
     let a = c.args in
     λ l. L.sees-due a.file.now a.at _ _ _ (L.due-forms a.what a.objects c.if-what-eq2.true) c.form_head.ensures
 
--- src/lib.rt:357:1
 pub returns : goal.returns
 returns c =
     let a = c.args in

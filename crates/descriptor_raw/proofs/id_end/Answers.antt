@@ -1,13 +1,11 @@
 use Rattle.descriptor_raw.proofs.Laws as L
 use Rattle.descriptor_raw.proofs.id_end.Goals as goal
 
--- src/lib.rt:52:9
 pub returns-then-n-eq0 : goal.returns-then-n-eq0
 returns-then-n-eq0 c =
     let a = c.args in
     L.id-zero a.file.now a.at _ c.count_at-n.ensures.0 c.if-n-eq0.true
 
--- src/lib.rt:46:1
 pub returns : goal.returns
 returns c =
     let a = c.args in

@@ -1,13 +1,11 @@
 use Rattle.descriptor_raw.proofs.Laws as L
 use Rattle.descriptor_raw.proofs.key_end.Goals as goal
 
--- src/lib.rt:191:9
 pub returns-then-there : goal.returns-then-there
 returns-then-there c =
     let a = c.args in
     L.key-some a.file.now a.at _ a.there c.if-there.true c.id_end.ensures
 
--- src/lib.rt:186:1
 pub returns : goal.returns
 returns c =
     let a = c.args in

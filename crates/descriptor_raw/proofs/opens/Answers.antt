@@ -2,8 +2,7 @@ use mathlib.Core.Path.{ap}
 use Prim.Native.Nat.{ℕ, ◌+◌}
 use Rattle.descriptor_raw.proofs.opens.Goals as goal
 
--- src/lib.rt:113:1
 pub returns : goal.returns
 returns c =
     let a = c.args in
-    ap (λ (n : ℕ). record { kind = a.kind; what = a.what; objects = a.objects; count = n; value = a.value; end = a.at + 4 }) c.u32_or_zero.ensures
+    ap (λ (n : ℕ). record { kind = a.kind; what = a.what; objects = a.objects; count = n; value = a.value; end = a.at + 4 }) c.number_or_zero.ensures

@@ -1,7 +1,6 @@
 use Rattle.descriptor_raw.proofs.Laws as L
 use Rattle.descriptor_raw.proofs.root_head.Goals as goal
 
--- src/lib.rt:211:1
 pub returns : goal.returns
 returns c =
     let a = c.args in

@@ -2,7 +2,6 @@ use Rattle.descriptor_raw.proofs.Laws as L
 use Rattle.descriptor.specs.Reading.{raw_bytes}
 use Rattle.descriptor_raw.proofs.run_head.Goals as goal
 
--- src/lib.rt:139:1
 pub returns : goal.returns
 returns c =
     let a = c.args in
