@@ -2,6 +2,12 @@
 use Prim.Native.Nat.{ℕ, zero, suc, ◌+◌, ◌-◌, ◌*◌, ◌≤◌, ◌<◌}
 use mathlib.Core.Path.{◌≡◌, refl, sym, ap, ap₂, ◌∙◌}
 use mathlib.Core.List.{List, [], ◌∷◌, map}
+use Rattle.std.specs.Prelude.{Some, None, Result}
+use Rattle.std.specs.Result.{IsErrAnd}
+use Rattle.std.proofs.lemmas.Result.{err_from_is_err_and}
+use Rattle.fault.specs.Fault.{number_of}
+use Rattle.fault.specs.declared.Refusal.{Refusal}
+use Rattle.acb_judge.specs.declared.Book.{Book}
 use mathlib.Core.Bool.{Bool, true, false}
 use lib.ListN.{length}
 use lib.Dec.{leb, eqb}
@@ -11,15 +17,15 @@ use native.Mathlib.Nat.{add-zero}
 use Rattle.algebra.specs.Chars.{chars}
 use Rattle.algebra.specs.Numbers.{num}
 use Rattle.algebra.specs.Reader.{Res, ok, refuse, then, pick, field, body, done, map_res, each, ended, judged, unless, limit}
-use Rattle.algebra.specs.Table.{accepted, refused, verdict}
+use Rattle.algebra.specs.Table.{Verdict, accepted, refused, verdict}
 use Rattle.algebra.specs.Text.{Name, place}
 use Rattle.algebra.proofs.Laws.{field_in, field-short, body-in, body-short, judged-short, judged-bad, judged-ok, then-done}
 use Rattle.algebra.proofs.Places.{length-nums}
 use Rattle.algebra.proofs.Inverse.{body-inv, field-inv, each-length, ok-value, ok-place, clash}
 use Rattle.acb.specs.Grammar.{Tag, none, spot, process}
 use Rattle.acb.specs.Reading.{string, Entry, colour, is_tag, tag_of, components_of, Numbers, Header, opening, strings, numbers, header, closing, book, acb}
-use Rattle.acb_judge.specs.scaffold.Parts.{two, header_from, rest, tagged, unknown, known_tag}
-use Rattle.acb_judge.specs.Answer.{text_place, HeaderPlaces, header_places, reported, report}
+use Rattle.acb_judge.specs.scaffold.Parts.{header_from, rest, known_tag}
+use Rattle.acb_judge.specs.Answer.{text_place, HeaderPlaces, header_places, Report, reported, report, told}
 use Rattle.acb_judge.specs.scaffold.Answer.{headed}
 
 -- ---- a string
@@ -130,41 +136,29 @@ module _ (s : List ℕ) where
     unfolding opening
     opening-good h = sym (rw (judged-ok 4 s 0 (λ x. unless (eqb x (chars "8BCB")) 3) e (rw (eq-eqb x (chars "8BCB") h))) (then-done (judged 2 (λ v. unless (eqb v 1) 3) s a) (λ b. field 2 s b)))
 
--- four strings as two and two
-abbrev Pair : Type 0
-Pair = (ℕ × ℕ) × (ℕ × ℕ)
-
-abbrev pub four : Pair → Pair → List (ℕ × ℕ)
-four ab cd = ab.0 ∷ ab.1 ∷ cd.0 ∷ cd.1 ∷ []
-
-pub strings-two : (s : List ℕ) (at : ℕ) → then (two s at) (λ ab p. then (two s p) (λ cd q. ok (four ab cd) q)) ≡ map_res (map text_place) (strings s at)
-unfolding strings each two
-strings-two s at = sym (first (string s at))
+pub strings-four : (s : List ℕ) (at : ℕ) → then (place (string s at)) (λ a p. then (place (string s p)) (λ b q. then (place (string s q)) (λ c r. then (place (string s r)) (λ d e. ok (a ∷ b ∷ c ∷ d ∷ []) e)))) ≡ map_res (map text_place) (strings s at)
+unfolding strings each
+strings-four s at = sym (first (string s at))
   where
     more : Name → Res (List Name) → Res (List Name)
     more a m = then m (λ l q. ok (a ∷ l) q)
 
-    with : ℕ × ℕ → Res Name → Res Pair
-    with a m = then (place m) (λ b q. ok (a, b) q)
-
-    pair : Res Name → Res Pair
-    pair m = then (place m) (λ a p. then (place (string s p)) (λ b q. ok (a, b) q))
-
-    fourth : (a b c : Name) (m : Res Name) → map_res (map text_place) (more a (more b (more c (then m (λ d q. ok (d ∷ []) q))))) ≡ then (with (text_place c) m) (λ cd q. ok (four (text_place a, text_place b) cd) q)
+    fourth : (a b c : Name) (m : Res Name) → map_res (map text_place) (more a (more b (more c (then m (λ d q. ok (d ∷ []) q))))) ≡ then (place m) (λ d e. ok (text_place a ∷ text_place b ∷ text_place c ∷ d ∷ []) e)
     fourth a b c (ok d q) = refl
     fourth a b c (refuse x p r f) = refl
 
-    third : (a b : Name) (m : Res Name) → map_res (map text_place) (more a (more b (then m (λ c p. more c (then (string s p) (λ d q. ok (d ∷ []) q)))))) ≡ then (pair m) (λ cd q. ok (four (text_place a, text_place b) cd) q)
+    third : (a b : Name) (m : Res Name) → map_res (map text_place) (more a (more b (then m (λ c p. more c (then (string s p) (λ d q. ok (d ∷ []) q))))))
+        ≡ then (place m) (λ c r. then (place (string s r)) (λ d e. ok (text_place a ∷ text_place b ∷ c ∷ d ∷ []) e))
     third a b (ok c p) = fourth a b c (string s p)
     third a b (refuse x p r f) = refl
 
     second : (a : Name) (m : Res Name) → map_res (map text_place) (more a (then m (λ b o. more b (then (string s o) (λ c p. more c (then (string s p) (λ d q. ok (d ∷ []) q)))))))
-        ≡ then (with (text_place a) m) (λ ab o. then (pair (string s o)) (λ cd q. ok (four ab cd) q))
+        ≡ then (place m) (λ b q. then (place (string s q)) (λ c r. then (place (string s r)) (λ d e. ok (text_place a ∷ b ∷ c ∷ d ∷ []) e)))
     second a (ok b o) = third a b (string s o)
     second a (refuse x p r f) = refl
 
     first : (m : Res Name) → map_res (map text_place) (then m (λ a n. more a (then (string s n) (λ b o. more b (then (string s o) (λ c p. more c (then (string s p) (λ d q. ok (d ∷ []) q))))))))
-        ≡ then (pair m) (λ ab o. then (pair (string s o)) (λ cd q. ok (four ab cd) q))
+        ≡ then (place m) (λ a p. then (place (string s p)) (λ b q. then (place (string s q)) (λ c r. then (place (string s r)) (λ d e. ok (a ∷ b ∷ c ∷ d ∷ []) e))))
     first (ok a n) = second a (string s n)
     first (refuse x p r f) = refl
 
@@ -194,21 +188,21 @@ map-then g (refuse x p r f) k = refl
 
 -- ---- the closing tag
 
-pub known-no : (t : ℕ) → unknown ≡ known_tag t → is_tag t ≡ false
+pub known-no : (t : ℕ) → None ≡ known_tag t → is_tag t ≡ false
 known-no t h = go (eqb t (chars "spflspot")) (eqb t (chars "spflproc")) h
   where
-    go : (a b : Bool) → unknown ≡ pick a (tagged spot) (pick b (tagged process) unknown) → pick a true b ≡ false
-    go true b e = let z : ◌≡◌ {A = ℕ} 0 1 = cc in absurd (omega arith)
-    go false true e = let z : ◌≡◌ {A = ℕ} 0 1 = cc in absurd (omega arith)
+    go : (a b : Bool) → None ≡ pick a (Some spot) (pick b (Some process) None) → pick a true b ≡ false
+    go true b e = cc
+    go false true e = cc
     go false false e = refl
 
-pub known_is : (t : ℕ) (g : Tag) → tagged g ≡ known_tag t → (is_tag t ≡ true) × (g ≡ tag_of t)
+pub known_is : (t : ℕ) (g : Tag) → Some g ≡ known_tag t → (is_tag t ≡ true) × (g ≡ tag_of t)
 known_is t g h = go (eqb t (chars "spflspot")) (eqb t (chars "spflproc")) h
   where
-    go : (a b : Bool) → tagged g ≡ pick a (tagged spot) (pick b (tagged process) unknown) → (pick a true b ≡ true) × (g ≡ pick a spot process)
+    go : (a b : Bool) → Some g ≡ pick a (Some spot) (pick b (Some process) None) → (pick a true b ≡ true) × (g ≡ pick a spot process)
     go true b e = (refl, cc)
     go false true e = (refl, cc)
-    go false false e = let z : ◌≡◌ {A = ℕ} 0 1 = cc in absurd (omega arith)
+    go false false e = (cc, cc)
 
 module _ (s : List ℕ) (at : ℕ) where
   pub closing-none : at ≡ length s → ok none (length s) ≡ closing s at
@@ -300,3 +294,8 @@ components-most x = go (eqb x 2)
     go : (b : Bool) → pick b 4 3 ≤ 4
     go true = omega arith
     go false = omega arith
+
+-- ---- a refusal of the whole file that is handed on
+
+pub told-refused : (r : Result Book Refusal) (e : Refusal) {v : Verdict Report} → IsErrAnd r (λ y. y ≡ e) → refused (number_of e.0) e.1 0 0 ≡ v → told r ≡ v
+told-refused r e h rest = let p = err_from_is_err_and r h in rw (p.1, p.2) rest

@@ -1,15 +1,16 @@
 -- What each answer of the code says.
-use Rattle.std.specs.Prelude.{ℕ, List, [], ◌∷◌, map, length}
+use Rattle.std.specs.Prelude.{ℕ, List, [], ◌∷◌, map, length, Result, Ok, Err}
 use Rattle.algebra.specs.Table.{Verdict, accepted, refused}
 use Rattle.algebra.specs.Text.{Name}
+use Rattle.fault.specs.Fault.{number_of}
+use Rattle.fault.specs.declared.Refusal.{Refusal}
+use Rattle.names.specs.declared.Name.{Name as Text}
 use Rattle.acb.specs.Grammar.{Tag, none, spot, process}
 use Rattle.acb.specs.Reading.{Header, Contents}
-use Rattle.acb_judge.specs.declared.Text.{Text}
 use Rattle.acb_judge.specs.declared.Header.{Header as Heading}
 use Rattle.acb_judge.specs.declared.Tag.{Tag as Ending}
 use Rattle.acb_judge.specs.declared.Tag.TheVariants as vt
-use Rattle.acb_judge.specs.declared.Answer.{Answer}
-use Rattle.acb_judge.specs.declared.Answer.TheVariants as va
+use Rattle.acb_judge.specs.declared.Book.{Book}
 
 -- ---- the header
 
@@ -18,7 +19,7 @@ abbrev pub text_place : Name → ℕ × ℕ
 text_place nm = (nm.first, length nm.units)
 
 abbrev pub told_text : Text → ℕ × ℕ
-told_text t = (t.place, t.units)
+told_text t = (t.first, t.units)
 
 -- a header with its strings by where they lie: title, prefix, suffix, description
 pub record HeaderPlaces : Type 0 where
@@ -60,6 +61,9 @@ told_tag vt.None = none
 told_tag vt.Spot = spot
 told_tag vt.Process = process
 
-abbrev pub told : Answer → Verdict Report
-told (va.Accepted h t n p) = accepted (reported (told_header h) n p (told_tag t))
-told (va.Refused x p) = refused x p 0 0
+abbrev pub told_book : Book → Report
+told_book b = reported (told_header b.header) b.count b.first (told_tag b.tag)
+
+abbrev pub told : Result Book Refusal → Verdict Report
+told (Ok b) = accepted (told_book b)
+told (Err e) = refused (number_of e.0) e.1 0 0

@@ -20,7 +20,7 @@ use Rattle.colour.specs.Inks.{ink_number}
 use Rattle.acb.specs.Row.{RecordRow, width, numbers, taken, given_of, tag_ink, stated, records_of}
 use Rattle.acb_judge.specs.Answer.{Report, report}
 use Rattle.acb_read.specs.Table.{entries_of, blank, name_bytes_in}
-use Rattle.acb_read.specs.Answer.{record_places, places, with_ink}
+use Rattle.acb_read.specs.Answer.{RecordPlaces, record_places, places, with_ink}
 use Rattle.acb_read.specs.Walked.{step, passed, walked}
 use Rattle.acb_read.proofs.Walking.{short, walked_all, record-step, name-inside}
 
@@ -54,18 +54,25 @@ module _ (s : List ℕ) {b : Report} (a : Accepted report (acb s) b) where
   abbrev inkIn : ℕ
   inkIn = ink_number (tag_ink b.tag)
 
-  pub rows_walked : (k : ℕ) → k ≡ inkIn → joined numbers (map (stated k) (walked b.header.space s b.first b.count)) ≡ joined numbers (records_in records_of (acb s))
-  rows_walked k w =
+  pub rows_walked : joined numbers (map (stated inkIn) (walked b.header.space s b.first b.count)) ≡ joined numbers (records_in records_of (acb s))
+  rows_walked =
       let t : inkIn ≡ ink_number (tag_ink a.0.tag) = ap (λ (r : Report). ink_number (tag_ink r.tag)) (sym a.3) in
+      let k : ℕ = inkIn in
       at_first (λ x p. joined numbers (map (stated k) (walked x s p b.count)) ≡ joined numbers (records_in records_of (acb s)))
       (ap (λ (n : ℕ). joined numbers (map (stated k) (walked a.0.header.numbers.space s a.0.first n))) (sym counts)
       ∙ ap (λ (gs : List RecordRow). joined numbers (map (stated k) gs)) (walked_all s a.2) ∙ ap (joined numbers) (map-map (stated k) given_of a.0.entries)
-      ∙ ap (λ (j : ℕ). joined numbers (map (λ e. stated j (given_of e)) a.0.entries)) (w ∙ t) ∙ sym (ap (λ (m : Res Contents). joined numbers (records_in records_of m)) a.2))
+      ∙ ap (λ (j : ℕ). joined numbers (map (λ e. stated j (given_of e)) a.0.entries)) t ∙ sym (ap (λ (m : Res Contents). joined numbers (records_in records_of m)) a.2))
 
   pub record-walked : (i : ℕ) → i < b.count → (step b.header.space s (passed b.header.space s b.first i)).0 ≡ record_places (record_at entries_of blank i (acb s))
   record-walked i h =
       at_first (λ x p. (step x s (passed x s p i)).0 ≡ record_places (record_at entries_of blank i (acb s)))
       (record-step s a.2 i (omega (arith, counts)) ∙ ap (λ (m : Res Contents). record_places (accepted (get_or (records_in entries_of m) i blank))) (sym a.2) ∙ ap record_places (record-found entries_of report (λ (r : Report). r.count) (λ c. refl) (acb s) blank i a h))
+
+  -- it is no refusal
+  pub record-there : (i : ℕ) → i < b.count → (n p : ℕ) → places (refused n p 0 0) ≡ record_places (record_at entries_of blank i (acb s)) → ⊥
+  record-there i h n p e =
+      let z = ap (λ (w : RecordPlaces). w.name) (e ∙ sym (ap record_places (record-found entries_of report (λ (r : Report). r.count) (λ c. refl) (acb s) blank i a h))) in
+      cc
 
   -- with the tag's ink, the record of the book
   pub record-stated : (i : ℕ) → i < b.count → (k : ℕ) → k ≡ inkIn → with_ink k (record_places (record_at entries_of blank i (acb s))) ≡ places (record_at records_of (taken []) i (acb s))

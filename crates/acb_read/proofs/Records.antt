@@ -1,10 +1,15 @@
 -- What stands at a record's place, and what a step makes of it. Assumes nothing.
 use Prim.Native.Nat.{ℕ, zero, suc, ◌+◌, ◌*◌, ◌-◌, ◌≤◌, ◌<◌}
 use mathlib.Core.Path.{◌≡◌, refl, sym, ap, ap₂, ◌∙◌, subst}
-use mathlib.Core.List.{List, [], ◌∷◌}
+use mathlib.Core.List.{List, [], ◌∷◌, ◌++◌}
 use mathlib.Core.Bool.{Bool, true, false}
 use lib.Dec.{eqb}
-use lib.ListN.{length, get_or, get_or-eq_default}
+use lib.ListN.{length, get_or, get_or-eq_default, take, drop}
+use lib.Seq.{sets, take_all}
+use borrow.Rule.Slice.PartMut.{put_mid}
+use Rattle.std.proofs.lemmas.Slice.{put_mid-paste}
+use Rattle.std.proofs.lemmas.List.Edits.{sets-eq}
+use Rattle.acb.specs.Row.{width}
 use borrow.Author.Tests.{eqb-true, eqb-false}
 use native.Mathlib.Omega.{arith}
 use Rattle.algebra.specs.Numbers.{num, nums}
@@ -141,3 +146,10 @@ module _ (x : ℕ) (s : List ℕ) (at : ℕ) where
         ap₂ (λ (a b : ℕ). whole_at n s a b) (sym f.2) (sym f.1) ∙ sym r.is ∙ sym (ap (stepped at) d.1)
 
 -- ---- a row as it is stored
+
+-- a row that is copied into a table is stored in it
+pub row-copied : (t ys row : List ℕ) (to : ℕ) → ys ≡ row → length row ≡ width → to + width ≤ length t → put_mid to (to + width - to) t ys ≡ sets t to row
+row-copied t ys row to e l h =
+    put_mid-paste to (to + width - to) t ys row width e (omega arith) (sym l)
+    ∙ ap (λ (r : List ℕ). take to t ++ r ++ drop (to + width) t) (take_all width row (omega (arith, l)))
+    ∙ ap (λ (n : ℕ). take to t ++ row ++ drop (to + n) t) (sym l) ∙ sym (sets-eq row t to (omega (arith, l)))

@@ -1,18 +1,14 @@
 -- What each answer of the code says.
-use Rattle.std.specs.Prelude.{ℕ, List, []}
+use Rattle.std.specs.Prelude.{ℕ, List, [], Result, Ok, Err}
 use Rattle.algebra.specs.Table.{Verdict, accepted, refused}
 use Rattle.colour.specs.Inks.{ink_number}
+use Rattle.fault.specs.Fault.{number_of}
+use Rattle.fault.specs.declared.Refusal.{Refusal}
 use Rattle.acb.specs.Reading.{Entry}
 use Rattle.acb.specs.Row.{RecordRow, taken, given_of}
-use Rattle.acb_read.specs.declared.NamePlace.{NamePlace}
-use Rattle.acb_read.specs.declared.NamePlace.TheVariants as vn
+use Rattle.acb_judge.specs.Answer.{told_text}
 use Rattle.acb_read.specs.declared.BookRecord.{BookRecord}
 use Rattle.acb_read.specs.declared.RecordStep.{RecordStep}
-
--- where a name lies: place and units, or the refusal
-abbrev pub told_place : NamePlace → Verdict (ℕ × ℕ)
-told_place (vn.At p u) = accepted (p, u)
-told_place (vn.Refused x p) = refused x p 0 0
 
 -- a record as it is told: where its name lies, its code, its components, its ink
 pub record RecordPlaces : Type 0 where
@@ -35,8 +31,13 @@ abbrev pub record_places : Verdict Entry → RecordPlaces
 record_places (accepted e) = shown_by (given_of e) (accepted (given_of e).name)
 record_places (refused x p r f) = shown_by (taken []) (refused x p r f)
 
-abbrev pub told_record : BookRecord → RecordPlaces
-told_record w = record { name = told_place w.name; code = w.code; components = w.components; ink = ink_number w.ink }
+-- a record of the code, as it is given
+abbrev pub told_given : BookRecord → RecordRow
+told_given w = record { name = told_text w.name; code = w.code; components = w.components; ink = ink_number w.ink }
+
+abbrev pub told_record : Result BookRecord Refusal → RecordPlaces
+told_record (Ok w) = places (accepted (told_given w))
+told_record (Err e) = places (refused (number_of e.0) e.1 0 0)
 
 -- the same with an ink
 abbrev pub with_ink : ℕ → RecordPlaces → RecordPlaces

@@ -8,63 +8,44 @@ ghost use Rattle.algebra.specs.Reader.{limit};
 ghost use Rattle.algebra.specs.Table.{refused, filled, record_at};
 ghost use Rattle.acb.specs.Reading.{acb};
 ghost use Rattle.colour.specs.Inks.{ink_number};
-ghost use Rattle.acb.specs.Row.{width, numbers, taken, stated, records_of};
-ghost use Rattle.acb_judge.specs.Answer.{told_text, report, told};
+ghost use Rattle.acb.specs.Row.{width, numbers, taken, tag_ink, stated, records_of};
+ghost use Rattle.acb_judge.specs.Answer.{report, told, told_tag};
 ghost use Rattle.acb_read.specs.Table.{entries_of, blank, name_bytes_in};
-ghost use Rattle.acb_read.specs.Answer.{told_place, record_places, told_record, told_record_step, places, with_ink};
-ghost use Rattle.acb_read.specs.Walked.{step, passed, name_place_of, given_in, walked};
+ghost use Rattle.acb_read.specs.Answer.{record_places, told_given, told_record, told_record_step, places};
+ghost use Rattle.acb_read.specs.Walked.{step, passed, given_in, walked};
 ghost use Rattle.acb_read.specs.scaffold.Parts.{fourth_at, whole_at};
 
 use acb::WIDTH;
-use acb_judge::{Answer, Text};
+use acb_judge::Book;
 use colour::Ink;
-use fields::Number32;
+use fault::{Fault, Refusal};
+use names::Name;
 
-// Where a record's name lies, or a refusal.
-#[derive(Drop)]
-pub enum NamePlace {
-    At { place: usize, units: u32 },
-    Refused { number: u32, place: usize },
-}
-
-// A record: its code, its components, 0 in the place that its space does not use, where its name
-// lies, and its ink, not stated where the closing tag is not known. On a refusal code and components
-// are zeros, and the ink is that of number 0.
-#[derive(Drop)]
+/// A record: its code, its components, 0 in the place that its space does not use, where its name
+/// lies, and its ink, not stated where the closing tag is not known.
+#[derive(Clone, Copy)]
 pub struct BookRecord {
     pub code: [u8; 6],
     pub components: [u8; 4],
-    pub name: NamePlace,
+    pub name: Name,
     pub ink: Ink,
 }
 
-// A record, and the place behind it.
-#[derive(Drop)]
+/// A record, or that none stands there, and the place behind it.
+#[derive(Clone, Copy)]
 pub struct RecordStep {
-    pub swatch: BookRecord,
+    pub swatch: Result<BookRecord, Refusal>,
     pub next: usize,
 }
 
 // ---- records one after the other
-
-// No record: zeros beside the refusal.
-fn none(number: u32, place: usize) -> BookRecord
-    ensures { told_record result ≡ record_places (refused number place 0 0) }
-{
-    BookRecord {
-        code: [0; 6],
-        components: [0; 4],
-        name: NamePlace::Refused { number, place },
-        ink: Ink::Global,
-    }
-}
 
 // No record stands at `at`.
 fn lost(at: usize) -> RecordStep
     ensures { told_record_step result ≡ (record_places (refused 5 0 0 0), at) }
 {
     RecordStep {
-        swatch: none(5, 0),
+        swatch: Err(Refusal(Fault::OutOfRange, 0)),
         next: at,
     }
 }
@@ -87,33 +68,31 @@ fn whole_at(file: &[u8], first: usize, units: u32, n: usize) -> RecordStep
 {
     let code = first + 2 * (units as usize);
     let last = fourth_at(file, code, n);
+    let swatch = BookRecord {
+        code: [
+            file[code],
+            file[code + 1],
+            file[code + 2],
+            file[code + 3],
+            file[code + 4],
+            file[code + 5],
+        ],
+        components: [file[code + 6], file[code + 7], file[code + 8], last],
+        name: Name { first, units },
+        ink: Ink::NotStated,
+    };
     RecordStep {
-        swatch: BookRecord {
-            code: [
-                file[code],
-                file[code + 1],
-                file[code + 2],
-                file[code + 3],
-                file[code + 4],
-                file[code + 5],
-            ],
-            components: [file[code + 6], file[code + 7], file[code + 8], last],
-            name: NamePlace::At {
-                place: first,
-                units,
-            },
-            ink: Ink::NotStated,
-        },
+        swatch: Ok(swatch),
         next: code + 6 + n,
     }
 }
 
-// The record at `at` of a book of a space, and the place behind it; 5 and the place itself where no
-// whole record stands there.
+/// The record at `at` of a book of a space, and the place behind it; 5 and the place itself where no
+/// whole record stands there.
 pub fn step_at(file: &[u8], at: usize, space: u16) -> RecordStep
     ensures { told_record_step result ≡ step space file.now at }
 {
-    let Number32::Is(units, first) = fields::u32_at(file, at) else {
+    let Ok((units, first)) = fields::number_at::<u32>(file, at) else {
         return lost(at);
     };
     let n = acb_judge::components_of(space);
@@ -127,183 +106,111 @@ pub fn step_at(file: &[u8], at: usize, space: u16) -> RecordStep
     whole_at(file, first, units, n)
 }
 
-// The place behind i records from `at`.
+/// The place behind i records from `at`.
 pub fn place_at(file: &[u8], at: usize, space: u16, i: usize) -> usize
     ensures { result ≡ passed space file.now at i }
 {
     let mut p = at;
-    let mut k: usize = 0;
-    while k < i {
-        let step = step_at(file, p, space);
-        p = step.next;
-        k += 1;
+    for _k in 0..i {
+        p = step_at(file, p, space).next;
     }
     p
 }
 
 // ---- the table
 
-// Where a name lies; at place 0 without units on a refusal.
-pub fn text_place(name: NamePlace) -> Text
-    ensures { told_text result ≡ name_place_of (told_place name) }
+/// The record of a step; zeros, and a name at place 0 without units, where none stands there.
+pub fn given(swatch: Result<BookRecord, Refusal>) -> BookRecord
+    ensures { told_given result ≡ given_in (told_record swatch) }
 {
-    match name {
-        NamePlace::At { place, units } => Text { place, units },
-        NamePlace::Refused {
-            number: _,
-            place: _,
-        } => Text { place: 0, units: 0 },
-    }
+    swatch.unwrap_or(BookRecord {
+        code: [0; 6],
+        components: [0; 4],
+        name: Name { first: 0, units: 0 },
+        ink: Ink::Global,
+    })
 }
 
-fn wide(x: u8) -> u32
-    ensures { (result ≡ x) × (result < 256) }
+// Stores a record as a row, with an ink; no other function stores one.
+fn put_row(table: &mut [u32], to: usize, given: BookRecord, ink: Ink)
+    requires { (to + width ≤ length table.old) × (given.name.first < 2 ^ 32) }
+    ensures { table.new ≡ sets table.old to (numbers (stated (ink_number ink) (told_given given))) }
 {
-    x as u32
+    let code = given.code;
+    let ks = given.components;
+    let row = [
+        given.name.first as u32,
+        given.name.units,
+        u32::from(code[0]),
+        u32::from(code[1]),
+        u32::from(code[2]),
+        u32::from(code[3]),
+        u32::from(code[4]),
+        u32::from(code[5]),
+        u32::from(ks[0]),
+        u32::from(ks[1]),
+        u32::from(ks[2]),
+        u32::from(ks[3]),
+        ink.number(),
+    ];
+    table[to..to + WIDTH].copy_from_slice(&row);
 }
 
-// Stores the numbers of a row; no other function stores one. The loop stands by itself, so that its
-// proof knows of nothing else.
-fn put_numbers(table: &mut [u32], to: usize, row: [u32; 13])
-    requires { to + width ≤ length table.old }
-    ensures { table.new ≡ sets table.old to row }
+// Stores the records of a book.
+fn fill(file: &[u8], book: Book, table: &mut [u32])
+    requires { (length file.now ≤ limit) × (width * book.count ≤ length table.old) }
+    ensures { table.new ≡ sets table.old 0 (joined numbers (map (stated (ink_number (tag_ink (told_tag book.tag)))) (walked book.header.space file.now book.first book.count))) }
 {
-    let mut i: usize = 0;
-    while i < WIDTH {
-        table[to + i] = row[i];
-        i += 1;
-    }
-}
-
-// Stores a record as a row.
-fn put_row(table: &mut [u32], to: usize, swatch: BookRecord)
-    requires { (to + width ≤ length table.old) × ((given_in (told_record swatch)).name.0 < 2 ^ 32) }
-    ensures { table.new ≡ sets table.old to (numbers (given_in (told_record swatch))) }
-{
-    let name = swatch.name;
-    let code = swatch.code;
-    let ks = swatch.components;
-    let ink = swatch.ink;
-    let string = text_place(name);
-    put_numbers(
-        table,
-        to,
-        [
-            string.place as u32,
-            string.units,
-            wide(code[0]),
-            wide(code[1]),
-            wide(code[2]),
-            wide(code[3]),
-            wide(code[4]),
-            wide(code[5]),
-            wide(ks[0]),
-            wide(ks[1]),
-            wide(ks[2]),
-            wide(ks[3]),
-            ink.number(),
-        ],
-    );
-}
-
-// A record with the ink that its book states.
-fn inked(swatch: BookRecord, ink: Ink) -> BookRecord
-    ensures { told_record result ≡ with_ink (ink_number ink) (told_record swatch) }
-{
-    let code = swatch.code;
-    let components = swatch.components;
-    let name = swatch.name;
-    BookRecord {
-        code,
-        components,
-        name,
-        ink,
-    }
-}
-
-// Stores the `count` records from `first` on, which have an ink.
-fn fill(file: &[u8], count: usize, first: usize, space: u16, ink: Ink, table: &mut [u32])
-    requires { (length file.now ≤ limit) × (width * count ≤ length table.old) }
-    ensures { table.new ≡ sets table.old 0 (joined numbers (map (stated (ink_number ink)) (walked space file.now first count))) }
-{
-    let mut i: usize = 0;
-    let mut at = first;
-    while i < count {
-        let step = step_at(file, at, space);
-        put_row(table, WIDTH * i, inked(step.swatch, ink));
+    let ink = acb_judge::ink_of(book.tag);
+    let mut at = book.first;
+    for i in 0..book.count {
+        let step = step_at(file, at, book.header.space);
+        put_row(table, WIDTH * i, given(step.swatch), ink);
         at = step.next;
-        i += 1;
     }
 }
 
-// Reads a file into a table, which a refusal leaves as it was. `count` in `Answer` counts the rows.
-pub fn read(file: &[u8], table: &mut [u32]) -> Answer
+/// Reads a file into a table, which a refusal leaves as it was. `count` in `Book` counts the rows.
+pub fn read(file: &[u8], table: &mut [u32]) -> Result<Book, Refusal>
     ensures { (told result, table.new) ≡ filled width numbers records_of report (acb file.now) table.old }
 {
-    match acb_judge::judge(file) {
-        Answer::Refused { number, place } => Answer::Refused { number, place },
-        Answer::Accepted {
-            header,
-            tag,
-            count,
-            first,
-        } => {
-            if table.len() / WIDTH < count {
-                return Answer::Refused {
-                    number: 11,
-                    place: 0,
-                };
-            }
-            let ink = acb_judge::ink_of(tag);
-            fill(file, count, first, header.space, ink, table);
-            Answer::Accepted {
-                header,
-                tag,
-                count,
-                first,
-            }
-        }
+    let book = acb_judge::judge(file)?;
+    if table.len() / WIDTH < book.count {
+        return Err(Refusal(Fault::NoRoom, 0));
     }
+    fill(file, book, table);
+    Ok(book)
 }
 
 // ---- a record by its number
 
-// Record i of a file.
-pub fn record_at(file: &[u8], i: usize) -> BookRecord
+/// Record i of a file.
+pub fn record_at(file: &[u8], i: usize) -> Result<BookRecord, Refusal>
     ensures { told_record result ≡ places (record_at records_of (taken []) i (acb file.now)) }
 {
-    match acb_judge::judge(file) {
-        Answer::Refused { number, place } => none(number, place),
-        Answer::Accepted {
-            header,
-            tag,
-            count,
-            first,
-        } => {
-            if count <= i {
-                return none(12, 0);
-            }
-            let at = place_at(file, first, header.space, i);
-            let step = step_at(file, at, header.space);
-            inked(step.swatch, acb_judge::ink_of(tag))
-        }
+    let book = acb_judge::judge(file)?;
+    if book.count <= i {
+        return Err(Refusal(Fault::NoRecord, 0));
     }
+    let space = book.header.space;
+    let at = place_at(file, book.first, space, i);
+    let swatch = step_at(file, at, space).swatch?;
+    Ok(BookRecord {
+        ink: acb_judge::ink_of(book.tag),
+        ..swatch
+    })
 }
 
-// The bytes of the name of record i, a part of the file; none where `record_at` refuses.
+/// The bytes of the name of record i, a part of the file; none where `record_at` refuses.
 pub fn name_at(file: &[u8], i: usize) -> &[u8]
     ensures { result.now ≡ name_bytes_in file.now (record_at entries_of blank i (acb file.now)) }
 {
-    let swatch = record_at(file, i);
-    let name = swatch.name;
-    match name {
-        NamePlace::At { place, units } => {
-            let end = place + 2 * (units as usize);
-            &file[place..end]
+    match record_at(file, i) {
+        Ok(swatch) => {
+            let first = swatch.name.first;
+            let end = first + 2 * (swatch.name.units as usize);
+            &file[first..end]
         }
-        NamePlace::Refused {
-            number: _,
-            place: _,
-        } => &file[..0],
+        Err(_) => &file[..0],
     }
 }

@@ -5,7 +5,4 @@ use Rattle.acb.specs.Reading.{colour}
 use Rattle.acb_judge.proofs.colours_at.Given as goal
 
 abbrev pub invariant-loop-i : goal.invariant-loop-i
-invariant-loop-i l = (l.i ≤ l.count) × (done (each l.count 0 (λ k. colour l.n) l.file l.at) ≡ done (each (l.count - l.i) l.i (λ k. colour l.n) l.file l.p))
-
-abbrev pub decreases-loop-i : goal.decreases-loop-i
-decreases-loop-i l = l.count - l.i
+invariant-loop-i l = (l._i ≤ l.count) × (done (each l.count 0 (λ k. colour l.n) l.file l.at) ≡ done (each (l.count - l._i) l._i (λ k. colour l.n) l.file l.p))

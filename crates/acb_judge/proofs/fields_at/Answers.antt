@@ -1,16 +1,17 @@
-use mathlib.Core.Path.{refl, sym, ap, ◌∙◌}
+use mathlib.Core.Path.{refl, ◌∙◌}
 use Rattle.algebra.proofs.Sequence.{step-no, step-on}
-use Rattle.acb_judge.specs.scaffold.Answer.{told_strings, told_counts}
+use Rattle.fault.proofs.Exit.{told-exit}
 use Rattle.acb_judge.proofs.Judging.{header-parts}
 use Rattle.acb_judge.proofs.fields_at.Goals as goal
 
-pub returns-in-Refused : goal.returns-in-Refused
-returns-in-Refused c = step-no _ _ (sym (ap told_strings c.in-Refused.is) ∙ c.strings_at.ensures) ∙ header-parts _ _ _
+pub returns-in_err-texts : goal.returns-in_err-texts
+returns-in_err-texts c =
+    told-exit _ _ _ c.from_residual.ensures.1 (step-no _ _ c.in_err-texts.ensures ∙ header-parts _ _ _)
 
-pub returns-in-Refused-counts_at : goal.returns-in-Refused-counts_at
-returns-in-Refused-counts_at c =
-    step-on _ _ (sym (ap told_strings c.in-Is.is) ∙ c.strings_at.ensures) (step-no _ _ (sym (ap told_counts c.in-Refused-counts_at.is) ∙ c.counts_at.ensures)) ∙ header-parts _ _ _
+pub returns-in_err-counts : goal.returns-in_err-counts
+returns-in_err-counts c =
+    told-exit _ _ _ c.from_residual-in_err-counts.ensures.1 (step-on _ _ c.in_ok-texts.ensures (step-no _ _ c.in_err-counts.ensures) ∙ header-parts _ _ _)
 
-pub returns-in-Is-counts_at : goal.returns-in-Is-counts_at
-returns-in-Is-counts_at c =
-    step-on _ _ (sym (ap told_strings c.in-Is.is) ∙ c.strings_at.ensures) (step-on _ _ (sym (ap told_counts c.in-Is-counts_at.is) ∙ c.counts_at.ensures) refl) ∙ header-parts _ _ _
+pub returns : goal.returns
+returns c =
+    step-on _ _ c.in_ok-texts.ensures (step-on _ _ c.in_ok-counts.ensures refl) ∙ header-parts _ _ _

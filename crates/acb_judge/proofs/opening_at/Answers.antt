@@ -1,33 +1,22 @@
-use mathlib.Core.Path.{sym, ap, ◌∙◌}
-use Rattle.fields.specs.Answer.{told16, told32, told_field_end}
+use mathlib.Core.Path.{◌∙◌}
 use Rattle.algebra.proofs.Sequence.{step-no, step-on}
+use Rattle.fault.proofs.Exit.{told-exit, field-exit, short}
 use Rattle.acb_judge.proofs.Judging.{opening-short, opening-bad, opening-good}
 use Rattle.acb_judge.proofs.opening_at.Goals as goal
 
-pub returns-in_default : goal.returns-in_default
-returns-in_default c =
-    let a = c.args in
-    opening-short a.file.now (sym (ap (told32 0) c.in_default.is) ∙ c.u32_at.ensures)
+pub returns-in_err-signature : goal.returns-in_err-signature
+returns-in_err-signature c =
+    let s = c.args.file.now in
+    field-exit 4 s 0 _ _ _ c.from_residual.ensures.1 c.in_err-signature.ensures (opening-short s (short 4 s 0 c.in_err-signature.ensures))
 
 pub returns-then-signature-ne-SIGNATURE : goal.returns-then-signature-ne-SIGNATURE
 returns-then-signature-ne-SIGNATURE c =
-    let a = c.args in
-    opening-bad a.file.now _ _ (sym (ap (told32 0) c.in-Is.is) ∙ c.u32_at.ensures) c.if-signature-ne-SIGNATURE.true
+    opening-bad c.args.file.now _ _ c.in_ok-signature.ensures c.if-signature-ne-SIGNATURE.true
 
-pub returns-in-Refused : goal.returns-in-Refused
-returns-in-Refused c =
-    let a = c.args in
-    step-no _ _ (sym (ap told_field_end c.in-Refused.is) ∙ c.u16_is.ensures)
-    ∙ opening-good a.file.now _ _ (sym (ap (told32 0) c.in-Is.is) ∙ c.u32_at.ensures) c.if-signature-ne-SIGNATURE.false
+pub returns-in_err-b : goal.returns-in_err-b
+returns-in_err-b c =
+    told-exit _ _ _ c.from_residual-in_err-b.ensures.1 (step-no _ _ c.in_err-b.ensures ∙ opening-good c.args.file.now _ _ c.in_ok-signature.ensures c.if-signature-ne-SIGNATURE.false)
 
-pub returns-in-Short : goal.returns-in-Short
-returns-in-Short c =
-    let a = c.args in
-    step-on _ _ (sym (ap told_field_end c.in-Next.is) ∙ c.u16_is.ensures) (sym (ap (told16 _) c.in-Short.is) ∙ c.u16_at.ensures)
-    ∙ opening-good a.file.now _ _ (sym (ap (told32 0) c.in-Is.is) ∙ c.u32_at.ensures) c.if-signature-ne-SIGNATURE.false
-
-pub returns-in-Is-u16_at : goal.returns-in-Is-u16_at
-returns-in-Is-u16_at c =
-    let a = c.args in
-    step-on _ _ (sym (ap told_field_end c.in-Next.is) ∙ c.u16_is.ensures) (sym (ap (told16 _) c.in-Is-u16_at.is) ∙ c.u16_at.ensures)
-    ∙ opening-good a.file.now _ _ (sym (ap (told32 0) c.in-Is.is) ∙ c.u32_at.ensures) c.if-signature-ne-SIGNATURE.false
+pub returns : goal.returns
+returns c =
+    step-on _ _ c.in_ok-b.ensures c.number_at-2.ensures ∙ opening-good c.args.file.now _ _ c.in_ok-signature.ensures c.if-signature-ne-SIGNATURE.false

@@ -1,16 +1,27 @@
-use mathlib.Core.Path.{refl, sym, ap, ◌∙◌}
+use mathlib.Core.Path.{refl, ◌∙◌}
 use Rattle.algebra.proofs.Sequence.{step-no, step-on}
-use Rattle.acb_judge.specs.scaffold.Answer.{told_two}
-use Rattle.acb_judge.proofs.Judging.{strings-two}
+use Rattle.fault.proofs.Exit.{told-exit}
+use Rattle.acb_judge.proofs.Judging.{strings-four}
 use Rattle.acb_judge.proofs.strings_at.Goals as goal
 
-pub returns-in-Refused : goal.returns-in-Refused
-returns-in-Refused c = step-no _ _ (sym (ap told_two c.in-Refused.is) ∙ c.two_at.ensures) ∙ strings-two _ _
+pub returns-in_err-title : goal.returns-in_err-title
+returns-in_err-title c =
+    told-exit _ _ _ c.from_residual.ensures.1 (step-no _ _ c.in_err-title.ensures ∙ strings-four _ _)
 
-pub returns-in-Refused-two_at : goal.returns-in-Refused-two_at
-returns-in-Refused-two_at c =
-    step-on _ _ (sym (ap told_two c.in-Is.is) ∙ c.two_at.ensures) (step-no _ _ (sym (ap told_two c.in-Refused-two_at.is) ∙ c.two_at-in-Is.ensures)) ∙ strings-two _ _
+pub returns-in_err-prefix : goal.returns-in_err-prefix
+returns-in_err-prefix c =
+    told-exit _ _ _ c.from_residual-in_err-prefix.ensures.1 (step-on _ _ c.in_ok-title.ensures (step-no _ _ c.in_err-prefix.ensures) ∙ strings-four _ _)
 
-pub returns-in-Is-two_at : goal.returns-in-Is-two_at
-returns-in-Is-two_at c =
-    step-on _ _ (sym (ap told_two c.in-Is.is) ∙ c.two_at.ensures) (step-on _ _ (sym (ap told_two c.in-Is-two_at.is) ∙ c.two_at-in-Is.ensures) refl) ∙ strings-two _ _
+pub returns-in_err-suffix : goal.returns-in_err-suffix
+returns-in_err-suffix c =
+    told-exit _ _ _ c.from_residual-in_err-suffix.ensures.1
+    (step-on _ _ c.in_ok-title.ensures (step-on _ _ c.in_ok-prefix.ensures (step-no _ _ c.in_err-suffix.ensures)) ∙ strings-four _ _)
+
+pub returns-in_err-description : goal.returns-in_err-description
+returns-in_err-description c =
+    told-exit _ _ _ c.from_residual-in_err-description.ensures.1
+    (step-on _ _ c.in_ok-title.ensures (step-on _ _ c.in_ok-prefix.ensures (step-on _ _ c.in_ok-suffix.ensures (step-no _ _ c.in_err-description.ensures))) ∙ strings-four _ _)
+
+pub returns : goal.returns
+returns c =
+    step-on _ _ c.in_ok-title.ensures (step-on _ _ c.in_ok-prefix.ensures (step-on _ _ c.in_ok-suffix.ensures (step-on _ _ c.in_ok-description.ensures refl))) ∙ strings-four _ _

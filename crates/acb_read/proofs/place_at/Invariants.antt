@@ -4,7 +4,4 @@ use Rattle.acb_read.specs.Walked.{passed}
 use Rattle.acb_read.proofs.place_at.Given as goal
 
 abbrev pub invariant-loop-k : goal.invariant-loop-k
-invariant-loop-k l = (l.k ≤ l.i) × (passed l.space l.file l.at l.i ≡ passed l.space l.file l.p (l.i - l.k))
-
-abbrev pub decreases-loop-k : goal.decreases-loop-k
-decreases-loop-k l = l.i - l.k
+invariant-loop-k l = (l._k ≤ l.i) × (passed l.space l.file l.at l.i ≡ passed l.space l.file l.p (l.i - l._k))
