@@ -7,7 +7,7 @@ use mathlib.Core.Logic.{◌⊎◌, inl, inr}
 use lib.Dec.{eqb, ltb}
 use lib.ListN.{length, get_or, set, drop, length-set}
 use lib.Seq.{get_or-set_same, get_or-set_other}
-use borrow.Author.Tests.{le-leb, lt-leb, eq-eqb, ne_eqb, eqb-false, ltb-true, ltb-false}
+use borrow.Author.Tests.{le-leb, lt-leb, eq-eqb, ne_eqb, ltb-true, ltb-false}
 use native.Mathlib.Omega.{arith}
 use Rattle.algebra.specs.Numbers.{Bytes}
 use Rattle.algebra.specs.Reader.{Res, refuse, pick}
@@ -34,20 +34,6 @@ picked x u v e = sym (rw (eq-eqb x 0 e))
 
 pub unpicked : {A : Type 0} (x : ℕ) (u v : A) → (x ≡ 0 → ⊥) → v ≡ pick (eqb x 0) u v
 unpicked x u v e = sym (rw (ne_eqb x 0 e))
-
-pub one-most : (x : ℕ) → pick (eqb x 0) 0 1 ≤ 1
-one-most x = go (eqb x 0)
-  where
-    go : (b : Bool) → pick b 0 1 ≤ 1
-    go true = omega arith
-    go false = omega arith
-
-pub put-length : (units k key : ℕ) (ys zs : List ℕ) → zs ≡ pick (eqb units 0) ys (set ys k key) → length zs ≡ length ys
-put-length units k key ys zs e = ap length e ∙ go (eqb units 0)
-  where
-    go : (b : Bool) → length (pick b ys (set ys k key)) ≡ length ys
-    go true = refl
-    go false = length-set ys k key
 
 -- ---- keys
 
@@ -137,10 +123,10 @@ module _ (s : List ℕ) (bytes : Bytes s) (count p n : ℕ) (a : Opened s count 
   -- ---- keys in a run
 
   module _ (i m : ℕ) (ys : List ℕ) (d : Drawing s n p i m ys) where
-    drawing-skip : Drawing s n p (i + 1) m ys
+    pub drawing-skip : Drawing s n p (i + 1) m ys
     drawing-skip = record { keys = λ k h. let x = d.keys k h in (x.0, omega (arith, x.1), x.2); shown = d.shown; rising = d.rising }
 
-    drawing-put : (key : ℕ) → m < length ys → key ≡ key_at n s p i → (units_at s (record_place n s p i) ≡ 0 → ⊥) → Drawing s n p (i + 1) (m + 1) (set ys m key)
+    pub drawing-put : (key : ℕ) → m < length ys → key ≡ key_at n s p i → (units_at s (record_place n s p i) ≡ 0 → ⊥) → Drawing s n p (i + 1) (m + 1) (set ys m key)
     drawing-put key len e u = record { keys = λ k h. keys k h (same_or k m); shown = λ k h. shown k h (same_or k m); rising = λ j k h l. rising j k h l (same_or k m) }
       where
         here : get_or (set ys m key) m 0 ≡ key
@@ -162,16 +148,6 @@ module _ (s : List ℕ) (bytes : Bytes s) (count p n : ℕ) (a : Opened s count 
             let x = d.keys j (omega arith) in
             omega (arith, other j (λ w. omega arith), ap (λ (x : ℕ). get_or (set ys m key) x 0) z, here, e, x.2, keys-rise x.0 i x.1)
         rising j k h l (inr z) = omega (arith, other j (λ w. omega arith), other k z, d.rising j k h (omega arith))
-
-    pub drawing-turn : (units key r : ℕ) (zs : List ℕ) → key ≡ key_at n s p i → units ≡ units_at s (record_place n s p i) → ((units ≡ 0 → ⊥) → m < length ys)
-        → r ≡ m + pick (eqb units 0) 0 1 → zs ≡ pick (eqb units 0) ys (set ys m key) → Drawing s n p (i + 1) r zs
-    drawing-turn units key r zs e u room q w = go (eqb units 0) refl q w
-      where
-        go : (b : Bool) → eqb units 0 ≡ b → r ≡ m + pick b 0 1 → zs ≡ pick b ys (set ys m key) → Drawing s n p (i + 1) r zs
-        go true z x y = subst (λ (l : List ℕ). Drawing s n p (i + 1) r l) (sym y) (subst (λ (k : ℕ). Drawing s n p (i + 1) k ys) (let v : m ≡ r = omega arith in v) drawing-skip)
-        go false z x y =
-            let ne = eqb-false units 0 z in
-            subst (λ (l : List ℕ). Drawing s n p (i + 1) r l) (sym y) (subst (λ (k : ℕ). Drawing s n p (i + 1) k (set ys m key)) (sym x) (drawing-put key (room ne) e (λ v. ne (u ∙ v))))
 
   -- ---- the whole: drawn, sorted, numbered
 

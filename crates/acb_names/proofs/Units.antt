@@ -4,23 +4,28 @@ use mathlib.Core.Path.{◌≡◌, refl, sym, ap, ap₂, ◌∙◌, subst}
 use mathlib.Core.List.{List, [], ◌∷◌}
 use mathlib.Core.Bool.{Bool, true, false}
 use mathlib.Core.Logic.{◌⊎◌, inl, inr}
-use lib.Dec.{leb, ltb}
+use lib.Dec.{leb}
 use lib.ListN.{length, get_or, drop}
 use lib.Seq.{drop-cons, drop-length}
-use borrow.Author.Tests.{le-leb, lt-leb, leb-true, leb-false, ltb-true, ltb-false}
+use borrow.Author.Tests.{le-leb, lt-leb, leb-true, leb-false}
 use native.Mathlib.Omega.{arith}
 use native.Mathlib.Numerals.{add-one}
 use Rattle.algebra.specs.Numbers.{num, nums, Bytes}
-use Rattle.algebra.specs.Reader.{pick}
+use Rattle.algebra.specs.Reader.{ok, refuse, pick, field}
 use Rattle.algebra.proofs.Laws.{num-split}
 use Rattle.algebra.proofs.Places.{num-lt}
-use Rattle.order.specs.Order.{Order, less, same, greater, or_else, is_less, compare}
+use Rattle.order.specs.Order.{Order, less, same, greater, or_else, compare}
 use Rattle.order.specs.scaffold.Total.{turn}
 use Rattle.order.proofs.Orders.{compare-less, compare-more, compare_same}
 use Rattle.acb_order.specs.Names.{compare_names}
 use Rattle.acb_order.specs.Places.{units_at}
 use Rattle.acb_order.proofs.Names.{names-total}
-use Rattle.acb_names.specs.Answer.{tie_of}
+use Rattle.acb_names.specs.Answer.{told}
+use Rattle.std.specs.Prelude.{min}
+use Rattle.std.specs.declared.cmp.Ordering.{Ordering}
+use Rattle.std.specs.declared.cmp.Ordering.TheVariants.{Less, Equal, Greater}
+use Rattle.std.specs.Ordering.{MatchOrdering, nat_cmp}
+use Rattle.std.proofs.lemmas.Cmp.{ranked}
 use Rattle.acb_names.specs.scaffold.Units.{left, rest}
 
 -- ---- units from a place on
@@ -203,6 +208,15 @@ four-greater s bytes a m b n k h i x y p q l = ap turn (four-less s bytes b n a 
 pub units-none : (s : List ℕ) (at : ℕ) → length s < at + 4 → units_at s at ≡ 0
 units-none s at h = ap (λ (x : Bool). pick x (pick (leb (num 4 s at) ((length s - 4 - at) / 2)) (num 4 s at) ((length s - 4 - at) / 2)) 0) (lt-leb (at + 4) (length s) h)
 
+-- where there is no count
+pub units_missing : (s : List ℕ) (at : ℕ) {x p r f : ℕ} → refuse x p r f ≡ field 4 s at → units_at s at ≡ 0
+unfolding field
+units_missing s at {x = x} {p = p} {r = r} {f = f} e = go (leb 4 (length s - at)) refl e
+  where
+    go : (b : Bool) → leb 4 (length s - at) ≡ b → refuse x p r f ≡ pick b (ok (num 4 s at) (at + 4)) (refuse 2 at 0 0) → units_at s at ≡ 0
+    go true h q = let z : ◌≡◌ {A = ℕ} 0 1 = cc in absurd (omega arith)
+    go false h q = units-none s at (omega (arith, leb-false 4 (length s - at) h))
+
 module _ (s : List ℕ) (at : ℕ) (h : at + 4 ≤ length s) where
   by_count : units_at s at ≡ pick (leb (num 4 s at) ((length s - 4 - at) / 2)) (num 4 s at) ((length s - 4 - at) / 2)
   by_count = ap (λ (x : Bool). pick x (pick (leb (num 4 s at) ((length s - 4 - at) / 2)) (num 4 s at) ((length s - 4 - at) / 2)) 0) (le-leb (at + 4) (length s) h)
@@ -214,58 +228,57 @@ module _ (s : List ℕ) (at : ℕ) (h : at + 4 ≤ length s) where
   units_cut l = by_count ∙ ap (λ (x : Bool). pick x (num 4 s at) ((length s - 4 - at) / 2)) (lt-leb (num 4 s at) ((length s - 4 - at) / 2) l)
 
   -- the lesser of what the count says and what the file holds
-  pub units-is : (r : ℕ) → (num 4 s at ≤ (length s - 4 - at) / 2 → r ≡ num 4 s at) → ((length s - 4 - at) / 2 ≤ num 4 s at → r ≡ (length s - 4 - at) / 2) → r ≡ units_at s at
-  units-is r f g = go (leb (num 4 s at) ((length s - 4 - at) / 2)) refl
+  pub units-is : (r : ℕ) → r ≡ min (num 4 s at) ((length s - (at + 4)) / 2) → r ≡ units_at s at
+  units-is r f = go (leb (num 4 s at) ((length s - 4 - at) / 2)) refl
     where
       go : (b : Bool) → leb (num 4 s at) ((length s - 4 - at) / 2) ≡ b → r ≡ units_at s at
-      go true e = let l = leb-true (num 4 s at) ((length s - 4 - at) / 2) e in f l ∙ sym (units-counted l)
-      go false e = let l = leb-false (num 4 s at) ((length s - 4 - at) / 2) e in g (omega arith) ∙ sym (units_cut l)
+      go true e = let l = leb-true (num 4 s at) ((length s - 4 - at) / 2) e in omega (arith, f, units-counted l)
+      go false e = let l = leb-false (num 4 s at) ((length s - 4 - at) / 2) e in omega (arith, f, units_cut l)
 
 -- ---- what decides
 
-module _ (s : List ℕ) (a m b n k : ℕ) (o : Order) where
-  pub decides-less : less ≡ left s a m b n k → true ≡ is_less (or_else (left s a m b n k) o)
-  decides-less e = ap (λ (d : Order). is_less (or_else d o)) e
-
-  pub decides-greater : greater ≡ left s a m b n k → false ≡ is_less (or_else (left s a m b n k) o)
-  decides-greater e = ap (λ (d : Order). is_less (or_else d o)) e
-
-  decides : (u v : ℕ) → (u ≡ v → ⊥) → (u < v → less ≡ left s a m b n k) → (v < u → greater ≡ left s a m b n k) → ltb u v ≡ is_less (or_else (left s a m b n k) o)
-  decides u v ne f g = go (ltb u v) refl
-    where
-      go : (t : Bool) → ltb u v ≡ t → t ≡ is_less (or_else (left s a m b n k) o)
-      go true e = decides-less (f (ltb-true u v e))
-      go false e = decides-greater (g (let l = ltb-false u v e in different u v ne l))
-        where
-          different : (u v : ℕ) → (u ≡ v → ⊥) → v ≤ u → v < u
-          different u v ne l = omega arith
-
-  pub unit-decides : k < m → k < n → (u v : ℕ) → u ≡ num 2 s (a + 2 * k) → v ≡ num 2 s (b + 2 * k) → (u ≡ v → ⊥) → ltb u v ≡ is_less (or_else (left s a m b n k) o)
-  unit-decides h i u v p q ne = decides u v ne (λ l. left_less s a m b n k h i (omega arith)) (λ l. left-greater s a m b n k h i (omega arith))
-
-  pub four-decides : Bytes s → k + 3 < m → k + 3 < n → (x y : ℕ) → x ≡ a + 2 * k → y ≡ b + 2 * k → (u v : ℕ) → u ≡ num 8 s x → v ≡ num 8 s y → (u ≡ v → ⊥) → ltb u v ≡ is_less (or_else (left s a m b n k) o)
-  four-decides bytes h i x y p q u v e f ne =
-      decides u v ne (λ l. four-less s bytes a m b n k h i x y p q (omega arith)) (λ l. four-greater s bytes a m b n k h i x y p q (omega arith))
-
-  pub length-decides : (m ≤ n → k ≡ m) → (n ≤ m → k ≡ n) → (m ≡ n → ⊥) → ltb m n ≡ is_less (or_else (left s a m b n k) o)
-  length-decides f g ne =
-      decides m n ne (λ l. left-short s a m b n l ∙ ap (left s a m b n) (sym (f (omega arith)))) (λ l. left-long s a m b n l ∙ ap (left s a m b n) (sym (g (omega arith))))
-
-  pub none-decides : m ≡ n → k ≡ m → is_less o ≡ is_less (or_else (left s a m b n k) o)
-  none-decides e f = ap (λ (d : Order). is_less (or_else d o)) (left-none s a m b n e ∙ ap (left s a m b n) (sym f))
-
-pub tie-is : (t : Bool) → t ≡ is_less (tie_of t)
-tie-is true = refl
-tie-is false = refl
-
--- a test of two numbers is their order where the names are the same
-pub tie-compare : (o : Order) (x y : ℕ) → is_less (or_else o (tie_of (ltb x y))) ≡ is_less (or_else o (compare x y))
-unfolding compare
-tie-compare less x y = refl
-tie-compare same x y = go (ltb x y) (ltb y x)
+pub told_compare : (u v : ℕ) (r : Ordering) → r ≡ nat_cmp u v → told r ≡ compare u v
+told_compare u v r e = go r (ranked u v r e)
   where
-    go : (a b : Bool) → is_less (tie_of a) ≡ is_less (pick a less (pick b greater same))
-    go true b = refl
-    go false true = refl
-    go false false = refl
-tie-compare greater x y = refl
+    go : (r : Ordering) → MatchOrdering r (u < v) (u ≡ v) (v < u) → told r ≡ compare u v
+    go Less h = sym (compare-less u v h)
+    go Equal h = sym (compare_same u v h)
+    go Greater h = sym (compare-more u v h)
+
+-- of two different numbers
+decides : (o : Order) (u v : ℕ) (r : Ordering) → r ≡ nat_cmp u v → (u ≡ v → ⊥) → (u < v → less ≡ o) → (v < u → greater ≡ o) → told r ≡ o
+decides o u v r e ne f g = go r (ranked u v r e)
+  where
+    go : (r : Ordering) → MatchOrdering r (u < v) (u ≡ v) (v < u) → told r ≡ o
+    go Less h = f h
+    go Equal h = absurd (ne h)
+    go Greater h = g h
+
+module _ (s : List ℕ) (a m b n k : ℕ) where
+  pub unit-decides : k < m → k < n → (u v : ℕ) → u ≡ num 2 s (a + 2 * k) → v ≡ num 2 s (b + 2 * k) → (u ≡ v → ⊥) → (r : Ordering) → r ≡ nat_cmp u v → told r ≡ left s a m b n k
+  unit-decides h i u v p q ne r e = decides _ u v r e ne (λ l. left_less s a m b n k h i (omega arith)) (λ l. left-greater s a m b n k h i (omega arith))
+
+  pub four-decides : Bytes s → k + 3 < m → k + 3 < n → (x y : ℕ) → x ≡ a + 2 * k → y ≡ b + 2 * k → (u v : ℕ) → u ≡ num 8 s x → v ≡ num 8 s y → (u ≡ v → ⊥) → (r : Ordering) → r ≡ nat_cmp u v → told r ≡ left s a m b n k
+  four-decides bytes h i x y p q u v e f ne r c =
+      decides _ u v r c ne (λ l. four-less s bytes a m b n k h i x y p q (omega arith)) (λ l. four-greater s bytes a m b n k h i x y p q (omega arith))
+
+  -- where one of the two ends
+  pub length-decides : k ≡ min m n → (r : Ordering) → r ≡ nat_cmp m n → told r ≡ left s a m b n k
+  length-decides f r e = go r (ranked m n r e)
+    where
+      go : (r : Ordering) → MatchOrdering r (m < n) (m ≡ n) (n < m) → told r ≡ left s a m b n k
+      go Less h = left-short s a m b n h ∙ ap (left s a m b n) (omega (arith, f))
+      go Equal h = left-none s a m b n h ∙ ap (left s a m b n) (omega (arith, f))
+      go Greater h = left-long s a m b n h ∙ ap (left s a m b n) (omega (arith, f))
+
+module _ (s us : List ℕ) (b n k : ℕ) where
+  pub rest-decides : k < length us → k < n → (u v : ℕ) → u ≡ get_or us k 0 → v ≡ num 2 s (b + 2 * k) → (u ≡ v → ⊥) → (r : Ordering) → r ≡ nat_cmp u v → told r ≡ rest s us b n k
+  rest-decides h i u v p q ne r e = decides _ u v r e ne (λ l. rest-less s us b n k h i (omega (arith, p, q))) (λ l. rest-greater s us b n k h i (omega (arith, p, q)))
+
+  pub rest-lengths : k ≡ min (length us) n → (r : Ordering) → r ≡ nat_cmp (length us) n → told r ≡ rest s us b n k
+  rest-lengths f r e = go r (ranked (length us) n r e)
+    where
+      go : (r : Ordering) → MatchOrdering r (length us < n) (length us ≡ n) (n < length us) → told r ≡ rest s us b n k
+      go Less h = rest-short s us b n h ∙ ap (rest s us b n) (omega (arith, f))
+      go Equal h = rest-none s us b n h ∙ ap (rest s us b n) (omega (arith, f))
+      go Greater h = rest-long s us b n h ∙ ap (rest s us b n) (omega (arith, f))

@@ -1,15 +1,9 @@
 -- What each answer of the code says.
-use Rattle.std.specs.Prelude.{Bool, true, false}
+use Rattle.std.specs.declared.cmp.Ordering.{Ordering}
+use Rattle.std.specs.declared.cmp.Ordering.TheVariants.{Less, Equal, Greater}
 use Rattle.order.specs.Order.{Order, less, same, greater}
-use Rattle.acb_names.specs.declared.Way.{Way}
-use Rattle.acb_names.specs.declared.Way.TheVariants as vw
 
-abbrev pub told : Way → Order
-told vw.Less = less
-told vw.Same = same
-told vw.Greater = greater
-
--- how a flag decides between two of the same name: the first comes before the other, or not
-abbrev pub tie_of : Bool → Order
-tie_of true = less
-tie_of false = same
+abbrev pub told : Ordering → Order
+told Less = less
+told Equal = same
+told Greater = greater

@@ -3,178 +3,115 @@
 #![tactic(auto)]
 
 ghost use Rattle.std.specs.Prelude.{◌≡◌, ◌+◌, ◌*◌, ◌≤◌, ◌<◌, length};
-ghost use Rattle.algebra.specs.Numbers.{num, nums};
-ghost use Rattle.order.specs.Order.{is_less, or_else};
+ghost use Rattle.algebra.specs.Numbers.{nums};
 ghost use Rattle.acb_order.specs.Names.{compare_names};
+ghost use Rattle.algebra.specs.Reader.{limit};
 ghost use Rattle.acb_order.specs.Places.{units_at, name_at};
 ghost use Rattle.acb_order.specs.scaffold.Places.{next_record};
-ghost use Rattle.acb_names.specs.Answer.{told, tie_of};
-ghost use Rattle.acb_names.specs.scaffold.Units.{left};
+ghost use Rattle.acb_names.specs.Answer.{told};
+ghost use Rattle.acb_names.specs.scaffold.Units.{Held, left};
 
-// Which of two comes first.
-#[derive(Drop)]
-pub enum Way {
-    Less,
-    Same,
-    Greater,
+use fields::Number;
+use std::cmp::Ordering;
+
+// The units of a name in a file: the place of the first, and how many there are.
+#[derive(Clone, Copy)]
+struct Span {
+    first: usize,
+    count: usize,
 }
 
-fn wide(x: u8) -> u32
-    ensures { (result ≡ x) × (result < 256) }
-{
-    x as u32
-}
-
-fn wide64(x: u32) -> u64
-    ensures { result ≡ x }
-{
-    x as u64
-}
-
-fn unit_at(file: &[u8], at: usize) -> u32
-    requires { at + 2 ≤ length file.now }
-    ensures { result ≡ num 2 file.now at }
-{
-    wide(file[at]) * 256 + wide(file[at + 1])
-}
-
-// Two units in one number.
-fn pair_at(file: &[u8], at: usize) -> u32
-    requires { at + 4 ≤ length file.now }
-    ensures { result ≡ num 4 file.now at }
-{
-    let a = wide(file[at]);
-    let b = wide(file[at + 1]);
-    let c = wide(file[at + 2]);
-    let d = wide(file[at + 3]);
-    ((a * 256 + b) * 256 + c) * 256 + d
-}
-
-// Four units in one number.
-fn word_at(file: &[u8], at: usize) -> u64
-    requires { at + 8 ≤ length file.now }
-    ensures { result ≡ num 8 file.now at }
-{
-    let high = wide64(pair_at(file, at));
-    let low = wide64(pair_at(file, at + 4));
-    high * 4294967296 + low
-}
-
-fn lesser(m: usize, n: usize) -> usize
-    ensures { (result ≤ m) × (result ≤ n) × (m ≤ n → result ≡ m) × (n ≤ m → result ≡ n) }
-{
-    if m < n {
-        return m;
-    }
-    n
-}
-
-// How many units the name of the record at `at` has.
+/// How many units the name of the record at `at` has.
 pub fn units_at(file: &[u8], at: usize) -> usize
     ensures { (result ≡ units_at file.now at) × (0 < result → at + 4 + 2 * result ≤ length file.now) }
 {
-    let end = file.len();
-    if end < 4 {
+    let Ok((n, first)) = fields::number_at::<u32>(file, at) else {
         return 0;
-    }
-    if end - 4 < at {
-        return 0;
-    }
-    let n = fields::wide(pair_at(file, at));
-    lesser(n, (end - 4 - at) / 2)
+    };
+    (n as usize).min((file.len() - first) / 2)
 }
 
-// Of the m units from a and the n units from b, those from `from` on: whether the first come before
-// the others, or as `equal` says where they are the same.
-fn rest_before(
-    file: &[u8],
-    a: usize,
-    m: usize,
-    b: usize,
-    n: usize,
-    from: usize,
-    equal: bool,
-) -> bool
-    requires { (0 < m → a + 2 * m ≤ length file.now) × (0 < n → b + 2 * n ≤ length file.now) × (from ≤ m) × (from ≤ n) }
-    ensures { result ≡ is_less (or_else (left file.now a m b n from) (tie_of equal)) }
+// The units of the name of the record at p.
+fn units_of(file: &[u8], p: u32) -> Span
+    ensures { (result.first ≡ p + 4) × (result.count ≡ units_at file.now p) × Held file.now result.first result.count }
 {
-    let most = lesser(m, n);
-    let mut k = from;
-    while k < most {
-        let u = unit_at(file, a + 2 * k);
-        let v = unit_at(file, b + 2 * k);
+    let at = p as usize;
+    Span {
+        first: at + 4,
+        count: units_at(file, at),
+    }
+}
+
+// Two names from unit `from` on.
+fn compare_rest(file: &[u8], a: Span, b: Span, from: usize) -> Ordering
+    requires { Held file.now a.first a.count × Held file.now b.first b.count × (from ≤ a.count) × (from ≤ b.count) }
+    ensures { told result ≡ left file.now a.first a.count b.first b.count from }
+{
+    for k in from..a.count.min(b.count) {
+        let u = u16::load(file, a.first + 2 * k);
+        let v = u16::load(file, b.first + 2 * k);
         if u != v {
-            return u < v;
+            return u.cmp(&v);
         }
-        k += 1;
     }
-    if m != n {
-        return m < n;
-    }
-    equal
+    a.count.cmp(&b.count)
 }
 
-// The same of all units, four at a time.
-fn units_before(file: &[u8], a: usize, m: usize, b: usize, n: usize, equal: bool) -> bool
-    requires { (0 < m → a + 2 * m ≤ length file.now) × (0 < n → b + 2 * n ≤ length file.now) }
-    ensures { result ≡ is_less (or_else (compare_names (nums 2 m file.now a) (nums 2 n file.now b)) (tie_of equal)) }
+// Two names, four units at a time.
+fn compare_units(file: &[u8], a: Span, b: Span) -> Ordering
+    requires { Held file.now a.first a.count × Held file.now b.first b.count }
+    ensures { told result ≡ compare_names (nums 2 a.count file.now a.first) (nums 2 b.count file.now b.first) }
 {
-    let fours = lesser(m, n) / 4;
-    let mut k: usize = 0;
-    while k < fours {
-        let u = word_at(file, a + 8 * k);
-        let v = word_at(file, b + 8 * k);
+    let fours = a.count.min(b.count) / 4;
+    for k in 0..fours {
+        let u = u64::load(file, a.first + 8 * k);
+        let v = u64::load(file, b.first + 8 * k);
         if u != v {
-            return u < v;
+            return u.cmp(&v);
         }
-        k += 1;
     }
-    rest_before(file, a, m, b, n, 4 * k, equal)
+    compare_rest(file, a, b, 4 * fours)
 }
 
-// Whether the name of the record at p comes before that of the record at q, or as `equal` says where
-// they are the same.
-pub fn before(file: &[u8], p: u32, q: u32, equal: bool) -> bool
-    ensures { result ≡ is_less (or_else (compare_names (name_at file.now p) (name_at file.now q)) (tie_of equal)) }
+/// The name of the record at p against that of the record at q.
+pub fn compare(file: &[u8], p: u32, q: u32) -> Ordering
+    ensures { told result ≡ compare_names (name_at file.now p) (name_at file.now q) }
 {
-    let a = fields::wide(p);
-    let b = fields::wide(q);
-    let m = units_at(file, a);
-    let n = units_at(file, b);
-    units_before(file, a + 4, m, b + 4, n, equal)
+    compare_units(file, units_of(file, p), units_of(file, q))
 }
 
-fn wide16(x: u16) -> u32
-    ensures { result ≡ x }
-{
-    x as u32
-}
-
-// A name against that of the record at p.
-pub fn against(file: &[u8], p: u32, name: &[u16]) -> Way
+/// A name against that of the record at p.
+pub fn against(file: &[u8], p: u32, name: &[u16]) -> Ordering
     ensures { told result ≡ compare_names name.now (name_at file.now p) }
 {
-    let at = fields::wide(p);
-    let n = units_at(file, at);
-    let m = name.len();
-    let most = lesser(m, n);
-    let mut k: usize = 0;
-    while k < most {
-        let u = wide16(name[k]);
-        let v = unit_at(file, at + 4 + 2 * k);
-        if u < v {
-            return Way::Less;
+    let units = units_of(file, p);
+    for k in 0..name.len().min(units.count) {
+        let u = name[k];
+        let v = u16::load(file, units.first + 2 * k);
+        if u != v {
+            return u.cmp(&v);
         }
-        if v < u {
-            return Way::Greater;
-        }
-        k += 1;
     }
-    if m < n {
-        return Way::Less;
+    name.len().cmp(&units.count)
+}
+
+/// The records of a book in its file: how many there are, the place of the first, and how many
+/// components each has.
+#[derive(Clone, Copy)]
+pub struct Records<'a> {
+    pub file: &'a [u8],
+    pub count: usize,
+    pub first: usize,
+    pub components: usize,
+}
+
+impl Records<'_> {
+    /// How many units the name of the record at `at` has, and the place behind the record.
+    pub fn pass(&self, at: usize) -> (usize, usize)
+        requires { next_record self.now.components self.now.file.now at ≤ limit }
+        ensures { (result.0 ≡ units_at self.now.file.now at) × (result.1 ≡ next_record self.now.components self.now.file.now at) }
+    {
+        let units = units_at(self.file, at);
+        (units, at + 4 + 2 * units + 6 + self.components)
     }
-    if n < m {
-        return Way::Greater;
-    }
-    Way::Same
 }

@@ -1,58 +1,67 @@
--- The order of keys, and a turn of the second half of sorting: the root of a heap takes the place behind it. Assumes nothing.
-use Prim.Native.Nat.{ℕ, ◌+◌, ◌-◌, ◌/◌, ◌≤◌, ◌<◌}
-use mathlib.Core.Path.{◌≡◌, sym, subst}
-use mathlib.Core.List.{List}
-use lib.ListN.{length}
+-- The order of keys, and what a sort by it gives. Assumes nothing.
+use Prim.Native.Nat.{ℕ, ◌/◌, ◌<◌}
+use mathlib.Core.Path.{◌≡◌, refl, ap, ap₂, ◌∙◌}
+use mathlib.Core.List.{List, [], ◌∷◌}
+use lib.ListN.{length, set}
 use native.Mathlib.Omega.{arith}
+use Rattle.std.specs.Cmp.{IsStrictWeakOrder}
+use Rattle.std.specs.List.{swap}
+use Rattle.std.specs.List.Sorted.{IsPermutation, IsSortedBy}
+use Rattle.std.specs.declared.cmp.Ordering.{Ordering}
+use Rattle.std.specs.declared.cmp.Ordering.TheVariants.{Less, Equal, Greater}
+use Rattle.std.specs.Ordering.{is_lt, nat_cmp, ordering_then}
+use Rattle.std.proofs.lemmas.List.{get_or_default}
+use Rattle.std.proofs.lemmas.List.Sorted.{IsPermutation-keeps, sorted_far}
 use Rattle.order.specs.Run.{Rearranged}
-use Rattle.order.specs.scaffold.Heap.{Heap, Tail, swapped}
-use Rattle.order.proofs.Heaps.{tail-swapped, tail-kept, heap-swapped, swap-moves, moved_on, moved_more}
-use Rattle.order.specs.Order.{compare}
+use Rattle.order.specs.scaffold.Heap.{swapped}
+use Rattle.order.proofs.Heaps.{unmoved, moved_on, swap-moves, not-both, not_on}
+use Rattle.order.specs.Order.{is_less, or_else, compare}
 use Rattle.order.specs.scaffold.Total.{Total}
 use Rattle.order.proofs.Orders.{both-total, numbers-total}
 use Rattle.acb_order.specs.Names.{compare_names}
 use Rattle.acb_order.specs.Places.{name_at}
 use Rattle.acb_order.proofs.Names.{names-total}
-use Rattle.acb_sort.specs.Keys.{key_order}
+use Rattle.acb_names.specs.Answer.{told}
+use Rattle.acb_names.proofs.Units.{told_compare}
+use Rattle.acb_sort.specs.Keys.{key_order, SortedKeys}
 
 pub keys-total : (s : List ℕ) → Total (key_order s)
 keys-total s = both-total (λ (x : ℕ). name_at s (x / 256)) (λ (x : ℕ). x) compare_names compare names-total numbers-total (λ a b e f. f)
 
--- a heap of `end` numbers, and behind it n - end in their order
-pub record Half (s : List ℕ) (n : ℕ) (xs : List ℕ) (end : ℕ) (ys : List ℕ) : Type 0 where
-  pub within : end ≤ n
-  pub room : n ≤ length ys
-  pub moved : Rearranged n xs ys
-  pub heap : Heap (key_order s) 0 end ys
-  pub tail : Tail (key_order s) end n ys
+-- keys as the library compares them
+then-told : (o p : Ordering) → told (ordering_then o p) ≡ or_else (told o) (told p)
+then-told Less p = refl
+then-told Equal p = refl
+then-told Greater p = refl
 
-module _ (s : List ℕ) (n : ℕ) (xs : List ℕ) (end : ℕ) (ys : List ℕ) (h : Half s n xs end ys) (some : 1 < end) where
-  pub exchanged : Rearranged n ys (swapped ys 0 (end - 1))
-  exchanged = let w = h.within in swap-moves n ys 0 (end - 1) (omega arith) (omega arith) h.room
+pub both-told : (s : List ℕ) (x y : ℕ) (o p r : Ordering) → told o ≡ compare_names (name_at s (x / 256)) (name_at s (y / 256)) → p ≡ nat_cmp x y → r ≡ ordering_then o p → told r ≡ key_order s x y
+both-told s x y o p r e f g = ap told g ∙ then-told o p ∙ ap₂ or_else e (told_compare x y p f)
 
-  whole : Heap (key_order s) 0 (end - 1 + 1) ys
-  whole k c a b d e = h.heap k c a b d (omega arith)
+less-told : (o : Ordering) → is_lt o ≡ is_less (told o)
+less-told Less = refl
+less-told Equal = refl
+less-told Greater = refl
 
-  behind : Tail (key_order s) (end - 1 + 1) n ys
-  behind i j a b d = h.tail i j a (omega arith) d
+-- the same of a call that leaves the closure as it was
+pub keys-test : {F : Type 0} {f f' : F} (s : List ℕ) (x y : ℕ) (r : Ordering) → (told r ≡ key_order s x y) × (f' ≡ f) → (is_lt r ≡ is_less (key_order s x y)) × (f' ≡ f)
+keys-test s x y r e = (less-told r ∙ ap is_less e.0, e.1)
 
-  pub half-swapped : (zs : List ℕ) → zs ≡ swapped ys 0 (end - 1) → (end - 1 ≤ length zs) × (0 < end - 1) × Heap (key_order s) 1 (end - 1) zs
-  half-swapped zs e =
-      let w = h.within in
-      subst (λ (us : List ℕ). (end - 1 ≤ length us) × (0 < end - 1) × Heap (key_order s) 1 (end - 1) us) (sym e) (
-        omega (arith, h.room, exchanged.count),
-        omega arith,
-        heap-swapped (keys-total s) (end - 1) n ys (omega arith) h.room whole behind,
-      )
+pub keys-rank : (s : List ℕ) → IsStrictWeakOrder (λ x y. is_less (key_order s x y))
+keys-rank s = record { one_way = not-both (keys-total s); chain = not_on (keys-total s) }
 
-  pub half-turn : (zs us : List ℕ) → zs ≡ swapped ys 0 (end - 1) → Rearranged (end - 1) zs us → Heap (key_order s) 0 (end - 1) us → Half s n xs (end - 1) us
-  half-turn zs us e r hp =
-      let w = h.within in
-      let r' : Rearranged (end - 1) (swapped ys 0 (end - 1)) us = subst (λ (vs : List ℕ). Rearranged (end - 1) vs us) e r in
-      let q : Rearranged n ys us = moved_on exchanged (moved_more (omega arith) r') in record {
-        within = omega arith;
-        room = omega (arith, h.room, q.count);
-        moved = moved_on h.moved q;
-        heap = hp;
-        tail = tail-kept (keys-total s) (end - 1) n (swapped ys 0 (end - 1)) us (omega arith) r' (tail-swapped (keys-total s) (end - 1) n ys (omega arith) h.room whole behind);
-      }
+-- the library's permutation
+swap_is : (l : List ℕ) (i j : ℕ) → i < length l → j < length l → swap l i j ≡ swapped l i j
+swap_is [] i j hi hj = absurd (omega arith)
+swap_is (d ∷ ys) i j hi hj = ap₂ (λ (a b : ℕ). set (set (d ∷ ys) i a) j b) (get_or_default (d ∷ ys) j d 0 hj) (get_or_default (d ∷ ys) i d 0 hi)
+
+pub rearranged : (xs ys : List ℕ) → IsPermutation xs ys → Rearranged (length xs) xs ys
+rearranged xs ys p = IsPermutation-keeps xs (Rearranged (length xs) xs) (unmoved _ xs) step ys p
+  where
+    step : (l : List ℕ) (i j : ℕ) → i < length l → j < length l → Rearranged (length xs) xs l → Rearranged (length xs) xs (swap l i j)
+    step l i j hi hj r = let c = r.count in rw (swap_is l i j hi hj) (moved_on r (swap-moves (length xs) l i j (omega arith) (omega arith) (omega arith)))
+
+pub sorted-is : (s xs ys : List ℕ) → IsPermutation xs ys → IsSortedBy (λ x y. is_less (key_order s x y)) ys → SortedKeys s (length xs) xs ys
+sorted-is s xs ys p o =
+    let r = rearranged xs ys p in
+    let c = r.count in
+    record { moved = r; ordered = λ i j a b. sorted_far _ (keys-rank s) ys o i j 0 (omega arith) (omega arith) }

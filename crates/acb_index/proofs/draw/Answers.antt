@@ -1,115 +1,87 @@
-use Prim.Native.Nat.{ℕ, ◌+◌, ◌*◌, ◌%◌, ◌<◌}
-use mathlib.Core.Path.{◌≡◌, refl, sym, ap, subst, ◌∙◌}
-use lib.ListN.{length, drop}
-use lib.Dec.{eqb}
-use Rattle.algebra.specs.Numbers.{Bytes}
-use Rattle.algebra.specs.Reader.{pick}
+use Rattle.std.proofs.Common.{ℕ, ◌≡◌, ◌∙◌, ◌+◌, ◌*◌, ◌%◌, sym, ap, refl, subst, length, arith}
+use lib.ListN.{drop}
 use Rattle.acb_order.specs.Index.{shown_from}
 use Rattle.acb_order.specs.Places.{units_at}
-use Rattle.acb_order.specs.scaffold.Places.{record_place, names_in}
+use Rattle.acb_order.specs.scaffold.Places.{record_place, next_record, names_in}
 use Rattle.acb_order.proofs.Files.{place-first, place-next, known, short, shown-turn, shown-end}
 use Rattle.acb_index.specs.scaffold.Drawn.{key_at, Drawing}
-use Rattle.acb_index.proofs.Building.{unpicked, drawing-turn, put-length}
-use native.Mathlib.Omega.{arith}
+use Rattle.acb_index.proofs.Building.{picked, unpicked, drawing-skip, drawing-put}
+use Rattle.acb_index.proofs.draw.Goals.{then-units-ne0, else-units-ne0}
 use Rattle.acb_index.proofs.draw.Goals as goal
 
 pub loop-i-init : goal.loop-i-init
-loop-i-init c = (omega arith, sym (place-first _ _ _), refl, omega arith, record { keys = λ j h. absurd (omega arith); shown = λ j h. absurd (omega arith); rising = λ j h a e. absurd (omega arith) })
+loop-i-init c = (sym (place-first _ _ _), refl, omega arith, record { keys = λ j h. absurd (omega arith); shown = λ j h. absurd (omega arith); rising = λ j h a e. absurd (omega arith) })
 
-pub overflow_mul-at : goal.overflow_mul-at
-overflow_mul-at c =
-    let a = c.args in
-    let s = a.file.now in
-    let bs : Bytes s = λ j. omega (arith, c.type_inv.file j) in
+pub pass-units-requires : goal.pass-units-requires
+pass-units-requires c =
+    let b = c.args.book.now in
+    let r = c.requires.0 in
+    let l = c.loop-i in
+    let k = known b.file.now r.bytes b.count b.first b.components r.opened l.i c.loop-i-test.true in
+    rw l.invariant.0 (omega (arith, k.inside, short b.file.now r.bytes b.count b.first b.components r.opened))
+
+pub overflow_mul-run : goal.overflow_mul-run
+overflow_mul-run c =
+    let b = c.args.book.now in
+    let r = c.requires.0 in
+    let k = known b.file.now r.bytes b.count b.first b.components r.opened c.loop-i.i c.loop-i-test.true in
+    omega (arith, c.loop-i.invariant.0, k.place)
+
+pub overflow_add-run : goal.overflow_add-run
+overflow_add-run c =
+    let b = c.args.book.now in
+    let r = c.requires.0 in
+    let k = known b.file.now r.bytes b.count b.first b.components r.opened c.loop-i.i c.loop-i-test.true in
+    omega (arith, c.loop-i.invariant.0, k.place)
+
+pub overflow_cast-run : goal.overflow_cast-run
+overflow_cast-run c =
+    let b = c.args.book.now in
+    let r = c.requires.0 in
+    let k = known b.file.now r.bytes b.count b.first b.components r.opened c.loop-i.i c.loop-i-test.true in
+    omega (arith, c.loop-i.invariant.0, k.place)
+
+pub bounds-run-k : goal.bounds-run-k
+bounds-run-k c =
+    let b = c.args.book.now in
+    let s = b.file.now in
+    let r = c.requires.0 in
     let l = c.loop-i in
     let i = l.invariant in
-    let h : l.i < a.count = c.loop-i-test.true in
-    let k = known s bs a.count a.first a.n c.requires.0 l.i h in
-    let u : c.units_at-units.result ≡ units_at s (record_place a.n s a.first l.i) = c.units_at-units.ensures.0 ∙ ap (units_at s) i.1 in
-    omega (arith, i.1, k.place)
-
-pub overflow_add-at : goal.overflow_add-at
-overflow_add-at c =
-    let a = c.args in
-    let s = a.file.now in
-    let bs : Bytes s = λ j. omega (arith, c.type_inv.file j) in
-    let l = c.loop-i in
-    let i = l.invariant in
-    let h : l.i < a.count = c.loop-i-test.true in
-    let k = known s bs a.count a.first a.n c.requires.0 l.i h in
-    let u : c.units_at-units.result ≡ units_at s (record_place a.n s a.first l.i) = c.units_at-units.ensures.0 ∙ ap (units_at s) i.1 in
-    omega (arith, i.1, k.place)
-
-pub overflow_cast-at : goal.overflow_cast-at
-overflow_cast-at c =
-    let a = c.args in
-    let s = a.file.now in
-    let bs : Bytes s = λ j. omega (arith, c.type_inv.file j) in
-    let l = c.loop-i in
-    let i = l.invariant in
-    let h : l.i < a.count = c.loop-i-test.true in
-    let k = known s bs a.count a.first a.n c.requires.0 l.i h in
-    let u : c.units_at-units.result ≡ units_at s (record_place a.n s a.first l.i) = c.units_at-units.ensures.0 ∙ ap (units_at s) i.1 in
-    omega (arith, i.1, k.place)
-
-pub put_if-k-requires : goal.put_if-k-requires
-put_if-k-requires c =
-    let a = c.args in
-    let s = a.file.now in
-    let bs : Bytes s = λ j. omega (arith, c.type_inv.file j) in
-    let l = c.loop-i in
-    let i = l.invariant in
-    let h : l.i < a.count = c.loop-i-test.true in
-    let k = known s bs a.count a.first a.n c.requires.0 l.i h in
-    let u : c.units_at-units.result ≡ units_at s (record_place a.n s a.first l.i) = c.units_at-units.ensures.0 ∙ ap (units_at s) i.1 in
-    let w = shown-turn s bs a.count a.first a.n c.requires.0 l.i h in
-    let rm : (c.units_at-units.result ≡ 0 → ⊥) → l.k < length l.run = λ ne. omega (arith, i.3, w, unpicked {A = ℕ} (units_at s (record_place a.n s a.first l.i)) 0 1 (λ z. ne (u ∙ z)), i.2, c.requires.1) in
-    rm
-
-pub next_place-at-requires : goal.next_place-at-requires
-next_place-at-requires c =
-    let a = c.args in
-    let s = a.file.now in
-    let bs : Bytes s = λ j. omega (arith, c.type_inv.file j) in
-    let l = c.loop-i in
-    let i = l.invariant in
-    let h : l.i < a.count = c.loop-i-test.true in
-    let k = known s bs a.count a.first a.n c.requires.0 l.i h in
-    let u : c.units_at-units.result ≡ units_at s (record_place a.n s a.first l.i) = c.units_at-units.ensures.0 ∙ ap (units_at s) i.1 in
-    omega (arith, u, i.1, k.inside, short s bs a.count a.first a.n c.requires.0)
+    let w = shown-turn s r.bytes b.count b.first b.components r.opened l.i c.loop-i-test.true in
+    let u : c.pass-units.result.0 ≡ units_at s (record_place b.components s b.first l.i) = c.pass-units.ensures.0 ∙ ap (units_at s) i.0 in
+    omega (arith, i.2, w, unpicked {A = ℕ} (units_at s (record_place b.components s b.first l.i)) 0 1 (λ z. c.if-units-ne0.true (u ∙ z)), i.1, c.requires.1)
 
 pub loop-i-preserved : goal.loop-i-preserved
 loop-i-preserved c =
-    let a = c.args in
-    let s = a.file.now in
-    let bs : Bytes s = λ j. omega (arith, c.type_inv.file j) in
+    let b = c.args.book.now in
+    let s = b.file.now in
+    let r = c.requires.0 in
     let l = c.loop-i in
     let i = l.invariant in
-    let h : l.i < a.count = c.loop-i-test.true in
-    let k = known s bs a.count a.first a.n c.requires.0 l.i h in
-    let u : c.units_at-units.result ≡ units_at s (record_place a.n s a.first l.i) = c.units_at-units.ensures.0 ∙ ap (units_at s) i.1 in
-    let w = shown-turn s bs a.count a.first a.n c.requires.0 l.i h in
-    let rm : (c.units_at-units.result ≡ 0 → ⊥) → l.k < length l.run = λ ne. omega (arith, i.3, w, unpicked {A = ℕ} (units_at s (record_place a.n s a.first l.i)) 0 1 (λ z. ne (u ∙ z)), i.2, c.requires.1) in
-    let e = c.put_if-k.ensures in
-    let v : ◌≡◌ {A = ℕ} (pick (eqb c.units_at-units.result 0) 0 1) (pick (eqb (units_at s (record_place a.n s a.first l.i)) 0) 0 1) = ap (λ (x : ℕ). pick {A = ℕ} (eqb x 0) 0 1) u in
-    let key : 256 * l.at + l.i % 256 ≡ key_at a.n s a.first l.i = omega (arith, i.1) in (
-      omega (arith, h),
-      omega (arith, c.next_place-at.ensures, u, i.1, place-next a.n s a.first l.i),
-      put-length c.units_at-units.result l.k (256 * l.at + l.i % 256) l.run _ e.1 ∙ i.2,
-      omega (arith, e.0, v, w, i.3),
-      drawing-turn s bs a.count a.first a.n c.requires.0 l.i l.k l.run i.4 c.units_at-units.result (256 * l.at + l.i % 256) _ _ key u rm e.0 e.1,
-    )
-
-pub shape_of-run : goal.shape_of-run
-shape_of-run c = c.loop-i.invariant.2
+    let e = c.pass-units.ensures in
+    let w = shown-turn s r.bytes b.count b.first b.components r.opened l.i c.loop-i-test.true in
+    let u : c.pass-units.result.0 ≡ units_at s (record_place b.components s b.first l.i) = e.0 ∙ ap (units_at s) i.0 in
+    let next = e.1 ∙ ap (next_record b.components s) i.0 ∙ sym (place-next b.components s b.first l.i) in
+    let key : 256 * l.at + l.i % 256 ≡ key_at b.components s b.first l.i = omega (arith, i.0) in
+    let long = c.if-units-ne0.auto.run ∙ i.1 in
+    elim c.if-units-ne0.branch [
+      | then-units-ne0 t ↦
+          let some : units_at s (record_place b.components s b.first l.i) ≡ 0 → ⊥ = λ z. t.if-units-ne0.true (u ∙ z) in
+          let one = unpicked {A = ℕ} (units_at s (record_place b.components s b.first l.i)) 0 1 some in
+          (next, long, omega (arith, t.k-is, w, i.2, one), rw (t.run-is, t.k-is) (drawing-put s r.bytes b.count b.first b.components r.opened l.i l.k l.run i.3 _ (omega (arith, i.2, w, one, i.1, c.requires.1)) key some))
+      | else-units-ne0 t ↦
+          let none = picked {A = ℕ} (units_at s (record_place b.components s b.first l.i)) 0 1 (sym u ∙ t.if-units-ne0.false) in
+          (next, long, omega (arith, t.k-is, w, i.2, none), rw (t.run-is, t.k-is) (drawing-skip s r.bytes b.count b.first b.components r.opened l.i l.k l.run i.3))
+    ]
 
 pub returns : goal.returns
 returns c =
-    let a = c.args in
-    let s = a.file.now in
-    let bs : Bytes s = λ j. omega (arith, c.type_inv.file j) in
+    let b = c.args.book.now in
+    let s = b.file.now in
+    let r = c.requires.0 in
     let l = c.loop-i in
     let i = l.invariant in
-    let e : l.i ≡ a.count = omega (arith, c.loop-i-test.false, i.0) in
-    let f : l.k ≡ length a.run.now = omega (arith, i.3, ap (λ (j : ℕ). length (shown_from j (drop j (names_in s)))) e, shown-end s bs a.count a.first a.n c.requires.0, c.requires.1) in
-    subst (λ (x : ℕ). Drawing s a.n a.first x (length a.run.now) l.run) e (subst (λ (x : ℕ). Drawing s a.n a.first l.i x l.run) f i.4)
+    let e : l.i ≡ b.count = omega (arith, c.loop-i-test.false, l.auto.i-end) in
+    let f : l.k ≡ length c.args.run.now = omega (arith, i.2, ap (λ (j : ℕ). length (shown_from j (drop j (names_in s)))) e, shown-end s r.bytes b.count b.first b.components r.opened, c.requires.1) in
+    subst (λ (x : ℕ). Drawing s b.components b.first x (length c.args.run.now) l.run) e (subst (λ (x : ℕ). Drawing s b.components b.first l.i x l.run) f i.3)

@@ -1,6 +1,15 @@
-use lib.ListN.{length}
-use Rattle.order.proofs.Heaps.{unmoved}
+use Rattle.std.proofs.Common.{rules, ◌≡◌}
+use Rattle.std.specs.Ordering.{is_lt}
+use Rattle.std.proofs.lemmas.Fn.{always_returns_same}
+use Rattle.order.specs.Order.{is_less}
+use Rattle.acb_sort.specs.Keys.{key_order}
+use Rattle.acb_sort.proofs.Sorting.{keys-rank, keys-test, sorted-is}
 use Rattle.acb_sort.proofs.sort.Goals as goal
 
-pub returns-then-in_order : goal.returns-then-in_order
-returns-then-in_order c = record { moved = unmoved (length c.args.run.now) c.args.run.now; ordered = c.in_order.ensures c.if-in_order.true }
+pub returns : goal.returns
+returns c =
+    let s = c.args.file.now in
+    let e = c.sort_unstable_by.ensures in
+    sorted-is s _ _ e.permutation
+    (e.sorted (λ x y. is_less (key_order s x y)) (keys-rank s)
+    (always_returns_same _ (λ a r. is_lt r ≡ is_less (key_order s a.0.now a.1.0.now)) _ (λ a r f' k. keys-test s a.0.now a.1.0.now r (search rules))))
