@@ -7,7 +7,7 @@ use mathlib.Core.Bool.{Bool, true, false, true≢false}
 use lib.Dec.{eqb}
 use borrow.Author.Tests.{ne_eqb}
 use native.Mathlib.Omega.{arith}
-use Rattle.colour.specs.declared.model.KnownModel.TheVariants as vk
+use Rattle.std.specs.Prelude.{Some, None}
 use Rattle.colour.specs.declared.model.Model.TheVariants as vm
 use Rattle.colour.specs.Models.{model_of, is_known_model, count_in, is_model, channels_of}
 use Rattle.colour.specs.Channels.{allows_bits}
@@ -64,11 +64,11 @@ unfolding is_model channels_of
 known-model t e = go (model_of t) (model-tagged t) e
   where
     go : (k : _) → Tagged t k → is_known_model k ≡ true → Model t (count_in k)
-    go (vk.Is vm.Rgb) (of vm.Rgb g) x = subst (λ (y : ℕ). Model y 3) (sym g) rgb
-    go (vk.Is vm.Cmyk) (of vm.Cmyk g) x = subst (λ (y : ℕ). Model y 4) (sym g) cmyk
-    go (vk.Is vm.Lab) (of vm.Lab g) x = subst (λ (y : ℕ). Model y 3) (sym g) lab
-    go (vk.Is vm.Gray) (of vm.Gray g) x = subst (λ (y : ℕ). Model y 1) (sym g) gray
-    go vk.Unknown none x = absurd (true≢false (sym x))
+    go (Some vm.Rgb) (of vm.Rgb g) x = subst (λ (y : ℕ). Model y 3) (sym g) rgb
+    go (Some vm.Cmyk) (of vm.Cmyk g) x = subst (λ (y : ℕ). Model y 4) (sym g) cmyk
+    go (Some vm.Lab) (of vm.Lab g) x = subst (λ (y : ℕ). Model y 3) (sym g) lab
+    go (Some vm.Gray) (of vm.Gray g) x = subst (λ (y : ℕ). Model y 1) (sym g) gray
+    go None none x = absurd (true≢false (sym x))
 
 -- a tag that is no model's
 pub unknown-model : (t : ℕ) → ((n : ℕ) → Model t n → ⊥) → is_model t ≡ false

@@ -20,12 +20,21 @@ use Rattle.colour.specs.declared.model.Model.{Model}
 use Rattle.colour.specs.declared.model.Traits.{Traits}
 use Rattle.colour.specs.declared.model.Model.TheVariants as vm
 use Rattle.colour.specs.Channels.{wide, allows_bits}
-use Rattle.colour.specs.declared.model.KnownModel.TheVariants.{Is, Unknown}
+use Rattle.std.specs.Prelude.{Result, Some, None}
 use Rattle.ase.specs.Reading.{Entry, group_start_read, group_end_read, colour_read, group_content, model, channel, type, colour_content, inside, deepest, is_block_type, content, block, open_after_entry, fixed_number, heading, blocks, palette, ase}
 use Rattle.ase_judge.specs.scaffold.Parts.{channel_in, after_name, group_start_of, group_end_of, colour_of, whole}
-use Rattle.ase_judge.specs.Answer.{colour_in, colours, passed, report}
+use Rattle.std.specs.Result.{IsErrAnd}
+use Rattle.std.proofs.lemmas.Result.{err_from_is_err_and}
+use Rattle.fault.specs.Fault.{number_of}
+use Rattle.fault.specs.declared.Refusal.{Refusal}
+use Rattle.ase_judge.specs.declared.Counts.{Counts}
+use Rattle.ase_judge.specs.Answer.{colour_in, colours, passed, report, told}
 use Rattle.ase_judge.specs.scaffold.Answer.{tally}
-use Rattle.algebra.specs.Table.{accepted, refused, verdict}
+use Rattle.algebra.specs.Table.{Verdict, accepted, refused, verdict}
+
+-- what is told of a file where a `?` hands a refusal on
+pub verdict-exit : (r : Result Counts Refusal) (e : Refusal) {m : Verdict (ℕ × ℕ)} → IsErrAnd r (λ y. y ≡ e) → refused (number_of e.0) e.1 0 0 ≡ m → told r ≡ m
+verdict-exit r e h rest = let p = err_from_is_err_and r h in rw (p.1, p.2) rest
 
 -- ---- answers with their value changed
 
@@ -95,11 +104,11 @@ module _ (s : List ℕ) (at : ℕ) where
   after-name-short e = rw (judged-short 4 s at model e)
 
   module _ (t n : ℕ) (e : ok t n ≡ field 4 s at) where
-    pub after-name-unknown : model_of t ≡ Unknown → after_name s at ≡ refuse 4 at 0 0
+    pub after-name-unknown : model_of t ≡ None → after_name s at ≡ refuse 4 at 0 0
     unfolding after_name
     after-name-unknown u = rw (judged-bad 4 s at model 4 0 0 e (rw (model-bad t u)))
 
-    after-name-known : (m : Model) → model_of t ≡ Is m
+    after-name-known : (m : Model) → model_of t ≡ Some m
         → after_name s at ≡ then (done (each (traits_of m).channels 0 (λ i. judged 4 (channel (traits_of m).tag)) s n)) (λ u q. done (judged 2 type s q))
     unfolding after_name
     after-name-known m u =
@@ -118,7 +127,7 @@ module _ (s : List ℕ) (at : ℕ) where
         go (refuse x p r f) = refl
 
     -- the same, with what the model was asked and what its channels came to
-    pub after-name-channels : (m : Model) → model_of t ≡ Is m → {v : Traits} → v ≡ traits_of m → {w : Bool} → w ≡ wide m → {r : Res Unit} → r ≡ done (each v.channels 0 (λ i. judged 4 (channel_in w)) s n)
+    pub after-name-channels : (m : Model) → model_of t ≡ Some m → {v : Traits} → v ≡ traits_of m → {w : Bool} → w ≡ wide m → {r : Res Unit} → r ≡ done (each v.channels 0 (λ i. judged 4 (channel_in w)) s n)
         → after_name s at ≡ then r (λ u q. done (judged 2 type s q))
     after-name-channels m u f g h =
         let k = h ∙ ap₂ (λ (v : Traits) (w : Bool). done (each v.channels 0 (λ i. judged 4 (channel_in w)) s n)) f g ∙ ap (λ (j : ℕ → Judged). done (each (traits_of m).channels 0 (λ i. judged 4 j) s n)) (sym (channel-in m)) in

@@ -3,12 +3,11 @@ use Rattle.algebra.proofs.Counted.{counted-end, counted_start, counted-turn}
 use Prim.Native.Nat.{ℕ, zero, suc, ◌+◌, ◌*◌, ◌-◌, ◌≤◌, ◌<◌}
 use mathlib.Core.Path.{◌≡◌, refl, sym, ap, ◌∙◌, subst}
 use mathlib.Core.List.{List, [], ◌∷◌}
-use mathlib.Core.Logic.{◌⊎◌, inl, inr}
 use mathlib.Core.Bool.{Bool, true, false, not, ◌&&◌}
 use lib.Dec.{leb, ltb, eqb}
 use lib.ListN.{length}
 use lib.Ieee.{binary32, of_bits}
-use borrow.Author.Tests.{eq-eqb, ne_eqb, le-leb, lt-leb, leb-true, ltb-true, lt-ltb}
+use borrow.Author.Tests.{eq-eqb, ne_eqb, le-leb, lt-leb, leb-true, ltb-true}
 use native.Mathlib.Omega.{arith}
 use native.Mathlib.Nat.{lt_of_not-le}
 use native.Mathlib.Decide.{ℕ_discrete, dec_le}
@@ -21,8 +20,12 @@ use Rattle.algebra.proofs.Laws.{body-short}
 use Rattle.algebra.proofs.Texts.{text-number}
 use Rattle.colour.specs.Models.{model_of, count_in, is_model, channels_of}
 use Rattle.colour.specs.Channels.{allows, allows_bits, allows_all}
-use Rattle.colour.specs.declared.model.KnownModel.{KnownModel}
-use Rattle.colour.specs.declared.model.KnownModel.TheVariants.{Is, Unknown}
+use Rattle.std.specs.Prelude.{Option, Some, None, Result}
+use Rattle.std.specs.Result.{IsErrAnd}
+use Rattle.std.proofs.lemmas.Result.{err_from_is_err_and}
+use Rattle.fault.specs.Fault.{number_of as Fault·number}
+use Rattle.fault.specs.declared.Fault.{Fault}
+use Rattle.fault.specs.declared.Fault.TheVariants as fault
 use Rattle.colour.specs.declared.model.Model.{Model}
 use Rattle.colour.specs.declared.model.Model.TheVariants.{Rgb, Cmyk, Lab, Gray}
 use Rattle.ase.specs.Reading.{deepest}
@@ -30,8 +33,33 @@ use Rattle.ase.specs.Faults as f
 use Rattle.ase.specs.Row.{RecordRow}
 use Rattle.ase_writing.specs.Writing.{channels_in, block_by_row, size_within, sizes, found_in, block_fault, ink_fault}
 use Rattle.ase_writing.proofs.After.{group-ink-ignored}
-use Rattle.ase_write_judge.specs.scaffold.Parts.{name_fault, standing_in, open_after_type, channels_fault, after_name_fault, start, own_fault, RecordFits, RecordsFit}
+use Rattle.ase_write_judge.specs.scaffold.Parts.{told_fault, type_fault, name_fault, standing_in, open_after_type, channels_fault, after_name_fault, start, own_fault, RecordFits, RecordsFit}
 use Rattle.algebra.proofs.Firsts.{first_found, hit, pass, test-holds, name-number}
+
+-- ---- faults that a `?` hands on
+
+pub some-fault : (f : Fault) → Fault·number f ≡ 0 → ⊥
+some-fault fault.TooLong e = omega arith
+some-fault fault.Short e = omega arith
+some-fault fault.WrongTag e = omega arith
+some-fault fault.Unknown e = omega arith
+some-fault fault.OutOfRange e = omega arith
+some-fault fault.LeftOver e = omega arith
+some-fault fault.ListsDiffer e = omega arith
+some-fault fault.BadlyClosed e = omega arith
+some-fault fault.Unbalanced e = omega arith
+some-fault fault.TooDeep e = omega arith
+some-fault fault.NoRoom e = omega arith
+some-fault fault.NoRecord e = omega arith
+some-fault fault.WrongLength e = omega arith
+some-fault fault.NoCounterpart e = omega arith
+
+pub fault-exit : (r : Result Unit Fault) (f : Fault) {m : ℕ} → IsErrAnd r (λ y. y ≡ f) → Fault·number f ≡ m → told_fault r ≡ m
+fault-exit r f h rest = let p = err_from_is_err_and r h in rw (p.1, p.2) rest
+
+-- the first of two
+pub first-exit : (r : Result Unit Fault) (f : Fault) (a b : ℕ) {m : ℕ} → IsErrAnd r (λ y. y ≡ f) → Fault·number f ≡ a → first_of a b ≡ m → told_fault r ≡ m
+first-exit r f a b h e rest = fault-exit r f h (hit (Fault·number f) a b e (some-fault f) ∙ rest)
 
 -- ---- the first of two faults
 
@@ -41,19 +69,19 @@ first-assoc (suc a) b c = let h = first_found (suc a) b (λ z. omega arith) in a
 
 -- ---- a record's length
 
-few : (k : KnownModel) → count_in k ≤ 4
-few (Is Rgb) = omega arith
-few (Is Cmyk) = omega arith
-few (Is Lab) = omega arith
-few (Is Gray) = omega arith
-few Unknown = omega arith
+few : (k : Option Model) → count_in k ≤ 4
+few (Some Rgb) = omega arith
+few (Some Cmyk) = omega arith
+few (Some Lab) = omega arith
+few (Some Gray) = omega arith
+few None = omega arith
 
 -- no model has more than four channels
 pub channels-few : (t : ℕ) → channels_of t ≤ 4
 unfolding channels_of
 channels-few t = few (model_of t)
 
-pub channels-is : (t : ℕ) (k : KnownModel) → k ≡ model_of t → count_in k ≡ channels_of t
+pub channels-is : (t : ℕ) (k : Option Model) → k ≡ model_of t → count_in k ≡ channels_of t
 unfolding channels_of
 channels-is t k e = ap count_in e
 
@@ -140,11 +168,11 @@ held false e = sym e
 
 -- the fault of a colour of an unknown model, and of a known one
 module _ (g : RecordRow) where
-  pub colour-content-unknown : Unknown ≡ model_of g.model → 4 ≡ after_name_fault g
+  pub colour-content-unknown : None ≡ model_of g.model → 4 ≡ after_name_fault g
   unfolding f.colour_fault is_model
   colour-content-unknown e = rw (← e)
 
-  module _ (m : Model) (e : Is m ≡ model_of g.model) where
+  module _ (m : Model) (e : Some m ≡ model_of g.model) where
     colour-content-known : after_name_fault g ≡ first_of (channels_fault m g.channels) (pick (leb g.ink 4) 0 5)
     unfolding f.colour_fault is_model channels_of allows_bits channels_fault
     colour-content-known = rw (← e)
@@ -202,10 +230,24 @@ module _ (names : List ℕ) (d : ℕ) (g : RecordRow) where
   unfolding f.block_fault
   block-other a b c = simp (ne_eqb g.block 0xC001 a, ne_eqb g.block 0xC002 b, ne_eqb g.block 0x0001 c)
 
-  -- a group that may start, or a colour: its name, and what stands behind a colour's
-  pub block-named : ((g.block ≡ 0xC001) × (d < deepest)) ⊎ (g.block ≡ 0x0001) → block_fault names d g ≡ first_of (name_fault names g) (pick (eqb g.block 0xC001) 0 (after_name_fault g))
-  block-named (inl x) = block_start x.0 ∙ rw (lt-ltb d deepest x.1, x.0) (sym (first-zero (name_fault names g)))
-  block-named (inr e) = block-colour e ∙ sym (rw e)
+  -- in the order in which the code finds them
+  pub block-parts : block_fault names d g ≡ first_of (type_fault d g.block) (pick (eqb g.block 0xC002) 0 (first_of (name_fault names g) (pick (eqb g.block 0xC001) 0 (after_name_fault g))))
+  block-parts = elim (ℕ_discrete g.block 0xC001) [
+    | yes a ↦ block_start a ∙ rw a (ap (first_of (pick (ltb d deepest) 0 10)) (sym (first-zero (name_fault names g))))
+    | no a ↦ elim (ℕ_discrete g.block 0xC002) [
+      | yes b ↦ block-stop b ∙ rw b (sym (first-zero (pick (ltb 0 d) 0 9)))
+      | no b ↦ elim (ℕ_discrete g.block 0x0001) [
+        | yes c ↦ block-colour c ∙ rw c
+        | no c ↦ block-other a b c ∙ simp (ne_eqb g.block 0xC001 a, ne_eqb g.block 0xC002 b, ne_eqb g.block 0x0001 c)
+      ]
+    ]
+  ]
+
+  -- no group end, and its type without a fault: its name, and what stands behind a colour's
+  pub block-named : 0 ≡ type_fault d g.block → (g.block ≡ 0xC002 → ⊥) → first_of (name_fault names g) (pick (eqb g.block 0xC001) 0 (after_name_fault g)) ≡ block_fault names d g
+  block-named e h =
+      let m : ℕ = first_of (name_fault names g) (pick (eqb g.block 0xC001) 0 (after_name_fault g)) in
+      pass m (type_fault d g.block) (pick (eqb g.block 0xC002) 0 m) 0 e refl (sym (rw (ne_eqb g.block 0xC002 h))) ∙ sym block-parts
 
   pub sound : block_fault names d g ≡ 0 → Sound names d g
   sound e = elim (ℕ_discrete g.block 0xC001) [

@@ -1,9 +1,10 @@
 -- What the writer answers, on plain values. Assumes nothing.
 use Prim.Native.Nat.{ℕ, ◌≤◌, ◌<◌}
-use mathlib.Core.Path.{◌≡◌, sym, ◌∙◌}
+use mathlib.Core.Path.{◌≡◌, refl, sym, ◌∙◌}
+use mathlib.Core.Bool.{Bool, true, false}
 use mathlib.Core.List.{List}
 use lib.Dec.{leb, eqb}
-use borrow.Author.Tests.{le-leb, lt-leb, leb-true}
+use borrow.Author.Tests.{le-leb, lt-leb, leb-true, leb-false}
 use native.Mathlib.Omega.{arith}
 use Rattle.algebra.specs.Reader.{pick, state_after, limit}
 use Rattle.algebra.specs.Faults.{first_of, faults, faults_in}
@@ -23,6 +24,14 @@ module _ (names : List ℕ) (gs : List RecordRow) where
   pub too_long : limit < size gs → refused 1 0 ≡ needed names gs
   unfolding fault
   too_long h = needs-no (fault names gs) (size gs) 1 (simp (lt-leb _ _ h)) (λ z. omega arith)
+
+  -- the same from what is told of the length
+  pub passes : (x : ℕ) → refused x 0 ≡ pick (leb (size gs) limit) (bytes (size gs)) (refused 1 0) → refused x 0 ≡ needed names gs
+  passes x e = go (leb (size gs) limit) refl e
+    where
+      go : (b : Bool) → leb (size gs) limit ≡ b → refused x 0 ≡ pick b (bytes (size gs)) (refused 1 0) → refused x 0 ≡ needed names gs
+      go true h f = let z : ◌≡◌ {A = ℕ} 0 1 = cc in absurd (omega arith)
+      go false h f = f ∙ too_long (leb-false _ _ h)
 
   module _ (fits : size gs ≤ limit) where
     rest : fault names gs ≡ first_of (blocks_fault (found_in names) (block_by_row names) 0 gs) (faults ink_fault gs)

@@ -7,16 +7,16 @@ ghost use Rattle.algebra.specs.Faults.{faults};
 ghost use Rattle.algebra.specs.Table.{row_at, rows, whole};
 ghost use Rattle.algebra.specs.Writing.{bytes, refused};
 ghost use Rattle.colour.specs.Models.{channels_of};
+ghost use Rattle.fault.specs.Answer.{told_written};
 ghost use Rattle.ase.specs.Faults.{blocks_fault};
 ghost use Rattle.ase.specs.Reading.{deepest};
 ghost use Rattle.ase.specs.Row.{width, taken, given_in, empty_record};
 ghost use Rattle.ase_writing.specs.Writing.{block_by_row, size_within, size, found_in, block_fault, ink_fault, needed};
-ghost use Rattle.fields.specs.Answer.{told_written};
-ghost use Rattle.ase_write_judge.specs.scaffold.Parts.{name_fault, after_name_fault, open_after_type};
+ghost use Rattle.ase_write_judge.specs.scaffold.Parts.{told_fault, name_fault, after_name_fault, type_fault, open_after_type};
 
 use ase::{RowNumbers, WIDTH};
-use colour::{Ink, KnownModel, Model};
-use fields::{FieldEnd, Written};
+use colour::{Ink, Model};
+use fault::Fault;
 
 // The types of a block, as a run has them.
 const START: u32 = ase::GROUP_START as u32;
@@ -71,7 +71,7 @@ fn no_record() -> RowNumbers
     }
 }
 
-// Record k of a run, all zeros where the run does not have it whole.
+/// Record k of a run, all zeros where the run does not have it whole.
 pub fn record_at(run: &[u32], k: usize) -> RowNumbers
     ensures { given_in result ≡ get_or (whole width taken run.now) k empty_record }
 {
@@ -83,67 +83,63 @@ pub fn record_at(run: &[u32], k: usize) -> RowNumbers
 
 // ---- how long the file is
 
-// How many channels the model with a tag has.
+/// How many channels the model with a tag has.
 pub fn channels_of(tag: u32) -> usize
     ensures { (result ≡ channels_of tag) × (result ≤ 4) }
 {
     match Model::from_tag(tag) {
-        KnownModel::Is(model) => model.traits().channels as usize,
-        KnownModel::Unknown => 0,
+        Some(model) => model.traits().channels as usize,
+        None => 0,
     }
 }
 
-// How many bytes a record takes.
+/// How many bytes a record takes.
 pub fn size_in(given: RowNumbers) -> usize
     ensures { (result ≡ size_within (given_in given)) × (result < 0x3_0000_0000) }
 {
-    if given.block == START {
-        return 10 + 2 * fields::wide(given.units);
+    match given.block {
+        START => 10 + 2 * given.units as usize,
+        COLOUR => 16 + 2 * given.units as usize + 4 * channels_of(given.model),
+        _ => 6,
     }
-    if given.block == COLOUR {
-        return 16 + 2 * fields::wide(given.units) + 4 * channels_of(given.model);
-    }
-    6
 }
 
 // How many bytes the n records take. It stops at the limit, so that no sum passes 64 bits.
-fn size_of(run: &[u32], n: usize) -> Written
+fn size_of(run: &[u32], n: usize) -> Result<usize, Fault>
     requires { width * n ≤ length run.now }
     ensures { told_written result ≡ pick (leb (size (rows width taken run.now n 0)) limit) (bytes (size (rows width taken run.now n 0))) (refused 1 0) }
 {
     let mut total: usize = 12;
-    let mut i: usize = 0;
-    while i < n {
+    for i in 0..n {
         total += size_in(whole_at(run, i));
         if ase::LIMIT < total {
-            return Written::Refused(1);
+            return Err(Fault::TooLong);
         }
-        i += 1;
     }
-    Written::Bytes(total)
+    Ok(total)
 }
 
 // ---- judging
 
 // The fault of a name.
-fn name_fault(text: &[u8], given: RowNumbers) -> u32
-    ensures { result ≡ name_fault text.now (given_in given) }
+fn name_fault(text: &[u8], given: RowNumbers) -> Result<(), Fault>
+    ensures { told_fault result ≡ name_fault text.now (given_in given) }
 {
     if 65534 < given.units {
-        return 5;
+        return Err(Fault::OutOfRange);
     }
-    match names::text_at(text, fields::wide(given.first), given.units) {
-        FieldEnd::Next(_) => 0,
-        FieldEnd::Refused(x, _) => x,
+    match names::text_at(text, given.first as usize, given.units) {
+        Ok(_) => Ok(()),
+        Err(e) => Err(e.0),
     }
 }
 
 // The fault of what stands behind a colour's name: its model, its channels, its ink.
-fn after_name_fault(given: RowNumbers) -> u32
-    ensures { result ≡ after_name_fault (given_in given) }
+fn after_name_fault(given: RowNumbers) -> Result<(), Fault>
+    ensures { told_fault result ≡ after_name_fault (given_in given) }
 {
-    let KnownModel::Is(model) = Model::from_tag(given.model) else {
-        return 4;
+    let Some(model) = Model::from_tag(given.model) else {
+        return Err(Fault::Unknown);
     };
     if !model.allows_all(
         given.channel0,
@@ -151,36 +147,47 @@ fn after_name_fault(given: RowNumbers) -> u32
         given.channel2,
         given.channel3,
     ) {
-        return 5;
+        return Err(Fault::OutOfRange);
     }
     if 4 < given.ink {
-        return 5;
+        return Err(Fault::OutOfRange);
     }
-    0
+    Ok(())
+}
+
+// The fault of a block's type, where `depth` groups stand open.
+fn type_fault(depth: u32, block: u32) -> Result<(), Fault>
+    ensures { told_fault result ≡ type_fault depth block }
+{
+    match block {
+        START => {
+            if DEEPEST <= depth {
+                return Err(Fault::TooDeep);
+            }
+            Ok(())
+        }
+        STOP => {
+            if depth == 0 {
+                return Err(Fault::Unbalanced);
+            }
+            Ok(())
+        }
+        COLOUR => Ok(()),
+        _ => Err(Fault::Unknown),
+    }
 }
 
 // The fault of a record, where `depth` groups stand open.
-fn block_fault(text: &[u8], depth: u32, given: RowNumbers) -> u32
-    ensures { result ≡ block_fault text.now depth (given_in given) }
+fn block_fault(text: &[u8], depth: u32, given: RowNumbers) -> Result<(), Fault>
+    ensures { told_fault result ≡ block_fault text.now depth (given_in given) }
 {
-    if given.block == START {
-        if DEEPEST <= depth {
-            return 10;
-        }
-    } else if given.block == STOP {
-        if 0 < depth {
-            return 0;
-        }
-        return 9;
-    } else if given.block != COLOUR {
-        return 4;
+    type_fault(depth, given.block)?;
+    if given.block == STOP {
+        return Ok(());
     }
-    let x = name_fault(text, given);
-    if x != 0 {
-        return x;
-    }
+    name_fault(text, given)?;
     if given.block == START {
-        return 0;
+        return Ok(());
     }
     after_name_fault(given)
 }
@@ -190,88 +197,65 @@ fn open_after(depth: u32, block: u32) -> u32
     requires { depth ≤ deepest }
     ensures { result ≡ open_after_type depth block }
 {
-    if block == START {
-        return depth + 1;
+    match block {
+        START => depth + 1,
+        STOP => depth.saturating_sub(1),
+        _ => depth,
     }
-    if block == STOP {
-        if 0 < depth {
-            return depth - 1;
-        }
-        return 0;
-    }
-    depth
 }
 
 // The first fault of the n records, and of a group that is left open.
-fn blocks_fault(run: &[u32], text: &[u8], n: usize) -> u32
+fn blocks_fault(run: &[u32], text: &[u8], n: usize) -> Result<(), Fault>
     requires { width * n ≤ length run.now }
-    ensures { result ≡ blocks_fault (found_in text.now) (block_by_row text.now) 0 (rows width taken run.now n 0) }
+    ensures { told_fault result ≡ blocks_fault (found_in text.now) (block_by_row text.now) 0 (rows width taken run.now n 0) }
 {
     let mut depth: u32 = 0;
-    let mut i: usize = 0;
-    while i < n {
+    for i in 0..n {
         let given = whole_at(run, i);
-        let x = block_fault(text, depth, given);
-        if x != 0 {
-            return x;
-        }
+        block_fault(text, depth, given)?;
         depth = open_after(depth, given.block);
-        i += 1;
     }
     if depth != 0 {
-        return 9;
+        return Err(Fault::Unbalanced);
     }
-    0
+    Ok(())
 }
 
 // The fault of a record's ink: the file has no number for process and for not stated. A group has
 // no ink, and its place is not looked at.
-fn ink_fault(given: RowNumbers) -> u32
-    ensures { result ≡ ink_fault (given_in given) }
+fn ink_fault(given: RowNumbers) -> Result<(), Fault>
+    ensures { told_fault result ≡ ink_fault (given_in given) }
 {
     if given.block != COLOUR {
-        return 0;
+        return Ok(());
     }
     if given.ink == Ink::Process.number() {
-        return 14;
+        return Err(Fault::NoCounterpart);
     }
     if given.ink == Ink::NotStated.number() {
-        return 14;
+        return Err(Fault::NoCounterpart);
     }
-    0
+    Ok(())
 }
 
 // The first fault of the n records' inks.
-fn inks_fault(run: &[u32], n: usize) -> u32
+fn inks_fault(run: &[u32], n: usize) -> Result<(), Fault>
     requires { width * n ≤ length run.now }
-    ensures { result ≡ faults ink_fault (rows width taken run.now n 0) }
+    ensures { told_fault result ≡ faults ink_fault (rows width taken run.now n 0) }
 {
-    let mut i: usize = 0;
-    while i < n {
-        let x = ink_fault(whole_at(run, i));
-        if x != 0 {
-            return x;
-        }
-        i += 1;
+    for i in 0..n {
+        ink_fault(whole_at(run, i))?;
     }
-    0
+    Ok(())
 }
 
-// The exact length that writing needs, or the refusal.
-pub fn write_length(records: &[u32], text: &[u8]) -> Written
+/// The exact length that writing needs, or the refusal.
+pub fn write_length(records: &[u32], text: &[u8]) -> Result<usize, Fault>
     ensures { told_written result ≡ needed text.now (whole width taken records.now) }
 {
     let n = records.len() / WIDTH;
-    let Written::Bytes(size) = size_of(records, n) else {
-        return Written::Refused(1);
-    };
-    let x = blocks_fault(records, text, n);
-    if x != 0 {
-        return Written::Refused(x);
-    }
-    let y = inks_fault(records, n);
-    if y != 0 {
-        return Written::Refused(y);
-    }
-    Written::Bytes(size)
+    let size = size_of(records, n)?;
+    blocks_fault(records, text, n)?;
+    inks_fault(records, n)?;
+    Ok(size)
 }

@@ -1,21 +1,21 @@
-use mathlib.Core.Path.{sym, ap, ◌∙◌}
-use Rattle.fields.specs.Answer.{told_field_end, told32}
+use mathlib.Core.Path.{sym, ◌∙◌}
+use Rattle.fault.proofs.Exit.{told-exit, field-exit, short}
 use Rattle.ase_judge.proofs.Judging.{after-name-short, after-name-unknown, after-name-channels}
 use Rattle.ase_judge.proofs.after_name_at.Goals as goal
 
+pub returns-in_err-tag : goal.returns-in_err-tag
+returns-in_err-tag c =
+    let a = c.args in
+    field-exit 4 a.file.now a.at _ _ _ c.from_residual.ensures.1 c.in_err-tag.ensures (sym (after-name-short _ _ (short 4 a.file.now a.at c.in_err-tag.ensures)))
+
 pub returns-in_default : goal.returns-in_default
-returns-in_default c = sym (after-name-short _ _ (sym (ap (told32 _) c.in_default.is) ∙ c.u32_at.ensures))
+returns-in_default c = sym (after-name-unknown _ _ _ _ c.in_ok-tag.ensures (sym c.from_tag.ensures ∙ c.in_default.is))
 
-pub returns-in_default-from_tag : goal.returns-in_default-from_tag
-returns-in_default-from_tag c =
-    sym (after-name-unknown _ _ _ _ (sym (ap (told32 _) c.in-Is.is) ∙ c.u32_at.ensures) (sym c.from_tag.ensures ∙ c.in_default-from_tag.is))
+pub returns-in_err-end : goal.returns-in_err-end
+returns-in_err-end c =
+    told-exit _ _ _ c.from_residual-in_err-end.ensures.1
+    (sym (after-name-channels _ _ _ _ c.in_ok-tag.ensures _ (sym c.from_tag.ensures ∙ c.in-Some.is) c.traits.ensures c.is_wide.ensures c.in_err-end.ensures))
 
-pub returns-in-Refused : goal.returns-in-Refused
-returns-in-Refused c =
-    sym (after-name-channels _ _ _ _ (sym (ap (told32 _) c.in-Is.is) ∙ c.u32_at.ensures) _ (sym c.from_tag.ensures ∙ c.in-Is-from_tag.is)
-    c.traits.ensures c.is_wide.ensures (sym (ap told_field_end c.in-Refused.is) ∙ c.channels_at.ensures))
-
-pub returns-in-Next : goal.returns-in-Next
-returns-in-Next c =
-    c.type_at.ensures ∙ sym (after-name-channels _ _ _ _ (sym (ap (told32 _) c.in-Is.is) ∙ c.u32_at.ensures) _ (sym c.from_tag.ensures ∙ c.in-Is-from_tag.is)
-    c.traits.ensures c.is_wide.ensures (sym (ap told_field_end c.in-Next.is) ∙ c.channels_at.ensures))
+pub returns : goal.returns
+returns c =
+    c.type_at.ensures ∙ sym (after-name-channels _ _ _ _ c.in_ok-tag.ensures _ (sym c.from_tag.ensures ∙ c.in-Some.is) c.traits.ensures c.is_wide.ensures c.in_ok-end.ensures)

@@ -1,17 +1,17 @@
 use mathlib.Core.Path.{sym, ap, ◌∙◌}
 use Prim.Native.Nat.{ℕ}
-use Rattle.ase_judge.proofs.Judging.{colour-content-done}
 use Rattle.algebra.specs.Reader.{Res, done, then}
-use Rattle.names.specs.Answer.{told_name}
+use Rattle.fault.proofs.Exit.{told-exit}
 use Rattle.ase_judge.specs.scaffold.Parts.{after_name}
+use Rattle.ase_judge.proofs.Judging.{colour-content-done}
 use Rattle.ase_judge.proofs.colour_content_at.Goals as goal
 
-pub returns-in-Refused : goal.returns-in-Refused
-returns-in-Refused c =
+pub returns-in_err-next : goal.returns-in_err-next
+returns-in_err-next c =
     let a = c.args in
-    sym (colour-content-done a.file.now a.at ∙ ap (λ (m : Res (ℕ × ℕ)). then (done m) (λ u q. after_name a.file.now q)) (sym (sym (ap told_name c.in-Refused.is) ∙ c.name16_at.ensures)))
+    told-exit _ _ _ c.from_residual.ensures.1 (ap (λ (m : Res (ℕ × ℕ)). then (done m) (λ u q. after_name a.file.now q)) c.in_err-next.ensures ∙ sym (colour-content-done a.file.now a.at))
 
-pub returns-in-Is : goal.returns-in-Is
-returns-in-Is c =
+pub returns : goal.returns
+returns c =
     let a = c.args in
-    c.after_name_at.ensures ∙ sym (colour-content-done a.file.now a.at ∙ ap (λ (m : Res (ℕ × ℕ)). then (done m) (λ u q. after_name a.file.now q)) (sym (sym (ap told_name c.in-Is.is) ∙ c.name16_at.ensures)))
+    c.after_name_at.ensures ∙ ap (λ (m : Res (ℕ × ℕ)). then (done m) (λ u q. after_name a.file.now q)) c.in_ok-next.ensures ∙ sym (colour-content-done a.file.now a.at)

@@ -1,41 +1,37 @@
 use mathlib.Core.Path.{sym, ap, ◌∙◌}
 use Rattle.algebra.specs.Reader.{Res, then, field, done, judged}
-use Rattle.fields.specs.Answer.{told32, told_field_end}
+use Rattle.fault.proofs.Exit.{told-exit, field-exit, short}
 use Rattle.ase.specs.Reading.{fixed_number}
 use Rattle.ase_judge.proofs.Judging.{heading-short, heading-bad, heading-good}
 use Rattle.ase_judge.proofs.heading_at.Goals as goal
 
-pub returns-in_default : goal.returns-in_default
-returns-in_default c =
+pub returns-in_err-signature : goal.returns-in_err-signature
+returns-in_err-signature c =
     let s = c.args.file.now in
-    sym (heading-short s (sym (ap (told32 0) c.in_default.is) ∙ c.u32_at.ensures))
+    field-exit 4 s 0 _ _ _ c.from_residual.ensures.1 c.in_err-signature.ensures (sym (heading-short s (short 4 s 0 c.in_err-signature.ensures)))
 
 pub returns-then-signature-ne-SIGNATURE : goal.returns-then-signature-ne-SIGNATURE
-returns-then-signature-ne-SIGNATURE c =
-    let s = c.args.file.now in
-    let e = sym (ap (told32 0) c.in-Is.is) ∙ c.u32_at.ensures in
-    sym (heading-bad s _ _ e c.if-signature-ne-SIGNATURE.true)
+returns-then-signature-ne-SIGNATURE c = sym (heading-bad c.args.file.now _ _ c.in_ok-signature.ensures c.if-signature-ne-SIGNATURE.true)
 
-pub returns-in-Refused : goal.returns-in-Refused
-returns-in-Refused c =
+pub returns-in_err-b : goal.returns-in_err-b
+returns-in_err-b c =
     let s = c.args.file.now in
-    let e = sym (ap (told32 0) c.in-Is.is) ∙ c.u32_at.ensures in
-    sym (heading-good s _ _ e c.if-signature-ne-SIGNATURE.false ∙ ap (λ (m : Res (Unit {0})). then m (λ u b. then (done (judged 2 (fixed_number 0) s b)) (λ u d. field 4 s d))) (sym c.u16_is.ensures ∙ ap told_field_end c.in-Refused.is))
+    told-exit _ _ _ c.from_residual-in_err-b.ensures.1
+    (ap (λ (m : Res (Unit {0})). then m (λ u b. then (done (judged 2 (fixed_number 0) s b)) (λ u d. field 4 s d))) c.in_err-b.ensures
+    ∙ sym (heading-good s _ _ c.in_ok-signature.ensures c.if-signature-ne-SIGNATURE.false))
 
-pub returns-in-Refused-u16_is : goal.returns-in-Refused-u16_is
-returns-in-Refused-u16_is c =
+pub returns-in_err-c : goal.returns-in_err-c
+returns-in_err-c c =
     let s = c.args.file.now in
-    let e = sym (ap (told32 0) c.in-Is.is) ∙ c.u32_at.ensures in
-    sym (heading-good s _ _ e c.if-signature-ne-SIGNATURE.false ∙ ap (λ (m : Res (Unit {0})). then m (λ u b. then (done (judged 2 (fixed_number 0) s b)) (λ u d. field 4 s d))) (sym c.u16_is.ensures ∙ ap told_field_end c.in-Next.is) ∙ ap (λ (m : Res (Unit {0})). then m (λ u d. field 4 s d)) (sym c.u16_is-in-Next.ensures ∙ ap told_field_end c.in-Refused-u16_is.is))
+    told-exit _ _ _ c.from_residual-in_err-c.ensures.1
+    (ap (λ (m : Res (Unit {0})). then m (λ u d. field 4 s d)) c.in_err-c.ensures
+    ∙ ap (λ (m : Res (Unit {0})). then m (λ u b. then (done (judged 2 (fixed_number 0) s b)) (λ u d. field 4 s d))) c.in_ok-b.ensures
+    ∙ sym (heading-good s _ _ c.in_ok-signature.ensures c.if-signature-ne-SIGNATURE.false))
 
-pub returns-in-Short : goal.returns-in-Short
-returns-in-Short c =
+pub returns : goal.returns
+returns c =
     let s = c.args.file.now in
-    let e = sym (ap (told32 0) c.in-Is.is) ∙ c.u32_at.ensures in
-    sym (heading-good s _ _ e c.if-signature-ne-SIGNATURE.false ∙ ap (λ (m : Res (Unit {0})). then m (λ u b. then (done (judged 2 (fixed_number 0) s b)) (λ u d. field 4 s d))) (sym c.u16_is.ensures ∙ ap told_field_end c.in-Next.is) ∙ ap (λ (m : Res (Unit {0})). then m (λ u d. field 4 s d)) (sym c.u16_is-in-Next.ensures ∙ ap told_field_end c.in-Next-u16_is.is) ∙ sym (sym (ap (told32 _) c.in-Short.is) ∙ c.u32_at-in-Next-u16_is.ensures))
-
-pub returns-in-Is-u32_at : goal.returns-in-Is-u32_at
-returns-in-Is-u32_at c =
-    let s = c.args.file.now in
-    let e = sym (ap (told32 0) c.in-Is.is) ∙ c.u32_at.ensures in
-    sym (heading-good s _ _ e c.if-signature-ne-SIGNATURE.false ∙ ap (λ (m : Res (Unit {0})). then m (λ u b. then (done (judged 2 (fixed_number 0) s b)) (λ u d. field 4 s d))) (sym c.u16_is.ensures ∙ ap told_field_end c.in-Next.is) ∙ ap (λ (m : Res (Unit {0})). then m (λ u d. field 4 s d)) (sym c.u16_is-in-Next.ensures ∙ ap told_field_end c.in-Next-u16_is.is) ∙ sym (sym (ap (told32 _) c.in-Is-u32_at.is) ∙ c.u32_at-in-Next-u16_is.ensures))
+    c.number_at-2.ensures
+    ∙ ap (λ (m : Res (Unit {0})). then m (λ u d. field 4 s d)) c.in_ok-c.ensures
+    ∙ ap (λ (m : Res (Unit {0})). then m (λ u b. then (done (judged 2 (fixed_number 0) s b)) (λ u d. field 4 s d))) c.in_ok-b.ensures
+    ∙ sym (heading-good s _ _ c.in_ok-signature.ensures c.if-signature-ne-SIGNATURE.false)

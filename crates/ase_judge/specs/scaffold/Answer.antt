@@ -1,15 +1,9 @@
 -- Scaffolding: the form in which the code goes; cited by private contracts and by proofs.
 use Rattle.std.specs.Prelude.{ℕ, List}
-use Rattle.algebra.specs.Reader.{Res, ok, refuse, state_after}
+use Rattle.algebra.specs.Reader.{state_after}
 use Rattle.ase.specs.Reading.{Entry, open_after_entry}
-use Rattle.ase_judge.specs.declared.Heading.{Heading}
-use Rattle.ase_judge.specs.declared.Heading.TheVariants as vh
 use Rattle.ase_judge.specs.Answer.{colours}
 
 -- the same of some blocks
 abbrev pub tally : ℕ → List Entry → ℕ × ℕ
 tally d es = (state_after open_after_entry d es, colours es)
-
-abbrev pub told_heading : Heading → Res ℕ
-told_heading (vh.Is n next) = ok n next
-told_heading (vh.Refused x p) = refuse x p 0 0

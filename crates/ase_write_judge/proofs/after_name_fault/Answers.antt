@@ -9,10 +9,10 @@ pub returns-in_default : goal.returns-in_default
 returns-in_default c = colour-content-unknown (given_in c.args.given) (sym c.in_default.is ∙ c.from_tag.ensures)
 
 pub returns-then-not-allows_all : goal.returns-then-not-allows_all
-returns-then-not-allows_all c = let g = given_in c.args.given in colour-content-bad g _ (sym c.in-Is.is ∙ c.from_tag.ensures) c.allows_all.result (channels-by _ _ _ _ _ _ c.allows_all.ensures) (ap not c.if-not-allows_all.true)
+returns-then-not-allows_all c = let g = given_in c.args.given in colour-content-bad g _ (sym c.in-Some.is ∙ c.from_tag.ensures) c.allows_all.result (channels-by _ _ _ _ _ _ c.allows_all.ensures) (ap not c.if-not-allows_all.true)
 
 pub returns-then-given-gt4 : goal.returns-then-given-gt4
-returns-then-given-gt4 c = let g = given_in c.args.given in colour-content-typed g _ (sym c.in-Is.is ∙ c.from_tag.ensures) c.allows_all.result (channels-by _ _ _ _ _ _ c.allows_all.ensures) (ap not c.if-not-allows_all.false) 5 (sym (rw (lt-leb g.ink 4 c.if-given-gt4.true)))
+returns-then-given-gt4 c = let g = given_in c.args.given in colour-content-typed g _ (sym c.in-Some.is ∙ c.from_tag.ensures) c.allows_all.result (channels-by _ _ _ _ _ _ c.allows_all.ensures) (ap not c.if-not-allows_all.false) 5 (sym (rw (lt-leb g.ink 4 c.if-given-gt4.true)))
 
 pub returns : goal.returns
-returns c = let g = given_in c.args.given in colour-content-typed g _ (sym c.in-Is.is ∙ c.from_tag.ensures) c.allows_all.result (channels-by _ _ _ _ _ _ c.allows_all.ensures) (ap not c.if-not-allows_all.false) 0 (sym (rw (le-leb g.ink 4 c.if-given-gt4.false)))
+returns c = let g = given_in c.args.given in colour-content-typed g _ (sym c.in-Some.is ∙ c.from_tag.ensures) c.allows_all.result (channels-by _ _ _ _ _ _ c.allows_all.ensures) (ap not c.if-not-allows_all.false) 0 (sym (rw (le-leb g.ink 4 c.if-given-gt4.false)))

@@ -8,6 +8,3 @@ use Rattle.ase_write_judge.proofs.inks_fault.Given as goal
 
 abbrev pub invariant-loop-i : goal.invariant-loop-i
 invariant-loop-i l = (l.i ≤ l.n) × (faults ink_fault (rows width taken l.run l.n 0) ≡ faults ink_fault (rows width taken l.run (l.n - l.i) l.i))
-
-abbrev pub decreases-loop-i : goal.decreases-loop-i
-decreases-loop-i l = l.n - l.i

@@ -1,6 +1,6 @@
 -- Scaffolding: the form in which the code goes; cited by private contracts and by proofs.
 -- What the parts of judging and storing a record take of it.
-use Rattle.std.specs.Prelude.{ℕ, ◌+◌, ◌-◌, ◌≤◌, ◌≡◌, List, ◌++◌, eqb, take}
+use Rattle.std.specs.Prelude.{ℕ, ◌+◌, ◌-◌, ◌≤◌, ◌≡◌, List, ◌++◌, Result, Ok, Err, ltb, eqb, take}
 use Rattle.std.specs.Float.{binary32}
 use Rattle.std.specs.Float.Ieee.{of_bits}
 use Rattle.algebra.specs.Numbers.{be, joined}
@@ -9,10 +9,21 @@ use Rattle.algebra.specs.Faults.{faults, faults_from}
 use Rattle.colour.specs.Models.{traits_of}
 use Rattle.colour.specs.Channels.{allows}
 use Rattle.colour.specs.declared.model.Model.{Model}
-use Rattle.ase.specs.Reading.{open_after}
+use Rattle.fault.specs.Fault.{number_of}
+use Rattle.fault.specs.declared.Fault.{Fault}
+use Rattle.ase.specs.Reading.{deepest, open_after}
 use Rattle.ase.specs.Faults as f
 use Rattle.ase.specs.Row.{RecordRow}
 use Rattle.ase_writing.specs.Writing.{units_within, channels_in, block_by_row, size_within, sizes, found_in, block_fault}
+
+-- a fault's number, 0 for none
+abbrev pub told_fault : Result Unit Fault → ℕ
+told_fault (Ok u) = 0
+told_fault (Err f) = number_of f
+
+-- the fault of a block's type, where d groups stand open
+abbrev pub type_fault : ℕ → ℕ → ℕ
+type_fault d t = pick (eqb t 0xC001) (pick (ltb d deepest) 0 10) (pick (eqb t 0xC002) (pick (ltb 0 d) 0 9) (pick (eqb t 0x0001) 0 4))
 
 -- the fault of a record's name
 abbrev pub name_fault : List ℕ → RecordRow → ℕ
