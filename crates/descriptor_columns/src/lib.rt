@@ -15,7 +15,7 @@ ghost use Rattle.descriptor_columns.specs.Filled.{answered, Read, valued, parent
 ghost use Rattle.descriptor_columns.specs.scaffold.Filling.{Begun, Done, Rooted, Whole, rest, puts, value_in};
 ghost use Rattle.descriptor_columns.specs.scaffold.Parents.{Parented, parent_at};
 
-use descriptor_judge::Answer;
+use fault::{Fault, Refusal};
 
 // A level that is open: what its members are and how many are left, the row in which they stand, and
 // that row's first byte.
@@ -288,7 +288,7 @@ fn parent_of(depth: &[u32], parents: &[u32], i: usize) -> usize
         if depth[j] < own {
             return j;
         }
-        j = fields::wide(parents[j]);
+        j = parents[j] as usize;
     }
 }
 
@@ -297,11 +297,9 @@ fn fill_parents(depth: &[u32], parents: &mut [u32])
     requires { (length depth.now ≤ length parents.old) × (length depth.now ≤ 4294967295) }
     ensures { parents.new ≡ onto (parents_of depth.now) parents.old }
 {
-    let mut i: usize = 0;
-    while i < depth.len() {
+    for i in 0..depth.len() {
         let p = parent_of(depth, parents, i);
         parents[i] = p as u32;
-        i += 1;
     }
 }
 
@@ -316,73 +314,53 @@ pub fn read(
     next: &mut [u32],
     depth: &mut [u32],
     kind: &mut [u32],
-) -> Answer
+) -> Result<usize, Refusal>
     ensures { (told result ≡ answered (descriptor file.now) (first.old ∷ size.old ∷ next.old ∷ depth.old ∷ kind.old ∷ [])) × (Read file.now first.old size.old next.old depth.old kind.old first.new size.new next.new depth.new kind.new) }
 {
-    match descriptor_judge::judge(file) {
-        Answer::Refused { number, place } => Answer::Refused { number, place },
-        Answer::Accepted { rows } => {
-            if is_room(first, size, next, depth, kind, rows) {
-                fill_all(file, first, size, next, depth, kind, rows);
-                return Answer::Accepted { rows };
-            }
-            Answer::Refused {
-                number: 11,
-                place: 0,
-            }
-        }
+    let rows = descriptor_judge::judge(file)?;
+    if !is_room(first, size, next, depth, kind, rows) {
+        return Err(Refusal(Fault::NoRoom, 0));
     }
+    fill_all(file, first, size, next, depth, kind, rows);
+    Ok(rows)
 }
 
 // Where the value of every row begins: how many rows a file has, or the refusal, which changes
 // nothing; 11 where the run has room for fewer. Past the rows it keeps its contents.
-pub fn values(file: &[u8], values: &mut [u32]) -> Answer
+pub fn values(file: &[u8], values: &mut [u32]) -> Result<usize, Refusal>
     ensures { (told result, values.new) ≡ valued file.now values.old }
 {
-    match descriptor_judge::judge(file) {
-        Answer::Refused { number, place } => Answer::Refused { number, place },
-        Answer::Accepted { rows } => {
-            if values.len() < rows {
-                return Answer::Refused {
-                    number: 11,
-                    place: 0,
-                };
-            }
-            let head = descriptor_raw::root_head(file);
-            values[0] = 4;
-            fill_values(
-                file,
-                values,
-                rows,
-                head.what,
-                head.objects,
-                head.count,
-                head.end,
-            );
-            Answer::Accepted { rows }
-        }
+    let rows = descriptor_judge::judge(file)?;
+    if values.len() < rows {
+        return Err(Refusal(Fault::NoRoom, 0));
     }
+    let head = descriptor_raw::root_head(file);
+    values[0] = 4;
+    fill_values(
+        file,
+        values,
+        rows,
+        head.what,
+        head.objects,
+        head.count,
+        head.end,
+    );
+    Ok(rows)
 }
 
 // The parent of every row from the depths alone: the last row before it that is less deep, 0 where
 // there is none. How many rows there are; 11 where the run has room for fewer, and 1 where they are
 // more than 32 bits count: both change nothing. Past the rows the run keeps its contents.
-pub fn parents(depth: &[u32], parents: &mut [u32]) -> Answer
+pub fn parents(depth: &[u32], parents: &mut [u32]) -> Result<usize, Refusal>
     ensures { (told result, parents.new) ≡ parented depth.now parents.old }
 {
     let rows = depth.len();
     if 4294967295 < rows {
-        return Answer::Refused {
-            number: 1,
-            place: 0,
-        };
+        return Err(Refusal(Fault::TooLong, 0));
     }
     if parents.len() < rows {
-        return Answer::Refused {
-            number: 11,
-            place: 0,
-        };
+        return Err(Refusal(Fault::NoRoom, 0));
     }
     fill_parents(depth, parents);
-    Answer::Accepted { rows }
+    Ok(rows)
 }

@@ -6,7 +6,7 @@ use mathlib.Core.Bool.{Bool, true, false}
 use lib.Dec.{eqb}
 use lib.ListN.{length}
 use borrow.Author.Tests.{le-leb, lt-leb}
-use Rattle.std.specs.Prelude.{Result}
+use Rattle.std.specs.Prelude.{Result, Err}
 use Rattle.std.specs.Result.{IsErrAnd}
 use Rattle.std.proofs.lemmas.Result.{err_from_is_err_and}
 use Rattle.fault.specs.Fault.{number_of}
@@ -17,9 +17,9 @@ use Rattle.descriptor_judge.specs.scaffold.Counting.{walked}
 use Rattle.descriptor_judge.specs.Answer.{Verdict, accepted, refused, verdict, told}
 use Rattle.descriptor_judge.specs.scaffold.Answer.{closing}
 
--- a refusal that a `?` hands on
-pub verdict-exit : (r : Result ℕ Refusal) (e : Refusal) {v : Verdict} → IsErrAnd r (λ y. y ≡ e) → refused (number_of e.0) e.1 ≡ v → told r ≡ v
-verdict-exit r e h rest = let p = err_from_is_err_and r h in rw (p.1, p.2) rest
+-- what is said of a refusal that a `?` hands on
+pub handed : {A B : Type 0} (says : Result A Refusal → B) (r : Result A Refusal) (e : Refusal) {m : B} → IsErrAnd r (λ y. y ≡ e) → says (Err e) ≡ m → says r ≡ m
+handed says r e h rest = let p = err_from_is_err_and r h in ap says (p.1 ∙ ap Err p.2) ∙ rest
 
 pub too_long : (s : List ℕ) → limit < length s → descriptor s ≡ refuse 1 0 0 0
 unfolding descriptor

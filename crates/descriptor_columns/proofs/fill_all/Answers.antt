@@ -5,14 +5,12 @@ use native.Mathlib.Omega.{arith}
 use Rattle.descriptor_columns.proofs.Reading as R
 use Rattle.descriptor_columns.proofs.fill_all.Goals as goal
 
--- src/lib.rt:151:5
 pub put_head-requires : goal.put_head-requires
 put_head-requires c =
     let a = c.args in
     let p = c.requires in
     omega (arith, R.some a.file.now a.rows p.0, p.1, p.4, p.5)
 
--- src/lib.rt:152:5
 pub fill-requires : goal.fill-requires
 fill-requires c =
     let a = c.args in
@@ -26,7 +24,6 @@ fill-requires c =
       subst (λ (x : ℕ). a.rows ≤ x) (sym (ap length h.2 ∙ length-set a.kind.now 0 _)) p.5,
     )
 
--- src/lib.rt:138:1
 pub returns : goal.returns
 returns c =
     let a = c.args in

@@ -4,13 +4,11 @@ use native.Mathlib.Omega.{arith}
 use Rattle.descriptor_columns.proofs.Upward as U
 use Rattle.descriptor_columns.proofs.fill_parents.Goals as goal
 
--- src/lib.rt:261:5
 pub loop-i-init : goal.loop-i-init
 loop-i-init c =
     let a = c.args in
     U.storing-start a.depth.now a.parents.now
 
--- src/lib.rt:262:13
 pub parent_of-p-requires : goal.parent_of-p-requires
 parent_of-p-requires c =
     let a = c.args in
@@ -19,7 +17,6 @@ parent_of-p-requires c =
     let g = o.invariant in
     (g.stands, c.loop-i-test.true, omega (arith, c.loop-i-test.true, p.0, g.size))
 
--- src/lib.rt:263:22
 pub overflow_cast-parents : goal.overflow_cast-parents
 overflow_cast-parents c =
     let a = c.args in
@@ -28,7 +25,6 @@ overflow_cast-parents c =
     let g = o.invariant in
     omega (arith, c.parent_of-p.ensures.1, c.loop-i-test.true, p.1)
 
--- src/lib.rt:263:9
 pub offset_bounds-parents-i : goal.offset_bounds-parents-i
 offset_bounds-parents-i c =
     let a = c.args in
@@ -37,7 +33,6 @@ offset_bounds-parents-i c =
     let g = o.invariant in
     omega (arith, c.loop-i-test.true, p.1)
 
--- src/lib.rt:263:9
 pub bounds-parents-i : goal.bounds-parents-i
 bounds-parents-i c =
     let a = c.args in
@@ -46,25 +41,6 @@ bounds-parents-i c =
     let g = o.invariant in
     omega (arith, c.loop-i-test.true, p.0, g.size)
 
--- src/lib.rt:264:9
-pub overflow_add-i : goal.overflow_add-i
-overflow_add-i c =
-    let a = c.args in
-    let p = c.requires in
-    let o = c.loop-i in
-    let g = o.invariant in
-    omega (arith, c.loop-i-test.true, p.1)
-
--- src/lib.rt:261:5
-pub loop-i-smaller : goal.loop-i-smaller
-loop-i-smaller c =
-    let a = c.args in
-    let p = c.requires in
-    let o = c.loop-i in
-    let g = o.invariant in
-    omega (arith, c.loop-i-test.true)
-
--- src/lib.rt:261:5
 pub loop-i-preserved : goal.loop-i-preserved
 loop-i-preserved c =
     let a = c.args in
@@ -73,7 +49,6 @@ loop-i-preserved c =
     let g = o.invariant in
     U.storing-turn a.depth.now _ c.loop-i-test.true (omega (arith, c.loop-i-test.true, p.0, g.size)) c.parent_of-p.ensures.0 g (length-set o.parents o.i _ ∙ g.size)
 
--- src/lib.rt:256:1
 pub shape_of-parents : goal.shape_of-parents
 shape_of-parents c =
     let a = c.args in
@@ -82,7 +57,6 @@ shape_of-parents c =
     let g = o.invariant in
     g.size
 
--- src/lib.rt:256:1
 pub returns : goal.returns
 returns c =
     let a = c.args in

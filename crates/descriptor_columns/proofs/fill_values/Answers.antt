@@ -4,13 +4,11 @@ use Rattle.descriptor_columns.specs.scaffold.Filling.{rest}
 use Rattle.descriptor_columns.proofs.Valued as W
 use Rattle.descriptor_columns.proofs.fill_values.Goals as goal
 
--- src/lib.rt:235:5
 pub loop-left-init : goal.loop-left-init
 loop-left-init c =
     let a = c.args in
     W.start a.file.now a.due a.arity a.count a.start a.rows a.values.now _ refl c.requires.0
 
--- src/lib.rt:238:17
 pub shape_of-values-then-d-eq0 : goal.shape_of-values-then-d-eq0
 shape_of-values-then-d-eq0 c =
     let a = c.args in
@@ -21,7 +19,6 @@ shape_of-values-then-d-eq0 c =
     let f = W.facts a.file.now a.rows (rest a.file.now a.due a.arity a.count a.start) a.values.now l g in
     g.size
 
--- src/lib.rt:238:17
 pub returns-then-d-eq0 : goal.returns-then-d-eq0
 returns-then-d-eq0 c =
     let a = c.args in
@@ -32,7 +29,6 @@ returns-then-d-eq0 c =
     let f = W.facts a.file.now a.rows (rest a.file.now a.due a.arity a.count a.start) a.values.now l g in
     W.turn_end a.file.now a.rows (rest a.file.now a.due a.arity a.count a.start) a.values.now l g c.if-left-eq0.true c.if-d-eq0.true
 
--- src/lib.rt:241:25
 pub offset_bounds-saved-d : goal.offset_bounds-saved-d
 offset_bounds-saved-d c =
     let a = c.args in
@@ -43,7 +39,6 @@ offset_bounds-saved-d c =
     let f = W.facts a.file.now a.rows (rest a.file.now a.due a.arity a.count a.start) a.values.now l g in
     omega (arith, f.3)
 
--- src/lib.rt:241:25
 pub bounds-saved-d : goal.bounds-saved-d
 bounds-saved-d c =
     let a = c.args in
@@ -54,7 +49,6 @@ bounds-saved-d c =
     let f = W.facts a.file.now a.rows (rest a.file.now a.due a.arity a.count a.start) a.values.now l g in
     omega (arith, f.3)
 
--- src/lib.rt:235:5
 pub loop-left-smaller-then-left-eq0 : goal.loop-left-smaller-then-left-eq0
 loop-left-smaller-then-left-eq0 c =
     let a = c.args in
@@ -66,7 +60,6 @@ loop-left-smaller-then-left-eq0 c =
     let z : (o.d ≡ 0 → ⊥) = c.if-d-eq0.false in
     omega (arith, z)
 
--- src/lib.rt:235:5
 pub loop-left-preserved-then-left-eq0 : goal.loop-left-preserved-then-left-eq0
 loop-left-preserved-then-left-eq0 c =
     let a = c.args in
@@ -77,7 +70,6 @@ loop-left-preserved-then-left-eq0 c =
     let f = W.facts a.file.now a.rows (rest a.file.now a.due a.arity a.count a.start) a.values.now l g in
     W.turn-close a.file.now a.rows (rest a.file.now a.due a.arity a.count a.start) a.values.now l g c.if-left-eq0.true c.if-d-eq0.false
 
--- src/lib.rt:249:21
 pub overflow_cast-values : goal.overflow_cast-values
 overflow_cast-values c =
     let a = c.args in
@@ -89,7 +81,6 @@ overflow_cast-values c =
     let w = W.seen a.file.now a.rows (rest a.file.now a.due a.arity a.count a.start) a.values.now l g _ c.if-left-eq0.false c.head_to_value-head.ensures in
     omega (arith, w.2, w.3, g.walking.size)
 
--- src/lib.rt:249:9
 pub offset_bounds-values-k : goal.offset_bounds-values-k
 offset_bounds-values-k c =
     let a = c.args in
@@ -101,7 +92,6 @@ offset_bounds-values-k c =
     let w = W.seen a.file.now a.rows (rest a.file.now a.due a.arity a.count a.start) a.values.now l g _ c.if-left-eq0.false c.head_to_value-head.ensures in
     omega (arith, w.0, f.2)
 
--- src/lib.rt:249:9
 pub bounds-values-k : goal.bounds-values-k
 bounds-values-k c =
     let a = c.args in
@@ -113,7 +103,6 @@ bounds-values-k c =
     let w = W.seen a.file.now a.rows (rest a.file.now a.due a.arity a.count a.start) a.values.now l g _ c.if-left-eq0.false c.head_to_value-head.ensures in
     omega (arith, w.0, p.1, g.size)
 
--- src/lib.rt:252:13
 pub overflow_add-k : goal.overflow_add-k
 overflow_add-k c =
     let a = c.args in
@@ -124,7 +113,6 @@ overflow_add-k c =
     let f = W.facts a.file.now a.rows (rest a.file.now a.due a.arity a.count a.start) a.values.now l g in
     omega (arith, f.0, f.2)
 
--- src/lib.rt:235:5
 pub loop-left-smaller-then-head-eq0 : goal.loop-left-smaller-then-head-eq0
 loop-left-smaller-then-head-eq0 c =
     let a = c.args in
@@ -136,7 +124,6 @@ loop-left-smaller-then-head-eq0 c =
     let w = W.seen a.file.now a.rows (rest a.file.now a.due a.arity a.count a.start) a.values.now l g _ c.if-left-eq0.false c.head_to_value-head.ensures in
     omega (arith, w.1, w.2, f.4)
 
--- src/lib.rt:235:5
 pub loop-left-preserved-then-head-eq0 : goal.loop-left-preserved-then-head-eq0
 loop-left-preserved-then-head-eq0 c =
     let a = c.args in
@@ -147,7 +134,6 @@ loop-left-preserved-then-head-eq0 c =
     let f = W.facts a.file.now a.rows (rest a.file.now a.due a.arity a.count a.start) a.values.now l g in
     W.turn-leaf a.file.now a.rows (rest a.file.now a.due a.arity a.count a.start) a.values.now l g _ c.if-left-eq0.false c.head_to_value-head.ensures c.if-head-eq0.true refl
 
--- src/lib.rt:255:9
 pub offset_bounds-saved-d-in-loop-left : goal.offset_bounds-saved-d-in-loop-left
 offset_bounds-saved-d-in-loop-left c =
     let a = c.args in
@@ -158,7 +144,6 @@ offset_bounds-saved-d-in-loop-left c =
     let f = W.facts a.file.now a.rows (rest a.file.now a.due a.arity a.count a.start) a.values.now l g in
     omega (arith, f.3)
 
--- src/lib.rt:255:9
 pub bounds-saved-d-in-loop-left : goal.bounds-saved-d-in-loop-left
 bounds-saved-d-in-loop-left c =
     let a = c.args in
@@ -169,7 +154,6 @@ bounds-saved-d-in-loop-left c =
     let f = W.facts a.file.now a.rows (rest a.file.now a.due a.arity a.count a.start) a.values.now l g in
     omega (arith, f.3)
 
--- src/lib.rt:262:9
 pub overflow_add-d : goal.overflow_add-d
 overflow_add-d c =
     let a = c.args in
@@ -180,7 +164,6 @@ overflow_add-d c =
     let f = W.facts a.file.now a.rows (rest a.file.now a.due a.arity a.count a.start) a.values.now l g in
     omega (arith, f.3)
 
--- src/lib.rt:267:9
 pub overflow_add-k-in-loop-left : goal.overflow_add-k-in-loop-left
 overflow_add-k-in-loop-left c =
     let a = c.args in
@@ -191,7 +174,6 @@ overflow_add-k-in-loop-left c =
     let f = W.facts a.file.now a.rows (rest a.file.now a.due a.arity a.count a.start) a.values.now l g in
     omega (arith, f.0, f.2)
 
--- src/lib.rt:235:5
 pub loop-left-smaller : goal.loop-left-smaller
 loop-left-smaller c =
     let a = c.args in
@@ -203,7 +185,6 @@ loop-left-smaller c =
     let w = W.seen a.file.now a.rows (rest a.file.now a.due a.arity a.count a.start) a.values.now l g _ c.if-left-eq0.false c.head_to_value-head.ensures in
     omega (arith, w.1, w.2, f.4)
 
--- src/lib.rt:235:5
 pub loop-left-preserved : goal.loop-left-preserved
 loop-left-preserved c =
     let a = c.args in

@@ -1,20 +1,18 @@
+use mathlib.Core.Path.{refl}
 use native.Mathlib.Omega.{arith}
 use Rattle.descriptor_columns.proofs.Upward as U
 use Rattle.descriptor_columns.proofs.parent_of.Goals as goal
 
--- src/lib.rt:240:9
 pub returns-then-i-eq0 : goal.returns-then-i-eq0
 returns-then-i-eq0 c =
     let a = c.args in
     (U.first-parent a.depth.now a.i c.if-i-eq0.true, omega arith)
 
--- src/lib.rt:244:5
 pub loop-j-init : goal.loop-j-init
 loop-j-init c =
     let a = c.args in
     U.rising-start a.depth.now c.if-i-eq0.false
 
--- src/lib.rt:246:13
 pub returns-then-j-eq0 : goal.returns-then-j-eq0
 returns-then-j-eq0 c =
     let a = c.args in
@@ -23,7 +21,6 @@ returns-then-j-eq0 c =
     let g = o.invariant in
     (U.rising-first a.depth.now g c.if-j-eq0.true, omega arith)
 
--- src/lib.rt:248:12
 pub offset_bounds-depth-j : goal.offset_bounds-depth-j
 offset_bounds-depth-j c =
     let a = c.args in
@@ -32,7 +29,6 @@ offset_bounds-depth-j c =
     let g = o.invariant in
     omega (arith, g.below, p.1)
 
--- src/lib.rt:248:12
 pub bounds-depth-j : goal.bounds-depth-j
 bounds-depth-j c =
     let a = c.args in
@@ -41,7 +37,6 @@ bounds-depth-j c =
     let g = o.invariant in
     omega (arith, g.below, p.1)
 
--- src/lib.rt:249:13
 pub returns-then-depth-j : goal.returns-then-depth-j
 returns-then-depth-j c =
     let a = c.args in
@@ -50,7 +45,6 @@ returns-then-depth-j c =
     let g = o.invariant in
     (U.rising-found a.depth.now g c.if-depth-j.true, omega (arith, g.below))
 
--- src/lib.rt:251:26
 pub offset_bounds-parents-j : goal.offset_bounds-parents-j
 offset_bounds-parents-j c =
     let a = c.args in
@@ -59,7 +53,6 @@ offset_bounds-parents-j c =
     let g = o.invariant in
     omega (arith, g.below, p.2)
 
--- src/lib.rt:251:26
 pub bounds-parents-j : goal.bounds-parents-j
 bounds-parents-j c =
     let a = c.args in
@@ -68,20 +61,18 @@ bounds-parents-j c =
     let g = o.invariant in
     omega (arith, g.below, p.2)
 
--- src/lib.rt:244:5
 pub loop-j-smaller : goal.loop-j-smaller
 loop-j-smaller c =
     let a = c.args in
     let p = c.requires in
     let o = c.loop-j in
     let g = o.invariant in
-    (U.rising-up a.depth.now g c.if-j-eq0.false c.if-depth-j.false p.0 c.wide-j.ensures.0).0
+    (U.rising-up a.depth.now g c.if-j-eq0.false c.if-depth-j.false p.0 refl).0
 
--- src/lib.rt:244:5
 pub loop-j-preserved : goal.loop-j-preserved
 loop-j-preserved c =
     let a = c.args in
     let p = c.requires in
     let o = c.loop-j in
     let g = o.invariant in
-    (U.rising-up a.depth.now g c.if-j-eq0.false c.if-depth-j.false p.0 c.wide-j.ensures.0).1
+    (U.rising-up a.depth.now g c.if-j-eq0.false c.if-depth-j.false p.0 refl).1

@@ -1,19 +1,16 @@
 use Rattle.descriptor_columns.proofs.Upward as U
 use Rattle.descriptor_columns.proofs.parents.Goals as goal
 
--- src/lib.rt:327:9
 pub returns-then-rows-gt4294967295 : goal.returns-then-rows-gt4294967295
 returns-then-rows-gt4294967295 c =
     let a = c.args in
     U.too_many a.depth.now a.parents.now c.if-rows-gt4294967295.true
 
--- src/lib.rt:333:9
 pub returns-then-parents-rows : goal.returns-then-parents-rows
 returns-then-parents-rows c =
     let a = c.args in
     U.too_short a.depth.now a.parents.now c.if-rows-gt4294967295.false c.if-parents-rows.true
 
--- src/lib.rt:322:1
 pub returns : goal.returns
 returns c =
     let a = c.args in

@@ -1,16 +1,16 @@
-use mathlib.Core.Path.{sym, ap, ◌∙◌}
+use mathlib.Core.Path.{sym, ◌∙◌}
 use mathlib.Core.List.{[], ◌∷◌}
 use Rattle.descriptor_judge.specs.Answer.{told}
+use Rattle.descriptor_judge.proofs.Whole.{handed}
 use Rattle.descriptor_columns.proofs.Reading as R
 use Rattle.descriptor_columns.proofs.Room as M
 use Rattle.descriptor_columns.proofs.read.Goals as goal
 
--- src/lib.rt:286:17
 pub fill_all-requires : goal.fill_all-requires
 fill_all-requires c =
     let a = c.args in
-    let r = R.accepts a.file.now _ (sym (ap told c.in-Accepted.is) ∙ c.judge.ensures) in
-    let f = sym c.if-is_room.true ∙ c.is_room.ensures in
+    let r = R.accepts a.file.now _ c.in_ok-rows.ensures in
+    let f = sym c.if-not-is_room.false ∙ c.is_room.ensures in
     let f1 = M.room-inv _ a.first.now (a.size.now ∷ a.next.now ∷ a.depth.now ∷ a.kind.now ∷ []) f in
     let f2 = M.room-inv _ a.size.now (a.next.now ∷ a.depth.now ∷ a.kind.now ∷ []) f1.1 in
     let f3 = M.room-inv _ a.next.now (a.depth.now ∷ a.kind.now ∷ []) f2.1 in
@@ -18,12 +18,11 @@ fill_all-requires c =
     let f5 = M.room-inv _ a.kind.now [] f4.1 in
     (r, f1.0, f2.0, f3.0, f4.0, f5.0)
 
--- src/lib.rt:287:17
-pub returns-then-is_room : goal.returns-then-is_room
-returns-then-is_room c =
+pub returns : goal.returns
+returns c =
     let a = c.args in
-    let r = R.accepts a.file.now _ (sym (ap told c.in-Accepted.is) ∙ c.judge.ensures) in
-    let f = sym c.if-is_room.true ∙ c.is_room.ensures in
+    let r = R.accepts a.file.now _ c.in_ok-rows.ensures in
+    let f = sym c.if-not-is_room.false ∙ c.is_room.ensures in
     let f1 = M.room-inv _ a.first.now (a.size.now ∷ a.next.now ∷ a.depth.now ∷ a.kind.now ∷ []) f in
     let f2 = M.room-inv _ a.size.now (a.next.now ∷ a.depth.now ∷ a.kind.now ∷ []) f1.1 in
     let f3 = M.room-inv _ a.next.now (a.depth.now ∷ a.kind.now ∷ []) f2.1 in
@@ -31,14 +30,13 @@ returns-then-is_room c =
     let f5 = M.room-inv _ a.kind.now [] f4.1 in
     R.enough a.file.now _ r f f1.0 f2.0 f3.0 f4.0 f5.0 c.fill_all.ensures
 
--- src/lib.rt:272:1
-pub returns-in-Refused : goal.returns-in-Refused
-returns-in-Refused c =
+pub returns-in_err-rows : goal.returns-in_err-rows
+returns-in_err-rows c =
     let a = c.args in
-    R.refuses a.file.now _ _ (sym (ap told c.in-Refused.is) ∙ c.judge.ensures)
+    let h = R.refuses a.file.now _ _ c.in_err-rows.ensures in
+    (handed told _ _ c.from_residual.ensures.1 h.0, h.1)
 
--- src/lib.rt:272:1
-pub returns-else-is_room : goal.returns-else-is_room
-returns-else-is_room c =
+pub returns-then-not-is_room : goal.returns-then-not-is_room
+returns-then-not-is_room c =
     let a = c.args in
-    R.short a.file.now _ (R.accepts a.file.now _ (sym (ap told c.in-Accepted.is) ∙ c.judge.ensures)) (sym c.if-is_room.false ∙ c.is_room.ensures)
+    R.short a.file.now _ (R.accepts a.file.now _ c.in_ok-rows.ensures) (sym c.if-not-is_room.true ∙ c.is_room.ensures)
