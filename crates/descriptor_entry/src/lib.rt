@@ -5,12 +5,12 @@
 // its bytes in the lent text.
 #![tactic(auto)]
 
-// How many numbers an entry has.
+/// How many numbers an entry has.
 pub const WIDTH: usize = 16;
 
-// A field of a head, by the number of the entry that it takes: a word as it is, a unit, one of object
-// arrays, a `bool`, 64 bits, a double, an ID, a Unicode string, a run of bytes, doubles.
-#[derive(Clone, Copy)]
+/// A field of a head, by the number of the entry that it takes: a word as it is, a unit, one of object
+/// arrays, a `bool`, 64 bits, a double, an ID, a Unicode string, a run of bytes, doubles.
+#[derive(Clone, Copy, Debug, PartialEq, Eq)]
 pub enum Field {
     Nothing,
     Word(usize),
@@ -25,9 +25,9 @@ pub enum Field {
     Doubles(usize),
 }
 
-// The fields behind a kind, in their order; whether the kind is known, whether its row has children,
-// and what they are: 0 items, 1 pairs, 2 reference items, 3 the pairs of an object array.
-#[derive(Clone, Copy)]
+/// The fields behind a kind, in their order; whether the kind is known, whether its row has children,
+/// and what they are: 0 items, 1 pairs, 2 reference items, 3 the pairs of an object array.
+#[derive(Clone, Copy, Debug, PartialEq, Eq)]
 pub struct Shape {
     pub known: bool,
     pub first: Field,

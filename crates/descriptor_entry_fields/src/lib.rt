@@ -9,8 +9,9 @@ ghost use Rattle.descriptor_entry.specs.Entries.{keyed};
 ghost use Rattle.descriptor_entry.specs.declared.Field.TheVariants as fs;
 
 use descriptor::{
-    ALIAS, ARRAY, BOOL, CLASS, COLUMN, COMP, DOUBLE, ENUMERATED, GLOBAL_CLASS, GLOBAL_OBJECT, LIST,
-    LONG, OBJECT, PATH, RAW, REFERENCE, TEXT, UNIT_DOUBLE,
+    ALIAS, ARRAY, BOOL, CLASS, COLUMN, COMP, DOUBLE, ENUMERATED, FORM_CLASS, FORM_ENUMERATED,
+    FORM_IDENTIFIER, FORM_INDEX, FORM_NAME, FORM_OFFSET, FORM_PROPERTY, GLOBAL_CLASS,
+    GLOBAL_OBJECT, LIST, LONG, OBJECT, PATH, RAW, REFERENCE, TEXT, UNIT_DOUBLE,
 };
 use descriptor_entry::{Field, Shape};
 
@@ -18,10 +19,7 @@ use descriptor_entry::{Field, Shape};
 pub fn number_in(row: &[u32], i: usize) -> u32
     ensures { result ≡ number_in row.now i }
 {
-    if i < row.len() {
-        return row[i];
-    }
-    0
+    row.get(i).copied().unwrap_or(0)
 }
 
 // The number behind number i of an entry: where the bytes of its length or count lie.
@@ -29,7 +27,7 @@ pub fn place_in(row: &[u32], i: usize) -> usize
     ensures { (result ≡ number_in row.now (i + 1)) × (result < 4294967296) }
 {
     if i < row.len() {
-        return fields::wide(number_in(row, i + 1));
+        return number_in(row, i + 1) as usize;
     }
     0
 }
@@ -38,26 +36,8 @@ pub fn place_in(row: &[u32], i: usize) -> usize
 pub fn id_length(n: u32) -> usize
     ensures { (result ≡ id_length n) × (result < 4294967296) }
 {
-    if n == 0 {
-        return 4;
-    }
-    fields::wide(n)
+    if n == 0 { 4 } else { n as usize }
 }
-
-// The forms of a reference item: `Clss`, `Enmr`, `prop`, `name`, `Idnt`, `indx`, `rele`.
-const FORM_CLASS: u32 = 0x436c_7373;
-
-const FORM_ENUMERATED: u32 = 0x456e_6d72;
-
-const FORM_PROPERTY: u32 = 0x7072_6f70;
-
-const FORM_NAME: u32 = 0x6e61_6d65;
-
-const FORM_IDENTIFIER: u32 = 0x4964_6e74;
-
-const FORM_INDEX: u32 = 0x696e_6478;
-
-const FORM_OFFSET: u32 = 0x7265_6c65;
 
 // ---- the fields of each kind
 
@@ -233,18 +213,12 @@ pub fn root_shape() -> Shape
 pub fn is_keyed(what: u32) -> bool
     ensures { result ≡ keyed (due_of what 0) }
 {
-    if what == 1 {
-        return true;
-    }
-    2 < what
+    what == 1 || 2 < what
 }
 
 // How many members an entry wants.
 pub fn members_in(row: &[u32], shape: Shape) -> u32
     ensures { result ≡ pick shape.holds (count_of row.now) 0 }
 {
-    if shape.holds {
-        return number_in(row, 14);
-    }
-    0
+    if shape.holds { number_in(row, 14) } else { 0 }
 }

@@ -10,6 +10,8 @@ use Rattle.algebra.specs.Chars.{chars}
 use Rattle.algebra.specs.Reader.{pick, limit}
 use Rattle.algebra.specs.Faults.{first_of, faults}
 use Rattle.algebra.proofs.Tells.{first-none, first_some}
+use Rattle.std.specs.Prelude.{Result}
+use Rattle.fault.specs.declared.Fault.{Fault}
 use Rattle.descriptor_heads.specs.Heads.{Due}
 use Rattle.descriptor_raw.specs.Raw.{due_of}
 use Rattle.descriptor_entry.specs.declared.Field.{Field}
@@ -21,7 +23,7 @@ use Rattle.descriptor_entry.specs.Entries.{key_pieces, objects_due, field_pieces
 use Rattle.descriptor_entry.proofs.Laws.{size-append, faults-append}
 use Rattle.descriptor_entry_fields.proofs.Tables.{any-shape}
 use Rattle.descriptor_entry_judge.specs.declared.Judged.{Judged}
-use Rattle.descriptor_entry_judge.specs.Judging.{Judges}
+use Rattle.descriptor_entry_judge.specs.Judging.{told_fault, Judges}
 use Rattle.descriptor_entry_judge.specs.scaffold.Parts.{Sized, FourSized, head_fault}
 
 -- what is found of the head of an entry e, where such a member is due
@@ -84,10 +86,10 @@ head-faults text c e =
     let n : Piece = number 4 (kind_of e) (pick (shape_of c (kind_of e)).known 0 4) in
     faults-append (fault_of text) (key_pieces c e) (n ∷ ps)
 
-pub judges-head : (text : List ℕ) (e : Entry) (what m kind : ℕ) (sh : Shape) (ks fs n a x z : ℕ) → kind ≡ number_in e 0 → sh ≡ shape_of (due_of what 0) kind
+pub judges-head : (text : List ℕ) (e : Entry) (what m kind : ℕ) (sh : Shape) (ks fs n a : ℕ) (x : Result Unit Fault) (z : ℕ) → kind ≡ number_in e 0 → sh ≡ shape_of (due_of what 0) kind
     → Sized (size (key_pieces (due_of what 0) e)) ks → FourSized (size (field_pieces 0 sh e)) fs → n ≡ pick sh.holds (count_of e) 0 → a ≡ number_in e 15 → z ≡ ks + 4 + fs
-    → (z ≤ limit → x ≡ head_fault text e (due_of what 0) (objects_due (due_of what m)) sh)
-    → Judges text (head_pieces (due_of what m) e) (asks (shape_of (due_of what m) (kind_of e)) 0 0 0 e) (record { size = z; fault = x; what = sh.what; objects = a; count = n })
+    → (z ≤ limit → told_fault x ≡ head_fault text e (due_of what 0) (objects_due (due_of what m)) sh)
+    → Judges text (head_pieces (due_of what m) e) (asks (shape_of (due_of what m) (kind_of e)) 0 0 0 e) (record { size = z; sound = x; what = sh.what; objects = a; count = n })
 judges-head text e what m kind sh ks fs n a x z k i hk hf hn ha hz hx =
     let c : Due = due_of what m in
     let own : sh ≡ shape_of c (kind_of e) = i ∙ ap (shape_of (due_of what 0)) k ∙ sym (any-shape what m (kind_of e)) in
@@ -130,9 +132,9 @@ due-none (suc (suc (suc n))) m h = absurd (omega arith)
 
 -- ---- the root's
 
-pub judges-root : (text : List ℕ) (e : Entry) (sh : Shape) (fs n a x z : ℕ) → sh ≡ object → FourSized (size (field_pieces 0 sh e)) fs → n ≡ number_in e 14 → a ≡ number_in e 15 → z ≡ 4 + fs
-    → (z ≤ limit → x ≡ first_of (pick (eqb (kind_of e) (chars "Objc")) 0 4) (fault text (field_pieces 0 sh e)))
-    → Judges text (root_pieces e) (asks object 0 0 0 e) (record { size = z; fault = x; what = 1; objects = a; count = n })
+pub judges-root : (text : List ℕ) (e : Entry) (sh : Shape) (fs n a : ℕ) (x : Result Unit Fault) (z : ℕ) → sh ≡ object → FourSized (size (field_pieces 0 sh e)) fs → n ≡ number_in e 14 → a ≡ number_in e 15 → z ≡ 4 + fs
+    → (z ≤ limit → told_fault x ≡ first_of (pick (eqb (kind_of e) (chars "Objc")) 0 4) (fault text (field_pieces 0 sh e)))
+    → Judges text (root_pieces e) (asks object 0 0 0 e) (record { size = z; sound = x; what = 1; objects = a; count = n })
 unfolding root_pieces size faults
 judges-root text e sh fs n a x z i hf hn ha hz hx =
     let s : size (field_pieces 0 sh e) ≡ size (field_pieces 0 object e) = ap (λ (y : Shape). size (field_pieces 0 y e)) i in

@@ -15,6 +15,12 @@ use Rattle.algebra.specs.Faults.{first_of, faults}
 use Rattle.algebra.proofs.Floats.{finite-bits}
 use Rattle.algebra.proofs.Laws.{field_in, body-in}
 use Rattle.algebra.proofs.Tells.{first-none, first_some, first-zero}
+use Rattle.std.specs.Prelude.{Result}
+use Rattle.std.specs.Result.{IsErrAnd}
+use Rattle.std.proofs.lemmas.Result.{err_from_is_err_and}
+use Rattle.fault.specs.Fault as N
+use Rattle.fault.specs.declared.Fault.{Fault}
+use Rattle.fault.specs.declared.Fault.TheVariants as vf
 use Rattle.descriptor.specs.Reading.{shut, double, is_unit, is_array_unit}
 use Rattle.descriptor.proofs.Fields.{shut-nums}
 use Rattle.descriptor_raw.specs.Raw.{due_of}
@@ -26,7 +32,31 @@ use Rattle.descriptor_entry.specs.Shapes.{Entry, number_in, id_length, pieces_of
 use Rattle.descriptor_entry.specs.Entries.{keyed, key_pieces, field_pieces}
 use Rattle.descriptor_entry.proofs.Laws.{size-append, faults-append}
 use Rattle.descriptor_entry_fields.proofs.Tables.{key-pieces, no_key}
+use Rattle.descriptor_entry_judge.specs.Judging.{told_fault}
 use Rattle.descriptor_entry_judge.specs.scaffold.Parts.{Sized, FourSized}
+
+-- ---- faults by their numbers
+
+-- no fault has the number 0
+pub numbered : (f : Fault) → N.number_of f ≡ 0 → ⊥
+numbered vf.TooLong e = omega arith
+numbered vf.Short e = omega arith
+numbered vf.WrongTag e = omega arith
+numbered vf.Unknown e = omega arith
+numbered vf.OutOfRange e = omega arith
+numbered vf.LeftOver e = omega arith
+numbered vf.ListsDiffer e = omega arith
+numbered vf.BadlyClosed e = omega arith
+numbered vf.Unbalanced e = omega arith
+numbered vf.TooDeep e = omega arith
+numbered vf.NoRoom e = omega arith
+numbered vf.NoRecord e = omega arith
+numbered vf.WrongLength e = omega arith
+numbered vf.NoCounterpart e = omega arith
+
+-- what is told where a `?` hands a fault on
+pub fault-exit : (r : Result Unit Fault) (f : Fault) {m : ℕ} → IsErrAnd r (λ y. y ≡ f) → N.number_of f ≡ m → told_fault r ≡ m
+fault-exit r f h e = let p = err_from_is_err_and r h in rw (p.1, p.2) e
 
 -- ---- sizes
 

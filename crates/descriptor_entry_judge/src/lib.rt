@@ -13,20 +13,20 @@ ghost use Rattle.descriptor_raw.specs.Raw.{due_of};
 ghost use Rattle.descriptor_entry.specs.Pieces.{units, size, fault, fault_of};
 ghost use Rattle.descriptor_entry.specs.Shapes.{kind_of, pieces_of, object, shape_of};
 ghost use Rattle.descriptor_entry.specs.Entries.{key_pieces, objects_due, field_pieces, head_pieces, root_pieces, asks};
-ghost use Rattle.descriptor_entry_judge.specs.Judging.{Judges};
+ghost use Rattle.descriptor_entry_judge.specs.Judging.{told_fault, Judges};
 ghost use Rattle.descriptor_entry_judge.specs.scaffold.Parts.{Sized, FourSized, head_fault};
 
 use descriptor_entry::{Field, Shape};
 use descriptor_entry_fields::{is_keyed, members_in, number_in, place_in};
 use descriptor_judge::LIMIT;
-use fields::FieldEnd;
+use fault::{Fault, Refusal};
 
-// What is found of one head: how many bytes it takes, its first fault, what its row's children are,
-// with the number of objects, and how many.
-#[derive(Drop)]
+/// What is found of one head: how many bytes it takes, its first fault, what its row's children are,
+/// with the number of objects, and how many.
+#[derive(Clone, Copy, Debug, PartialEq, Eq)]
 pub struct Judged {
     pub size: usize,
-    pub fault: u32,
+    pub sound: Result<(), Fault>,
     pub what: u32,
     pub objects: u32,
     pub count: u32,
@@ -47,9 +47,9 @@ fn some_size(row: &[u32], field: Field) -> usize
         Field::Wide => 8,
         Field::Double => 8,
         Field::Id(i) => 4 + descriptor_entry_fields::id_length(number_in(row, i)),
-        Field::Text(i) => 4 + 2 * fields::wide(number_in(row, i)),
-        Field::Run(i) => 4 + fields::wide(number_in(row, i)),
-        Field::Doubles(i) => 4 + 8 * fields::wide(number_in(row, i)),
+        Field::Text(i) => 4 + 2 * number_in(row, i) as usize,
+        Field::Run(i) => 4 + number_in(row, i) as usize,
+        Field::Doubles(i) => 4 + 8 * number_in(row, i) as usize,
     }
 }
 
@@ -67,14 +67,10 @@ fn field_size(row: &[u32], field: Field) -> usize
 fn fields_size(row: &[u32], shape: Shape) -> usize
     ensures { FourSized (size (field_pieces 0 shape row.now)) result }
 {
-    let first = shape.first;
-    let second = shape.second;
-    let third = shape.third;
-    let fourth = shape.fourth;
-    field_size(row, first)
-        + field_size(row, second)
-        + field_size(row, third)
-        + field_size(row, fourth)
+    field_size(row, shape.first)
+        + field_size(row, shape.second)
+        + field_size(row, shape.third)
+        + field_size(row, shape.fourth)
 }
 
 // How many bytes a key takes, where a pair is due.
@@ -90,171 +86,137 @@ fn key_size(row: &[u32], what: u32) -> usize
 // ---- judging single fields
 
 // The fault of a part of the text.
-fn run_fault(text: &[u8], first: usize, n: usize) -> u32
-    ensures { result ≡ number_of (body 1 n text.now first) }
+fn run_fault(text: &[u8], first: usize, n: usize) -> Result<(), Fault>
+    ensures { told_fault result ≡ number_of (body 1 n text.now first) }
 {
     match fields::run_at(text, first, n) {
-        FieldEnd::Next(_) => 0,
-        FieldEnd::Refused(x, _) => x,
+        Ok(_) => Ok(()),
+        Err(Refusal(fault, _)) => Err(fault),
     }
 }
 
 // The fault of n units, of which only the last is looked at.
-fn units_fault(text: &[u8], first: usize, n: usize) -> u32
+fn units_fault(text: &[u8], first: usize, n: usize) -> Result<(), Fault>
     requires { (first < 4294967296) × (n < 4294967296) }
-    ensures { result ≡ fault_of text.now (units first n) }
+    ensures { told_fault result ≡ fault_of text.now (units first n) }
 {
     if n == 0 {
-        return 0;
+        return Ok(());
     }
-    let x = run_fault(text, first, 2 * n);
-    if x != 0 {
-        return x;
+    run_fault(text, first, 2 * n)?;
+    if fields::number_or_zero::<u16>(text, first + 2 * n - 2) != 0 {
+        return Err(Fault::BadlyClosed);
     }
-    if fields::u16_or_zero(text, first + 2 * n - 2) != 0 {
-        return 8;
-    }
-    0
+    Ok(())
 }
 
 // The first fault of n doubles.
-fn doubles_fault(text: &[u8], first: usize, n: usize) -> u32
-    ensures { result ≡ number_of (each n 0 (λ i. double) text.now first) }
+fn doubles_fault(text: &[u8], first: usize, n: usize) -> Result<(), Fault>
+    ensures { told_fault result ≡ number_of (each n 0 (λ i. double) text.now first) }
 {
     let mut p = first;
-    let mut i: usize = 0;
-    while i < n {
+    for i in 0..n {
         match descriptor_fields::double_at(text, p) {
-            FieldEnd::Refused(x, _) => {
-                return x;
-            }
-            FieldEnd::Next(next) => {
+            Ok(next) => {
                 p = next;
             }
+            Err(Refusal(fault, _)) => {
+                return Err(fault);
+            }
         }
-        i += 1;
     }
-    0
+    Ok(())
 }
 
 // The same behind their count, which is the number of objects.
-fn column_fault(text: &[u8], objects: u32, n: u32, first: usize) -> u32
-    ensures { result ≡ first_of (pick (eqb n objects) 0 5) (number_of (each n 0 (λ i. double) text.now first)) }
+fn column_fault(text: &[u8], objects: u32, n: u32, first: usize) -> Result<(), Fault>
+    ensures { told_fault result ≡ first_of (pick (eqb n objects) 0 5) (number_of (each n 0 (λ i. double) text.now first)) }
 {
     if n == objects {
-        return doubles_fault(text, first, fields::wide(n));
+        return doubles_fault(text, first, n as usize);
     }
-    5
+    Err(Fault::OutOfRange)
 }
 
-fn unit_fault(tag: u32) -> u32
-    ensures { result ≡ pick (is_unit tag) 0 4 }
+fn unit_fault(tag: u32) -> Result<(), Fault>
+    ensures { told_fault result ≡ pick (is_unit tag) 0 4 }
 {
     if descriptor_fields::is_unit(tag) {
-        return 0;
+        return Ok(());
     }
-    4
+    Err(Fault::Unknown)
 }
 
-fn array_unit_fault(tag: u32) -> u32
-    ensures { result ≡ pick (is_array_unit tag) 0 4 }
+fn array_unit_fault(tag: u32) -> Result<(), Fault>
+    ensures { told_fault result ≡ pick (is_array_unit tag) 0 4 }
 {
     if descriptor_fields::is_array_unit(tag) {
-        return 0;
+        return Ok(());
     }
-    4
+    Err(Fault::Unknown)
 }
 
-fn flag_fault(value: u32) -> u32
-    ensures { result ≡ pick (leb value 1) 0 5 }
+fn flag_fault(value: u32) -> Result<(), Fault>
+    ensures { told_fault result ≡ pick (leb value 1) 0 5 }
 {
     if value <= 1 {
-        return 0;
+        return Ok(());
     }
-    5
+    Err(Fault::OutOfRange)
 }
 
 // The fault of a double by its high and low 32 bits.
-fn double_fault(high: u32, low: u32) -> u32
-    ensures { result ≡ pick (finite (of_bits binary64 (high * 4294967296 + low))) 0 5 }
+fn double_fault(high: u32, low: u32) -> Result<(), Fault>
+    ensures { told_fault result ≡ pick (finite (of_bits binary64 (high * 4294967296 + low))) 0 5 }
 {
-    let bits = wide64(high) * 4294967296 + wide64(low);
+    let bits = u64::from(high) * 4294967296 + u64::from(low);
     if bits % 0x8000_0000_0000_0000 < 0x7ff0_0000_0000_0000 {
-        return 0;
+        return Ok(());
     }
-    5
-}
-
-fn wide64(x: u32) -> u64
-    ensures { (result ≡ x) × (result < 4294967296) }
-{
-    x as u64
+    Err(Fault::OutOfRange)
 }
 
 // The fault of a field, in an object array of so many objects.
-fn some_fault(text: &[u8], row: &[u32], objects: u32, field: Field) -> u32
-    ensures { result ≡ fault text.now (pieces_of objects row.now field) }
+fn field_fault(text: &[u8], row: &[u32], objects: u32, field: Field) -> Result<(), Fault>
+    ensures { told_fault result ≡ fault text.now (pieces_of objects row.now field) }
 {
     match field {
-        Field::Nothing => 0,
-        Field::Word(_) => 0,
+        Field::Nothing => Ok(()),
+        Field::Word(_) => Ok(()),
         Field::Measure => unit_fault(number_in(row, 11)),
         Field::ArrayMeasure => array_unit_fault(number_in(row, 11)),
         Field::Flag => flag_fault(number_in(row, 13)),
-        Field::Wide => 0,
+        Field::Wide => Ok(()),
         Field::Double => double_fault(number_in(row, 12), number_in(row, 13)),
         Field::Id(i) => run_fault(
             text,
             place_in(row, i),
             descriptor_entry_fields::id_length(number_in(row, i)),
         ),
-        Field::Text(i) => units_fault(text, place_in(row, i), fields::wide(number_in(row, i))),
-        Field::Run(i) => run_fault(text, place_in(row, i), fields::wide(number_in(row, i))),
+        Field::Text(i) => units_fault(text, place_in(row, i), number_in(row, i) as usize),
+        Field::Run(i) => run_fault(text, place_in(row, i), number_in(row, i) as usize),
         Field::Doubles(i) => column_fault(text, objects, number_in(row, i), place_in(row, i)),
     }
 }
 
-// The same, with no call where there is no field.
-fn field_fault(text: &[u8], row: &[u32], objects: u32, field: Field) -> u32
-    ensures { result ≡ fault text.now (pieces_of objects row.now field) }
-{
-    match field {
-        Field::Nothing => 0,
-        _ => some_fault(text, row, objects, field),
-    }
-}
-
 // The first fault of the fields behind a kind.
-fn fields_fault(text: &[u8], row: &[u32], objects: u32, shape: Shape) -> u32
-    ensures { result ≡ fault text.now (field_pieces objects shape row.now) }
+fn fields_fault(text: &[u8], row: &[u32], objects: u32, shape: Shape) -> Result<(), Fault>
+    ensures { told_fault result ≡ fault text.now (field_pieces objects shape row.now) }
 {
-    let first = shape.first;
-    let second = shape.second;
-    let third = shape.third;
-    let fourth = shape.fourth;
-    let x = field_fault(text, row, objects, first);
-    if x != 0 {
-        return x;
-    }
-    let y = field_fault(text, row, objects, second);
-    if y != 0 {
-        return y;
-    }
-    let z = field_fault(text, row, objects, third);
-    if z != 0 {
-        return z;
-    }
-    field_fault(text, row, objects, fourth)
+    field_fault(text, row, objects, shape.first)?;
+    field_fault(text, row, objects, shape.second)?;
+    field_fault(text, row, objects, shape.third)?;
+    field_fault(text, row, objects, shape.fourth)
 }
 
 // The fault of a key, where a pair is due.
-fn key_fault(text: &[u8], row: &[u32], what: u32) -> u32
-    ensures { result ≡ fault text.now (key_pieces (due_of what 0) row.now) }
+fn key_fault(text: &[u8], row: &[u32], what: u32) -> Result<(), Fault>
+    ensures { told_fault result ≡ fault text.now (key_pieces (due_of what 0) row.now) }
 {
     if is_keyed(what) {
         return field_fault(text, row, 0, Field::Id(1));
     }
-    0
+    Ok(())
 }
 
 // ---- judging a head
@@ -263,24 +225,18 @@ fn key_fault(text: &[u8], row: &[u32], what: u32) -> u32
 fn objects_due(what: u32, objects: u32) -> u32
     ensures { result ≡ objects_due (due_of what objects) }
 {
-    if 2 < what {
-        return objects;
-    }
-    0
+    if 2 < what { objects } else { 0 }
 }
 
 // The fault of a head: of its key, then of its kind, then of its fields.
-fn head_fault(text: &[u8], row: &[u32], what: u32, objects: u32, shape: Shape) -> u32
-    ensures { result ≡ head_fault text.now row.now (due_of what 0) (objects_due (due_of what objects)) shape }
+fn head_fault(text: &[u8], row: &[u32], what: u32, objects: u32, shape: Shape) -> Result<(), Fault>
+    ensures { told_fault result ≡ head_fault text.now row.now (due_of what 0) (objects_due (due_of what objects)) shape }
 {
-    let x = key_fault(text, row, what);
-    if x != 0 {
-        return x;
-    }
+    key_fault(text, row, what)?;
     if shape.known {
         return fields_fault(text, row, objects_due(what, objects), shape);
     }
-    4
+    Err(Fault::Unknown)
 }
 
 // A member's head. One that is over the limit by itself is not judged further.
@@ -295,16 +251,16 @@ pub fn judge_head(row: &[u32], text: &[u8], what: u32, objects: u32) -> Judged
     if LIMIT < size {
         return Judged {
             size,
-            fault: 0,
+            sound: Ok(()),
             what: below,
             objects: arity,
             count,
         };
     }
-    let fault = head_fault(text, row, what, objects, shape);
+    let sound = head_fault(text, row, what, objects, shape);
     Judged {
         size,
-        fault,
+        sound,
         what: below,
         objects: arity,
         count,
@@ -312,13 +268,13 @@ pub fn judge_head(row: &[u32], text: &[u8], what: u32, objects: u32) -> Judged
 }
 
 // The root's fault: of its kind, then of its fields.
-fn root_fault(text: &[u8], row: &[u32], shape: Shape) -> u32
-    ensures { result ≡ first_of (pick (eqb (kind_of row.now) (chars "Objc")) 0 4) (fault text.now (field_pieces 0 shape row.now)) }
+fn root_fault(text: &[u8], row: &[u32], shape: Shape) -> Result<(), Fault>
+    ensures { told_fault result ≡ first_of (pick (eqb (kind_of row.now) (chars "Objc")) 0 4) (fault text.now (field_pieces 0 shape row.now)) }
 {
     if number_in(row, 0) == descriptor::OBJECT {
         return fields_fault(text, row, 0, shape);
     }
-    4
+    Err(Fault::Unknown)
 }
 
 // The root's head.
@@ -332,16 +288,16 @@ pub fn judge_root(row: &[u32], text: &[u8]) -> Judged
     if LIMIT < size {
         return Judged {
             size,
-            fault: 0,
+            sound: Ok(()),
             what: 1,
             objects: arity,
             count,
         };
     }
-    let fault = root_fault(text, row, shape);
+    let sound = root_fault(text, row, shape);
     Judged {
         size,
-        fault,
+        sound,
         what: 1,
         objects: arity,
         count,

@@ -11,4 +11,4 @@ returns-then-size-gt-LIMIT c =
 pub returns : goal.returns
 returns c =
     let a = c.args in
-    H.judges-head a.text.now a.row.now a.what a.objects _ _ _ _ _ _ _ _ c.number_in.ensures c.shape_of-shape.ensures c.key_size.ensures c.fields_size.ensures c.members_in-count.ensures c.number_in-arity.ensures refl (λ h. c.head_fault-fault.ensures)
+    H.judges-head a.text.now a.row.now a.what a.objects _ _ _ _ _ _ _ _ c.number_in.ensures c.shape_of-shape.ensures c.key_size.ensures c.fields_size.ensures c.members_in-count.ensures c.number_in-arity.ensures refl (λ h. c.head_fault-sound.ensures)

@@ -11,4 +11,4 @@ returns-then-size-gt-LIMIT c =
 pub returns : goal.returns
 returns c =
     let a = c.args in
-    H.judges-root a.text.now a.row.now _ _ _ _ _ _ c.root_shape-shape.ensures c.fields_size-size.ensures c.number_in-count.ensures c.number_in-arity.ensures refl (λ h. c.root_fault-fault.ensures)
+    H.judges-root a.text.now a.row.now _ _ _ _ _ _ c.root_shape-shape.ensures c.fields_size-size.ensures c.number_in-count.ensures c.number_in-arity.ensures refl (λ h. c.root_fault-sound.ensures)

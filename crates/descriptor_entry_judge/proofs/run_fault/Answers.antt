@@ -1,15 +1,14 @@
-use mathlib.Core.Path.{sym, ap, ◌∙◌}
-use Rattle.descriptor_entry_judge.proofs.Judging as J
+use mathlib.Core.Path.{ap, ◌∙◌}
 use Rattle.algebra.specs.Reader.{body, number_of}
-use Rattle.fields.specs.Answer.{told_field_end}
+use Rattle.descriptor_entry_judge.proofs.Judging as J
 use Rattle.descriptor_entry_judge.proofs.run_fault.Goals as goal
 
-pub returns-in-Next : goal.returns-in-Next
-returns-in-Next c =
+pub returns-in-Ok : goal.returns-in-Ok
+returns-in-Ok c =
     let a = c.args in
-    ap number_of (sym (ap told_field_end c.in-Next.is) ∙ c.run_at.ensures) ∙ J.done-number (body 1 a.n a.text.now a.first)
+    ap number_of c.in-Ok.ensures ∙ J.done-number (body 1 a.n a.text.now a.first)
 
-pub returns-in-Refused : goal.returns-in-Refused
-returns-in-Refused c =
+pub returns-in-Err : goal.returns-in-Err
+returns-in-Err c =
     let a = c.args in
-    ap number_of (sym (ap told_field_end c.in-Refused.is) ∙ c.run_at.ensures) ∙ J.done-number (body 1 a.n a.text.now a.first)
+    ap number_of c.in-Err.ensures ∙ J.done-number (body 1 a.n a.text.now a.first)

@@ -1,4 +1,4 @@
-use mathlib.Core.Path.{refl, ◌∙◌}
+use mathlib.Core.Path.{refl}
 use native.Mathlib.Omega.{arith}
 use Rattle.descriptor_entry_judge.proofs.Judging as J
 use Rattle.descriptor_entry.specs.declared.Field.TheVariants as f
@@ -47,14 +47,14 @@ returns-in-Id c =
 pub returns-in-Text : goal.returns-in-Text
 returns-in-Text c =
     let a = c.args in
-    J.sized a.row.now a.field (f.Text _) c.in-Text.is _ (J.size-text a.row.now _ _ _ (c.wide.ensures.0 ∙ c.number_in-in-Text.ensures) refl) (omega (arith, c.wide.ensures.1))
+    J.sized a.row.now a.field (f.Text _) c.in-Text.is _ (J.size-text a.row.now _ _ _ c.number_in-in-Text.ensures refl) (omega arith)
 
 pub returns-in-Run : goal.returns-in-Run
 returns-in-Run c =
     let a = c.args in
-    J.sized a.row.now a.field (f.Run _) c.in-Run.is _ (J.size-run a.row.now _ _ _ (c.wide-in-Run.ensures.0 ∙ c.number_in-in-Run.ensures) refl) (omega (arith, c.wide-in-Run.ensures.1))
+    J.sized a.row.now a.field (f.Run _) c.in-Run.is _ (J.size-run a.row.now _ _ _ c.number_in-in-Run.ensures refl) (omega arith)
 
 pub returns-in-Doubles : goal.returns-in-Doubles
 returns-in-Doubles c =
     let a = c.args in
-    J.sized a.row.now a.field (f.Doubles _) c.in-Doubles.is _ (J.size-doubles a.row.now _ _ _ (c.wide-in-Doubles.ensures.0 ∙ c.number_in-in-Doubles.ensures) refl) (omega (arith, c.wide-in-Doubles.ensures.1))
+    J.sized a.row.now a.field (f.Doubles _) c.in-Doubles.is _ (J.size-doubles a.row.now _ _ _ c.number_in-in-Doubles.ensures refl) (omega arith)
