@@ -12,9 +12,21 @@ use Rattle.algebra.proofs.Laws.{done-refuse, judged-short, judged-bad, judged-ok
 use Rattle.colour.specs.declared.space.Colour.{Colour}
 use Rattle.aco.specs.Reading.{most, colour, heading, field_of, repeated_field}
 use Rattle.aco.specs.scaffold.Raw.{headed}
-use Rattle.aco_judge.proofs.Judging.{heading-refused, heading-is}
+use Rattle.std.specs.Prelude.{Result}
+use Rattle.std.specs.Result.{IsErrAnd}
+use Rattle.fault.specs.Fault.{number_of}
+use Rattle.fault.specs.declared.Refusal.{Refusal}
+use Rattle.fault.proofs.Exit.{field-refused}
+use Rattle.aco_items.specs.declared.Flaw.{Flaw}
+use Rattle.aco_items.specs.scaffold.Answer.{told_item, flawed}
+use Rattle.aco_judge.proofs.Judging.{err-exit, heading-refused, heading-is}
 use Rattle.aco_chunks.specs.Chunks.{loaded, entry_head, colour_item}
 use Rattle.aco.specs.Reading.{first_count, second_count}
+
+-- ---- a number's refusal that a `?` hands on
+
+pub cut-exit : (w : ℕ) (s : List ℕ) (at : ℕ) (r : Result (ℕ × ℕ) Flaw) (e : Refusal) {m : Res ℕ} → IsErrAnd r (λ y. y ≡ flawed e) → refuse (number_of e.0) e.1 0 0 ≡ field w s at → refuse 2 at 0 0 ≡ m → told_item r ≡ m
+cut-exit w s at r e h f rest = err-exit told_item r (flawed e) h (field-refused w s at f ∙ rest)
 
 -- ---- a row of fields, and what follows it whatever they are
 

@@ -7,14 +7,11 @@ use Rattle.algebra.specs.Reader.{pick}
 use Rattle.aco_chunks.specs.declared.Stage.TheVariants as v
 use Rattle.aco_items.proofs.entries_of.Goals as goal
 
--- src/lib.rt:273:13
 pub returns-then-count-index-gt1 : goal.returns-then-count-index-gt1
 returns-then-count-index-gt1 c = let a = c.args in sym (ap (λ (b : Bool). pick b (v.Entry a.count (a.index + 1)) (v.End a.count)) (lt-ltb (a.index + 1) a.count (omega arith)))
 
--- src/lib.rt:268:1
 pub returns-else-count-index-gt1 : goal.returns-else-count-index-gt1
 returns-else-count-index-gt1 c = let a = c.args in sym (ap (λ (b : Bool). pick b (v.Entry a.count (a.index + 1)) (v.End a.count)) (le-ltb (a.index + 1) a.count (omega arith)))
 
--- src/lib.rt:268:1
 pub returns-else-index-count : goal.returns-else-index-count
 returns-else-index-count c = let a = c.args in sym (ap (λ (b : Bool). pick b (v.Entry a.count (a.index + 1)) (v.End a.count)) (le-ltb (a.index + 1) a.count (omega arith)))

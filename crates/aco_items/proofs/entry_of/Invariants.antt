@@ -1,4 +1,4 @@
-use Prim.Native.Nat.{◌*◌, ◌-◌, ◌≤◌}
+use Prim.Native.Nat.{◌*◌, ◌≤◌}
 use mathlib.Core.Path.{◌≡◌}
 use Rattle.aco_chunks.specs.Chunks.{loaded, entry_head}
 use Rattle.aco_items.proofs.Fields.{title_left}
@@ -6,6 +6,3 @@ use Rattle.aco_items.proofs.entry_of.Given as goal
 
 abbrev pub invariant-loop-f : goal.invariant-loop-f
 invariant-loop-f l = (l.f ≤ 5) × (l.first ≡ 10 * l.index) × (entry_head l.index (loaded l.store (10 * l.index)) l.bytes 0 ≡ title_left l.index (loaded l.store (10 * l.index)) l.f l.bytes l.p)
-
-abbrev pub decreases-loop-f : goal.decreases-loop-f
-decreases-loop-f l = 5 - l.f
