@@ -26,6 +26,14 @@ use Rattle.aco_writing.specs.Writing.{swatch_in, sizes, size}
 use Rattle.aco_write_judge.specs.scaffold.Parts.{name_fault, colour_in, plain, start}
 use Rattle.aco_write_judge.proofs.Judging.{given_at, name-inside}
 use Rattle.algebra.proofs.Storing.{as-sets, peel}
+use Rattle.algebra.specs.Writing.{Outcome, refused, needs, writes}
+use Rattle.algebra.proofs.Writing.{writes-no}
+use Rattle.std.specs.Prelude.{Result}
+use Rattle.std.specs.Result.{IsErrAnd}
+use Rattle.fault.specs.Fault.{number_of}
+use Rattle.fault.specs.Answer.{told_written}
+use Rattle.fault.specs.declared.Fault.{Fault}
+use Rattle.fault.proofs.Exit.{written-exit}
 
 -- ---- one store
 
@@ -210,3 +218,8 @@ module _ (run names : List ℕ) where
         let m : length l ≡ size (rows width taken run n 0) = length-file in
         let z : 0 + length l ≡ size (rows width taken run n 0) = omega arith in
         e ∙ sets-eq l out 0 (omega arith) ∙ ap (λ (k : ℕ). l ++ drop k out) z
+
+-- ---- a refusal that a `?` hands on
+
+pub write-exit : (x n : ℕ) (file out : List ℕ) (r : Result ℕ Fault) (f : Fault) → IsErrAnd r (λ y. y ≡ f) → refused (number_of f) 0 ≡ needs x n → (told_written r, out) ≡ writes x n file out
+write-exit x n file out r f h e = ap (λ (o : Outcome). (o, out)) (written-exit r f h refl) ∙ writes-no x n file out (number_of f) e

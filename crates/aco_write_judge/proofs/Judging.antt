@@ -1,11 +1,11 @@
 -- Which fault is found first, and how long the file is, on plain values. Assumes nothing.
-use Rattle.algebra.proofs.Counted.{counted-end, counted_start, counted-turn, length-counted, faults-clear}
+use Rattle.algebra.proofs.Counted.{counted-end, counted_start, counted-turn, length-counted, faults-clear, faults-found}
 use Rattle.algebra.specs.Numbers.{counted}
 use Prim.Native.Nat.{ℕ, zero, suc, ◌+◌, ◌*◌, ◌-◌, ◌≤◌, ◌<◌}
 use mathlib.Core.Path.{◌≡◌, refl, sym, ap, ◌∙◌, subst}
 use mathlib.Core.List.{List, [], ◌∷◌}
 use mathlib.Core.Bool.{Bool, true, false}
-use lib.ListN.{length}
+use lib.ListN.{length, get_or}
 use borrow.Author.Tests.{eq-eqb, ne_eqb}
 use native.Mathlib.Omega.{arith}
 use native.Mathlib.Nat.{lt_of_not-le}
@@ -22,8 +22,45 @@ use Rattle.algebra.specs.Table.{row_at, rows}
 use Rattle.aco.specs.Faults.{space_fault, sample_fault, fields_fault}
 use Rattle.aco.specs.Row.{RecordRow, width, taken}
 use Rattle.aco_writing.specs.Writing.{sizes, found_in}
-use Rattle.aco_write_judge.specs.scaffold.Parts.{name_fault, start, EntryFits, EntriesFit}
-use Rattle.algebra.proofs.Firsts.{name-number}
+use Rattle.std.specs.Prelude.{Result}
+use Rattle.std.specs.Result.{IsErrAnd}
+use Rattle.std.proofs.lemmas.Result.{err_from_is_err_and}
+use Rattle.fault.specs.Fault as table
+use Rattle.fault.specs.declared.Fault.{Fault}
+use Rattle.fault.specs.declared.Fault.TheVariants as fault
+use Rattle.aco.proofs.Row.{four}
+use Rattle.aco_write_judge.specs.scaffold.Parts.{told_fault, name_fault, start, EntryFits, EntriesFit}
+use Rattle.algebra.proofs.Firsts.{hit, name-number}
+
+-- ---- faults that a `?` hands on
+
+pub some-fault : (x : Fault) → table.number_of x ≡ 0 → ⊥
+some-fault fault.TooLong e = omega arith
+some-fault fault.Short e = omega arith
+some-fault fault.WrongTag e = omega arith
+some-fault fault.Unknown e = omega arith
+some-fault fault.OutOfRange e = omega arith
+some-fault fault.LeftOver e = omega arith
+some-fault fault.ListsDiffer e = omega arith
+some-fault fault.BadlyClosed e = omega arith
+some-fault fault.Unbalanced e = omega arith
+some-fault fault.TooDeep e = omega arith
+some-fault fault.NoRoom e = omega arith
+some-fault fault.NoRecord e = omega arith
+some-fault fault.WrongLength e = omega arith
+some-fault fault.NoCounterpart e = omega arith
+
+module _ (r : Result Unit Fault) (x : Fault) (h : IsErrAnd r (λ y. y ≡ x)) where
+  fault-exit : {m : ℕ} → table.number_of x ≡ m → told_fault r ≡ m
+  fault-exit e = let p = err_from_is_err_and r h in rw (p.1, p.2) e
+
+  -- the first of two
+  pub first-exit : (a b : ℕ) → table.number_of x ≡ a → told_fault r ≡ first_of a b
+  first-exit a b e = fault-exit (hit (table.number_of x) a b e (some-fault x))
+
+  -- the first of a loop's, where all of them are those that are left
+  pub turn-exit : {A : Type 0} (f : A → ℕ) (item : ℕ → A) (all n i : ℕ) → all ≡ faults f (counted item (n - i) i) → i < n → table.number_of x ≡ f (item i) → told_fault r ≡ all
+  turn-exit f item all n i inv t e = fault-exit (faults-found f item all n i inv t (table.number_of x) e (some-fault x))
 
 -- ---- a colour
 
@@ -52,16 +89,22 @@ sample-large x k v h = go (allowed x k v) refl
     go true e = absurd (omega (arith, allowed-small x k v e))
     go false e = refl
 
--- a sound colour
-pub colour-none : (x a b c d : ℕ) → sound x (a ∷ b ∷ c ∷ d ∷ []) ≡ true → fields_fault x (a ∷ b ∷ c ∷ d ∷ []) ≡ 0
-unfolding fields_fault faults_from
-colour-none x a b c d e = let g = sound-inv x a b c d e in rw (g.is_known, g.first, g.second, g.third, g.fourth)
+-- the four samples of a colour
+module _ (x : ℕ) (vs : List ℕ) (l : length vs ≡ 4) where
+  -- a sound colour
+  pub colour-none : sound x (get_or vs 0 0 ∷ get_or vs 1 0 ∷ get_or vs 2 0 ∷ get_or vs 3 0 ∷ []) ≡ true → fields_fault x vs ≡ 0
+  unfolding fields_fault faults_from
+  colour-none e =
+      let g = sound-inv x (get_or vs 0 0) (get_or vs 1 0) (get_or vs 2 0) (get_or vs 3 0) e in
+      let none : fields_fault x (get_or vs 0 0 ∷ get_or vs 1 0 ∷ get_or vs 2 0 ∷ get_or vs 3 0 ∷ []) ≡ 0 = rw (g.is_known, g.first, g.second, g.third, g.fourth) in
+      ap (fields_fault x) (four vs l) ∙ none
 
--- a colour's faults in order
-pub colour-faults : (x a b c d : ℕ)
-    → first_of (space_fault x) (first_of (sample_fault x 0 a) (first_of (sample_fault x 1 b) (first_of (sample_fault x 2 c) (sample_fault x 3 d)))) ≡ fields_fault x (a ∷ b ∷ c ∷ d ∷ [])
-unfolding fields_fault faults_from
-colour-faults x a b c d = ap (λ (k : ℕ). first_of (space_fault x) (first_of (sample_fault x 0 a) (first_of (sample_fault x 1 b) (first_of (sample_fault x 2 c) k)))) (sym (first-zero (sample_fault x 3 d)))
+  -- a colour's faults in order
+  pub colour-faults : first_of (space_fault x) (first_of (sample_fault x 0 (get_or vs 0 0)) (first_of (sample_fault x 1 (get_or vs 1 0)) (first_of (sample_fault x 2 (get_or vs 2 0)) (sample_fault x 3 (get_or vs 3 0))))) ≡ fields_fault x vs
+  unfolding fields_fault faults_from
+  colour-faults =
+      ap (λ (k : ℕ). first_of (space_fault x) (first_of (sample_fault x 0 (get_or vs 0 0)) (first_of (sample_fault x 1 (get_or vs 1 0)) (first_of (sample_fault x 2 (get_or vs 2 0)) k)))) (sym (first-zero (sample_fault x 3 (get_or vs 3 0))))
+      ∙ ap (fields_fault x) (sym (four vs l))
 
 -- ---- a name
 

@@ -11,7 +11,4 @@ use Rattle.aco_writing.specs.Writing.{swatch_in}
 use Rattle.aco_write.proofs.put_colours.Given as goal
 
 abbrev pub invariant-loop-i : goal.invariant-loop-i
-invariant-loop-i l = (l.i ≤ l.n) × (l.p ≡ l.at + 10 * l.i) × (sets l.initial.out l.at (joined colour_bytes (map (swatch_in []) (rows width taken l.run l.n 0))) ≡ sets l.out l.p (joined colour_bytes (map (swatch_in []) (rows width taken l.run (l.n - l.i) l.i)))) × (length l.out ≡ length l.initial.out)
-
-abbrev pub decreases-loop-i : goal.decreases-loop-i
-decreases-loop-i l = l.n - l.i
+invariant-loop-i l = (l.i ≤ l.n) × (sets l.initial.out l.at (joined colour_bytes (map (swatch_in []) (rows width taken l.run l.n 0))) ≡ sets l.out (l.at + 10 * l.i) (joined colour_bytes (map (swatch_in []) (rows width taken l.run (l.n - l.i) l.i)))) × (length l.out ≡ length l.initial.out)

@@ -28,7 +28,7 @@ overflow_add-p-in-loop-i c =
     let l = c.loop-i in
     let a = c.args in
     let tk = c.loop-i-test.true in
-    let u = c.wide.ensures.0 ∙ ap (λ (g : RecordRow). g.units) c.record_at-given.ensures in
+    let u = ap (λ (g : RecordRow). g.units) c.record_at-given.ensures in
     omega (arith, fit_next a.text.now a.run.now a.n l.i l.p (length a.out.now) tk l.invariant.2, u)
 
 pub loop-i-preserved : goal.loop-i-preserved
@@ -36,8 +36,8 @@ loop-i-preserved c =
     let l = c.loop-i in
     let a = c.args in
     let tk = c.loop-i-test.true in
-    let u = c.wide.ensures.0 ∙ ap (λ (g : RecordRow). g.units) c.record_at-given.ensures in
-    let w : 16 + 2 * (given_at a.run.now l.i).units ≡ 16 + 2 * c.wide.result = omega (arith, u) in
+    let u = ap (λ (g : RecordRow). g.units) c.record_at-given.ensures in
+    let w : 16 + 2 * (given_at a.run.now l.i).units ≡ 16 + 2 * c.record_at-given.result.units = omega (arith, u) in
     let pe = c.put_entry in (
       omega arith,
       puts-turn a.run.now (swatch_in a.text.now) entry_bytes _ l.out a.n l.i l.p l.invariant.1 tk _ _ (length-entry a.text.now (given_at a.run.now l.i) refl ∙ w) (pe.ensures ∙ ap (λ g. sets l.out l.p (entry_bytes (swatch_in a.text.now g))) c.record_at-given.ensures),

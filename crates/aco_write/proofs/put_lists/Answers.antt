@@ -10,5 +10,5 @@ put_colours-requires c = let h = sizes-all c.args.run.now c.args.n 0 in let m = 
 pub returns : goal.returns
 returns c =
     let a = c.args in
-    put-file a.run.now a.text.now a.n a.out.now _ _ _ _ _ _ (omega (arith, sizes-all a.run.now a.n 0, length-counted (given_at a.run.now) a.n 0, c.requires.2.inside)) c.put_u16.ensures c.put_u16-2.ensures c.put_colours.ensures c.put_colours.auto.out
-    c.put_u16-3.ensures c.put_u16-4.ensures c.put_entries.ensures
+    put-file a.run.now a.text.now a.n a.out.now _ _ _ _ _ _ (omega (arith, sizes-all a.run.now a.n 0, length-counted (given_at a.run.now) a.n 0, c.requires.2.inside)) c.put_number.ensures c.put_number-2.ensures c.put_colours.ensures c.put_colours.auto.out
+    c.put_number-3.ensures c.put_number-4.ensures c.put_entries.ensures

@@ -1,4 +1,5 @@
 use mathlib.Core.Path.{sym, ◌∙◌}
+use native.Mathlib.Omega.{arith}
 use mathlib.Core.Bool.{true≢false}
 use Rattle.aco_write_judge.proofs.Judging.{colour-none}
 use Rattle.aco_write_judge.proofs.is_sound.Goals as goal
@@ -19,4 +20,4 @@ pub returns-then-given-gt65535-5 : goal.returns-then-given-gt65535-5
 returns-then-given-gt65535-5 c = λ e. absurd (true≢false (sym e))
 
 pub returns : goal.returns
-returns c = λ e. colour-none c.args.given.space _ _ _ _ (sym c.is_sound.ensures ∙ e)
+returns c = λ e. colour-none c.args.given.space c.args.given.samples (omega arith) (sym c.is_sound.ensures ∙ e)

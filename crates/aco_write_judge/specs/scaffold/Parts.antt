@@ -1,8 +1,10 @@
 -- Scaffolding: the form in which the code goes; cited by private contracts and by proofs.
 -- A record as the code has it, and what the stores of a record take of it.
-use Rattle.std.specs.Prelude.{ℕ, ◌+◌, ◌*◌, ◌%◌, ◌≤◌, ◌≡◌, List, [], ◌∷◌, map, eqb, length}
+use Rattle.std.specs.Prelude.{ℕ, ◌+◌, ◌*◌, ◌%◌, ◌≤◌, ◌≡◌, List, [], Result, Ok, Err, map, eqb, length}
 use Rattle.algebra.specs.Reader.{pick, limit}
 use Rattle.algebra.specs.Faults.{faults}
+use Rattle.fault.specs.Fault.{number_of}
+use Rattle.fault.specs.declared.Fault.{Fault}
 use Rattle.colour.specs.declared.space.Colour.{Colour}
 use Rattle.aco.specs.Grammar.{Swatch}
 use Rattle.aco.specs.Faults.{fields_fault}
@@ -12,7 +14,12 @@ use Rattle.aco_write_judge.specs.declared.Record.{Record}
 use Rattle.aco_writing.specs.Writing.{swatch_in, sizes, found_in}
 
 abbrev pub told_record : Record → RecordRow
-told_record r = record { space = r.space; samples = r.sample0 ∷ r.sample1 ∷ r.sample2 ∷ r.sample3 ∷ []; first = r.first; units = r.units; ink = r.ink }
+told_record r = record { space = r.space; samples = r.samples; first = r.first; units = r.units; ink = r.ink }
+
+-- a fault's number, 0 for none
+abbrev pub told_fault : Result Unit Fault → ℕ
+told_fault (Ok u) = 0
+told_fault (Err x) = number_of x
 
 -- the faults of a record's colour and of its name
 abbrev pub colour_fault : RecordRow → ℕ

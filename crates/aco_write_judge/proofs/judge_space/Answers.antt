@@ -1,6 +1,6 @@
 use mathlib.Core.Path.{sym, ◌∙◌}
 use Rattle.aco_write_judge.proofs.Judging.{space-large, space-is}
-use Rattle.aco_write_judge.proofs.space_fault.Goals as goal
+use Rattle.aco_write_judge.proofs.judge_space.Goals as goal
 
 pub returns-then-x-gt65535 : goal.returns-then-x-gt65535
 returns-then-x-gt65535 c = sym (space-large _ c.if-x-gt65535.true)

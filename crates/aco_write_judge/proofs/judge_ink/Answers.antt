@@ -1,6 +1,6 @@
 use mathlib.Core.Path.{sym, ◌∙◌}
 use borrow.Author.Tests.{eq-eqb, ne_eqb}
-use Rattle.aco_write_judge.proofs.ink_fault.Goals as goal
+use Rattle.aco_write_judge.proofs.judge_ink.Goals as goal
 
 pub returns-then-given-number : goal.returns-then-given-number
 returns-then-given-number c = sym (rw (eq-eqb _ 4 (c.if-given-number.true ∙ c.number.ensures)))

@@ -1,7 +1,7 @@
 use native.Mathlib.Omega.{arith}
 use mathlib.Core.Path.{sym, ◌∙◌}
 use Rattle.aco_write_judge.proofs.Judging.{sample-large, sample-is}
-use Rattle.aco_write_judge.proofs.sample_fault.Goals as goal
+use Rattle.aco_write_judge.proofs.judge_sample.Goals as goal
 
 pub returns-then-v-gt65535 : goal.returns-then-v-gt65535
 returns-then-v-gt65535 c = sym (sample-large _ _ _ (omega arith))
