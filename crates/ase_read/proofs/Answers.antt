@@ -15,14 +15,22 @@ use Rattle.colour.specs.Models.{traits_of, model_of, is_known_model, count_in, i
 use Rattle.colour.specs.Channels.{allows_in, allows_bits, made, made_in, bits_of, model_in, channel}
 use Rattle.colour.specs.declared.model.Model.{Model}
 use Rattle.colour.specs.declared.model.Model.TheVariants.{Rgb, Cmyk, Lab, Gray}
-use Rattle.colour.specs.declared.model.KnownModel.{KnownModel}
-use Rattle.colour.specs.declared.model.KnownModel.TheVariants.{Is, Unknown}
+use Rattle.std.specs.Prelude.{Option, Some, None, Result, Ok, Err}
+use Rattle.std.specs.Option.{unwrap_or}
+use Rattle.std.specs.Result.{IsOk, IsErrAnd}
+use Rattle.std.proofs.lemmas.Result.{err_from_is_err_and}
+use Rattle.fault.specs.Fault.{number_of}
+use Rattle.fault.specs.declared.Refusal.{Refusal}
+use Rattle.colour.specs.declared.ink.Ink.TheVariants.{NotStated}
+use Rattle.ase_judge.specs.declared.Counts.{Counts}
+use Rattle.ase_read.specs.declared.Record.{Record}
+use Rattle.ase_read.specs.Answer.{told_record}
+use Rattle.fault.specs.declared.Fault.{Fault}
+use Rattle.fault.specs.declared.Fault.TheVariants.{OutOfRange}
 use Rattle.colour.specs.declared.channel.Channels.{Channels}
 use Rattle.colour.specs.declared.channel.Channels.TheVariants as vc
-use Rattle.colour.specs.declared.channel.Made.TheVariants as vm
 use Rattle.colour.specs.Inks.{ink_number, ink_of}
 use Rattle.colour.specs.declared.ink.Ink.{Ink}
-use Rattle.colour.specs.declared.ink.KnownInk.TheVariants as vi
 use Rattle.colour.proofs.Inks.{ink_small, number-back}
 use Rattle.colour.proofs.Models.{tag-known}
 use Rattle.colour.proofs.Kept.{same-four, bits-kept}
@@ -33,7 +41,7 @@ use Rattle.algebra.specs.Numbers.{joined}
 use Rattle.algebra.specs.Table.{Verdict, accepted, refused, verdict, seen}
 use Rattle.algebra.proofs.Places.{length-joined}
 use Rattle.algebra.proofs.Table.{accepted-of, accepted-by, record-found}
-use Rattle.ase_judge.specs.Answer.{report}
+use Rattle.ase_judge.specs.Answer.{report, told}
 use Rattle.ase_read.specs.Table.{row, record_at, name_bytes_in}
 use Rattle.ase_read.specs.Table.{entries_of}
 use Rattle.ase_read.specs.scaffold.Raw.{next_block, block_place, Accepted}
@@ -45,22 +53,23 @@ use Rattle.ase_read.proofs.Filling.{here}
 
 module _ (t a b c d : ℕ) (is : IsColour t a b c d) where
   by-tag : made_in (model_of t) a b c d ≡ made is.0 a b c d
-  by-tag = ap (λ (k : KnownModel). made_in k a b c d) is.2
+  by-tag = ap (λ (k : Option Model). made_in k a b c d) is.2
 
-  pub is_made : (n : ℕ) → {X : Type 0} → made_in (model_of t) a b c d ≡ vm.Refused n → X
-  is_made n e = let z : vm.Is is.1 ≡ vm.Refused n = sym is.3 ∙ sym by-tag ∙ e in let w : ◌≡◌ {A = ℕ} 0 1 = cc in absurd (omega arith)
+  -- the colour is made
+  pub is_made : (r : Result Channels Fault) → r ≡ made_in (model_of t) a b c d → IsOk r
+  is_made r e = rw (e ∙ by-tag ∙ is.3) refl
 
-  pub colour-is : (x : Channels) → made_in (model_of t) a b c d ≡ vm.Is x → a < 2 ^ 32 → b < 2 ^ 32 → c < 2 ^ 32 → d < 2 ^ 32
+  pub colour-is : (x : Channels) → made_in (model_of t) a b c d ≡ Ok x → a < 2 ^ 32 → b < 2 ^ 32 → c < 2 ^ 32 → d < 2 ^ 32
       → (p u k : ℕ) → colour_row p u (traits_of (model_in x)).tag (bits_of x) k ≡ colour_row p u t (a ∷ b ∷ c ∷ d ∷ []) k
   colour-is x e ha hb hc hd p u k =
       let z = bits-kept is.0 a b c d ha hb hc hd x (sym by-tag ∙ e) in
       ap₂ (λ (g : ℕ) (l : List ℕ). colour_row p u g l k) (ap (λ (y : Model). (traits_of y).tag) z.0 ∙ tag-known t is.0 is.2) (z.1 ∙ is.4)
 
 -- the ink with a number, where one has it
-pub ink-known : (n : ℕ) (i : Ink) → ink_of n ≡ vi.Is i → ink_number i ≡ pick (leb n 4) n 4
+pub ink-known : (n : ℕ) (i : Ink) → ink_of n ≡ Some i → ink_number i ≡ pick (leb n 4) n 4
 ink-known n i e = let b : ink_number i ≡ n = number-back n i e in b ∙ sym (rw (le-leb n 4 (omega (arith, ink_small i))))
 
-few : (n : ℕ) → n ≤ 4 → ink_of n ≡ vi.Unknown → ⊥
+few : (n : ℕ) → n ≤ 4 → ink_of n ≡ None → ⊥
 unfolding ink_of
 few zero h e = let w : ◌≡◌ {A = ℕ} 0 1 = cc in absurd (omega arith)
 few (suc zero) h e = let w : ◌≡◌ {A = ℕ} 0 1 = cc in absurd (omega arith)
@@ -69,11 +78,16 @@ few (suc (suc (suc zero))) h e = let w : ◌≡◌ {A = ℕ} 0 1 = cc in absurd 
 few (suc (suc (suc (suc zero)))) h e = let w : ◌≡◌ {A = ℕ} 0 1 = cc in absurd (omega arith)
 few (suc (suc (suc (suc (suc n))))) h e = absurd (omega arith)
 
-pub ink-none : (n : ℕ) → ink_of n ≡ vi.Unknown → 4 ≡ pick (leb n 4) n 4
+pub ink-none : (n : ℕ) → ink_of n ≡ None → 4 ≡ pick (leb n 4) n 4
 ink-none n e = elim (dec_le n 4) [
   | yes h ↦ absurd (few n h e)
   | no h ↦ sym (rw (lt-leb n 4 (lt_of_not-le h)))
 ]
+
+-- the ink with a number, as it is found
+pub ink-found : (n : ℕ) (r : Option Ink) → r ≡ ink_of n → (i : Ink) → i ≡ unwrap_or r NotStated → ink_number i ≡ pick (leb n 4) n 4
+ink-found n (Some j) e i w = ap ink_number w ∙ ink-known n j (sym e)
+ink-found n None e i w = ap ink_number w ∙ ink-none n (sym e)
 
 -- the ink with a number that a file has
 pub ink-is : (n x : ℕ) → x ≡ pick (leb n 4) n 4 → n ≤ 2 → x ≡ n
@@ -90,39 +104,39 @@ sound-colour nm t bs k h = go (model_of t) refl h.0 h.1 h.2
     and : {p q : Bool} → p ≡ true → q ≡ true → (p && q) ≡ true
     and a b = rw (a, b)
 
-    is : {x : Channels} {p : Bool} → p ≡ true → pick p (vm.Is x) (vm.Refused 5) ≡ vm.Is x
-    is {x} a = ap (λ (p : Bool). pick p (vm.Is x) (vm.Refused 5)) a
+    is : {x : Channels} {p : Bool} → p ≡ true → pick p (Ok x) (Err OutOfRange) ≡ Ok x
+    is {x} a = ap (λ (p : Bool). pick p (Ok x) (Err OutOfRange)) a
 
-    go : (w : KnownModel) → model_of t ≡ w → is_known_model w ≡ true → length bs ≡ count_in w → ((i : ℕ) → i < length bs → allows_in w (get_or bs i 0) ≡ true) → IsColour t (get_or bs 0 0) (get_or bs 1 0) (get_or bs 2 0) (get_or bs 3 0)
-    go (Is Rgb) e a n c = (
+    go : (w : Option Model) → model_of t ≡ w → is_known_model w ≡ true → length bs ≡ count_in w → ((i : ℕ) → i < length bs → allows_in w (get_or bs i 0) ≡ true) → IsColour t (get_or bs 0 0) (get_or bs 1 0) (get_or bs 2 0) (get_or bs 3 0)
+    go (Some Rgb) e a n c = (
       Rgb,
       vc.Rgb (channel (get_or bs 0 0)) (channel (get_or bs 1 0)) (channel (get_or bs 2 0)),
       e,
       is (and (and (c 0 (omega arith)) (c 1 (omega arith))) (c 2 (omega arith))),
       same-four refl refl refl (sym (none 3 (omega arith))),
     )
-    go (Is Cmyk) e a n c = (
+    go (Some Cmyk) e a n c = (
       Cmyk,
       vc.Cmyk (channel (get_or bs 0 0)) (channel (get_or bs 1 0)) (channel (get_or bs 2 0)) (channel (get_or bs 3 0)),
       e,
       is (and (and (and (c 0 (omega arith)) (c 1 (omega arith))) (c 2 (omega arith))) (c 3 (omega arith))),
       refl,
     )
-    go (Is Lab) e a n c = (
+    go (Some Lab) e a n c = (
       Lab,
       vc.Lab (channel (get_or bs 0 0)) (channel (get_or bs 1 0)) (channel (get_or bs 2 0)),
       e,
       is (and (and (c 0 (omega arith)) (c 1 (omega arith))) (c 2 (omega arith))),
       same-four refl refl refl (sym (none 3 (omega arith))),
     )
-    go (Is Gray) e a n c = (
+    go (Some Gray) e a n c = (
       Gray,
       vc.Gray (channel (get_or bs 0 0)),
       e,
       is (c 0 (omega arith)),
       same-four refl (sym (none 1 (omega arith))) (sym (none 2 (omega arith))) (sym (none 3 (omega arith))),
     )
-    go Unknown e a n c = let z : ◌≡◌ {A = ℕ} 0 1 = cc in absurd (omega arith)
+    go None e a n c = let z : ◌≡◌ {A = ℕ} 0 1 = cc in absurd (omega arith)
 
 -- ---- a record by its numbers
 
@@ -156,6 +170,13 @@ is-colour (colour_read nm t bs k) o r w h g = record {
 }
 
 -- ---- from the verdict to what the file holds
+
+-- what is told where a `?` hands a refusal on
+pub record-exit : (r : Result Record Refusal) (e : Refusal) {m : Verdict RecordRow} → IsErrAnd r (λ y. y ≡ e) → refused (number_of e.0) e.1 0 0 ≡ m → told_record r ≡ m
+record-exit r e h rest = let p = err_from_is_err_and r h in rw (p.1, p.2) rest
+
+pub filled-exit : (r : Result Counts Refusal) (e : Refusal) (t : List ℕ) {m : Verdict (ℕ × ℕ) × List ℕ} → IsErrAnd r (λ y. y ≡ e) → (refused (number_of e.0) e.1 0 0, t) ≡ m → (told r, t) ≡ m
+filled-exit r e t h rest = let p = err_from_is_err_and r h in rw (p.1, p.2) rest
 
 pub judged-of : (m : Res (List Entry)) {n k : ℕ} → accepted (n, k) ≡ verdict report m → Accepted m n
 judged-of m v = accepted-by report (λ b. b.0) m (accepted-of report m v)

@@ -19,8 +19,14 @@ use Rattle.algebra.proofs.Places.{length-be, length-bes, length-nums, part-nums}
 use Rattle.algebra.proofs.Exact.{length-map, length-nameBytes}
 use Rattle.algebra.proofs.Tells.{first-inv}
 use Rattle.colour.specs.Models.{model_of, is_known_model, count_in, is_model, channels_of}
-use Rattle.colour.specs.declared.model.KnownModel.{KnownModel}
-use Rattle.colour.specs.declared.model.KnownModel.TheVariants.{Is, Unknown}
+use Rattle.std.specs.Prelude.{Option, Some, None, Result}
+use Rattle.std.specs.Result.{IsErrAnd}
+use Rattle.std.proofs.lemmas.Result.{err_from_is_err_and}
+use Rattle.algebra.specs.Writing.{Outcome, refused}
+use Rattle.fault.specs.Fault.{number_of as Fault·number}
+use Rattle.fault.specs.Answer.{told_written}
+use Rattle.fault.specs.declared.Fault.{Fault}
+use Rattle.colour.specs.declared.model.Model.{Model}
 use Rattle.colour.specs.declared.model.Model.TheVariants.{Rgb, Cmyk, Lab, Gray}
 use Rattle.ase.specs.Grammar.{Block, group_start, group_end, colour, type_of, payload, block_bytes, file_bytes}
 use Rattle.ase.specs.Row.{RecordRow, width, taken}
@@ -29,6 +35,10 @@ use Rattle.ase_write_judge.specs.scaffold.Parts.{name_fault, after_name_bytes, o
 use Rattle.ase_write_judge.specs.scaffold.Parts as parts
 use Rattle.ase_write_judge.proofs.Judging.{Sound, is_group_start, is_group_end, is-colour, sound, channels-few, size-start, size-stop, size-colour, name-inside}
 use Rattle.algebra.proofs.Storing.{as-sets, peel, peel-be, length-kept}
+
+-- what is told where a `?` hands a refusal on
+pub writes-exit : (r : Result ℕ Fault) (f : Fault) (o : List ℕ) {m : Outcome × List ℕ} → IsErrAnd r (λ y. y ≡ f) → (refused (Fault·number f) 0, o) ≡ m → (told_written r, o) ≡ m
+writes-exit r f o h rest = let p = err_from_is_err_and r h in rw (p.1, p.2) rest
 
 -- ---- a name
 
@@ -57,12 +67,12 @@ put-name names b g k e f out o at h w = as-sets o out at _ (name_size g) (w ∙ 
 
 -- ---- a colour's channels
 
-some : (k : KnownModel) → is_known_model k ≡ true → (count_in k ≡ 1 → ⊥) → (count_in k ≡ 3 → ⊥) → count_in k ≡ 4
-some (Is Rgb) e a b = absurd (b refl)
-some (Is Cmyk) e a b = refl
-some (Is Lab) e a b = absurd (b refl)
-some (Is Gray) e a b = absurd (a refl)
-some Unknown e a b = absurd (true≢false (sym e))
+some : (k : Option Model) → is_known_model k ≡ true → (count_in k ≡ 1 → ⊥) → (count_in k ≡ 3 → ⊥) → count_in k ≡ 4
+some (Some Rgb) e a b = absurd (b refl)
+some (Some Cmyk) e a b = refl
+some (Some Lab) e a b = absurd (b refl)
+some (Some Gray) e a b = absurd (a refl)
+some None e a b = absurd (true≢false (sym e))
 
 -- a known model has one channel, three or four
 channels-four : (t : ℕ) → is_model t ≡ true → (channels_of t ≡ 1 → ⊥) → (channels_of t ≡ 3 → ⊥) → channels_of t ≡ 4
@@ -209,12 +219,12 @@ module _ (names : List ℕ) (g : RecordRow) where
         pub put-start : g.block ≡ 0xC001 → o₃ ≡ sets o₀ at (block_bytes (block_by_row names g))
         put-start e = e₃ ∙ sym (head ∙ ap (λ (b : Block). sets o₂ (at + 6) (payload b)) (block_start e))
 
-        pub put-colour : (g.block ≡ 0xC002 → ⊥) → (g.block ≡ 0xC001 → ⊥) → (o₄ : List ℕ) (k : ℕ) → k ≡ g.units → o₄ ≡ sets o₃ (at + 10 + 2 * k) (after_name_bytes g) → o₄ ≡ sets o₀ at (block_bytes (block_by_row names g))
-        put-colour x y o₄ k z e₄ =
-            let p : at + 6 + name_size g ≡ at + 10 + 2 * k = omega arith in
+        pub put-colour : (g.block ≡ 0xC002 → ⊥) → (g.block ≡ 0xC001 → ⊥) → (o₄ : List ℕ) → o₄ ≡ sets o₃ (at + 10 + 2 * g.units) (after_name_bytes g) → o₄ ≡ sets o₀ at (block_bytes (block_by_row names g))
+        put-colour x y o₄ e₄ =
+            let p : at + 6 + name_size g ≡ at + 10 + 2 * g.units = omega arith in
             e₄ ∙ sym (
             head ∙ ap (λ (b : Block). sets o₂ (at + 6) (payload b)) (block-colour (sound-colour s x y).0)
-            ∙ peel o₂ o₃ (name_bytes 2 (units_within names g)) (after_name_bytes g) (at + 6) (name_size g) (at + 10 + 2 * k) (length-name names g) p e₃)
+            ∙ peel o₂ o₃ (name_bytes 2 (units_within names g)) (after_name_bytes g) (at + 6) (name_size g) (at + 10 + 2 * g.units) (length-name names g) p e₃)
 
 -- ---- a loop that stores the records of a run
 

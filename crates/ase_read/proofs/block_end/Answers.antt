@@ -7,4 +7,4 @@ use Rattle.ase_read.proofs.block_end.Goals as goal
 pub returns : goal.returns
 returns c =
     let a = c.args in
-    ap (λ (k : ℕ). a.at + 6 + k) (c.u32_or_zero-length.ensures ∙ load-in 4 a.file.now (a.at + 2) (omega (arith, c.requires.0)))
+    ap (λ (k : ℕ). a.at + 6 + k) (c.number_or_zero-length.ensures ∙ load-in 4 a.file.now (a.at + 2) (omega (arith, c.requires.0)))

@@ -1,4 +1,4 @@
-use Prim.Native.Nat.{◌-◌, ◌*◌, ◌≤◌}
+use Prim.Native.Nat.{◌*◌, ◌≤◌}
 use mathlib.Core.Path.{◌≡◌}
 use lib.ListN.{length, drop}
 use lib.Seq.{sets}
@@ -12,6 +12,3 @@ use Rattle.ase_read.proofs.fill.Given as goal
 
 abbrev pub invariant-loop-i : goal.invariant-loop-i
 invariant-loop-i l = (l.i ≤ l.n) × (sets l.initial.table 0 (joined row (entries_of (ase l.file))) ≡ sets l.table (width * l.i) (joined row (drop l.i (entries_of (ase l.file))))) × (length l.table ≡ length l.initial.table) × (l.at ≡ block_place l.file l.i)
-
-abbrev pub decreases-loop-i : goal.decreases-loop-i
-decreases-loop-i l = l.n - l.i

@@ -4,5 +4,5 @@ use Rattle.ase_read.proofs.numbers_in.Goals as goal
 pub returns : goal.returns
 returns c =
     let a = c.args in
-    numbers-loaded a.part.now a.at _ _ _ _ _ _ _ _ _ _ c.u16_or_zero-block.ensures c.u16_or_zero-count.ensures c.first_at.ensures c.units_of.ensures
-    c.u32_or_zero.ensures c.u32_or_zero-2.ensures c.u32_or_zero-3.ensures c.u32_or_zero-4.ensures c.u32_or_zero-5.ensures c.u16_or_zero.ensures
+    numbers-loaded a.part.now a.at _ _ _ _ _ _ _ _ _ _ c.number_or_zero-block.ensures c.number_or_zero-count.ensures c.name_place.ensures.0 c.saturating_sub.ensures
+    c.number_or_zero.ensures c.number_or_zero-2.ensures c.number_or_zero-3.ensures c.number_or_zero-4.ensures c.number_or_zero-5.ensures c.number_or_zero-6.ensures

@@ -20,21 +20,21 @@ returns-then-given-eq-STOP c =
     let a = c.args in
     let g = given_in a.given in
     let f = sound a.text.now 1 g c.requires.0.sound in
-    put-stop a.text.now g refl f a.out.now _ _ a.at a.size c.requires.1 c.requires.0.inside c.put_u16.ensures c.put_u32.ensures c.if-given-eq-STOP.true
+    put-stop a.text.now g refl f a.out.now _ _ a.at a.size c.requires.1 c.requires.0.inside c.put_number.ensures c.put_number-2.ensures c.if-given-eq-STOP.true
 
 pub put_name-requires : goal.put_name-requires
 put_name-requires c =
     let a = c.args in
     let g = given_in a.given in
     let f = sound a.text.now 1 g c.requires.0.sound in
-    (omega (arith, size-name a.text.now g f c.if-given-eq-STOP.false, c.requires.0.inside, c.put_u16.auto.out, c.put_u32.auto.out), sound-name a.text.now g f c.if-given-eq-STOP.false)
+    (omega (arith, size-name a.text.now g f c.if-given-eq-STOP.false, c.requires.0.inside, c.put_number.auto.out, c.put_number-2.auto.out), sound-name a.text.now g f c.if-given-eq-STOP.false)
 
 pub returns-then-given-eq-START : goal.returns-then-given-eq-START
 returns-then-given-eq-START c =
     let a = c.args in
     let g = given_in a.given in
     let f = sound a.text.now 1 g c.requires.0.sound in
-    put-start a.text.now g refl f a.out.now _ _ a.at a.size c.requires.1 c.requires.0.inside c.put_u16.ensures c.put_u32.ensures _ c.put_name.ensures c.if-given-eq-START.true
+    put-start a.text.now g refl f a.out.now _ _ a.at a.size c.requires.1 c.requires.0.inside c.put_number.ensures c.put_number-2.ensures _ c.put_name.ensures c.if-given-eq-START.true
 
 pub put_after_name-requires : goal.put_after_name-requires
 put_after_name-requires c =
@@ -45,11 +45,11 @@ put_after_name-requires c =
     let y = c.if-given-eq-START.false in
     let k = sound-colour a.text.now g f x y in
     let h = size-colour g k.0 in
-    (omega (arith, h, c.wide.ensures.0, c.requires.0.inside, c.put_u16.auto.out, c.put_u32.auto.out, c.put_name.auto.out), k.1)
+    (omega (arith, h, c.requires.0.inside, c.put_number.auto.out, c.put_number-2.auto.out, c.put_name.auto.out), k.1)
 
 pub returns : goal.returns
 returns c =
     let a = c.args in
     let g = given_in a.given in
     let f = sound a.text.now 1 g c.requires.0.sound in
-    put-colour a.text.now g refl f a.out.now _ _ a.at a.size c.requires.1 c.requires.0.inside c.put_u16.ensures c.put_u32.ensures _ c.put_name.ensures c.if-given-eq-STOP.false c.if-given-eq-START.false _ _ c.wide.ensures.0 c.put_after_name.ensures
+    put-colour a.text.now g refl f a.out.now _ _ a.at a.size c.requires.1 c.requires.0.inside c.put_number.ensures c.put_number-2.ensures _ c.put_name.ensures c.if-given-eq-STOP.false c.if-given-eq-START.false _ c.put_after_name.ensures

@@ -15,6 +15,3 @@ abbrev pub invariant-loop-i : goal.invariant-loop-i
 invariant-loop-i l =
     (l.i ≤ l.n) × (sets l.initial.out l.at (joined block_bytes (map (block_by_row l.text) (rows width taken l.run l.n 0))) ≡ sets l.out l.p (joined block_bytes (map (block_by_row l.text) (rows width taken l.run (l.n - l.i) l.i))))
     × RecordsFit l.text (rows width taken l.run (l.n - l.i) l.i) l.p (length l.initial.out) × (length l.out ≡ length l.initial.out)
-
-abbrev pub decreases-loop-i : goal.decreases-loop-i
-decreases-loop-i l = l.n - l.i

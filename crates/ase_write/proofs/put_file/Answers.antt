@@ -9,7 +9,7 @@ use Rattle.ase_write.proofs.put_file.Goals as goal
 pub returns : goal.returns
 returns c =
     let a = c.args in
-    put-file a.run.now a.text.now a.n a.out.now _ _ _ _ _ (omega (arith, c.requires.1.inside)) c.put_u32.ensures c.put_u16.ensures c.put_u16-2.ensures c.put_u32-2.ensures c.put_blocks.ensures
+    put-file a.run.now a.text.now a.n a.out.now _ _ _ _ _ (omega (arith, c.requires.1.inside)) c.put_number.ensures c.put_number-2.ensures c.put_number-3.ensures c.put_number-4.ensures c.put_blocks.ensures
 
 pub overflow_cast-n : goal.overflow_cast-n
 overflow_cast-n c =

@@ -11,7 +11,7 @@ use Rattle.ase_write.proofs.put_name.Goals as goal
 
 pub overflow_add-end : goal.overflow_add-end
 overflow_add-end c =
-    omega (arith, name-inside c.args.text.now (given_in c.args.given) c.requires.1, c.wide.ensures.0, c.name_start-first.ensures)
+    omega (arith, name-inside c.args.text.now (given_in c.args.given) c.requires.1, c.name_start-first.ensures)
 
 pub overflow_add-units : goal.overflow_add-units
 overflow_add-units c = omega (arith, (name-lies c.args.text.now (given_in c.args.given) c.requires.1).0)
@@ -19,14 +19,13 @@ overflow_add-units c = omega (arith, (name-lies c.args.text.now (given_in c.args
 pub overflow_cast-units : goal.overflow_cast-units
 overflow_cast-units c = omega (arith, (name-lies c.args.text.now (given_in c.args.given) c.requires.1).0)
 
-pub slice_bounds-put_name16-end : goal.slice_bounds-put_name16-end
-slice_bounds-put_name16-end c =
-    omega (arith, name-inside c.args.text.now (given_in c.args.given) c.requires.1, c.wide.ensures.0, c.name_start-first.ensures)
+pub slice_bounds-put_name-end : goal.slice_bounds-put_name-end
+slice_bounds-put_name-end c =
+    omega (arith, name-inside c.args.text.now (given_in c.args.given) c.requires.1, c.name_start-first.ensures)
 
 pub returns : goal.returns
 returns c =
     let a = c.args in
     let g = given_in a.given in
-    let w = c.wide in
-    let e = c.put_name16.ensures ∙ ap (λ (r : ℕ). stored a.out.now a.at (counted_units 2 (g.units + 1) (part a.text.now r (r + 2 * w.result - r)))) c.name_start-first.ensures in
-    put-name a.text.now (λ i. omega (arith, c.type_inv.text i)) g (start g + 2 * w.result - start g) (omega (arith, w.ensures.0)) c.requires.1 a.out.now _ a.at c.requires.0 e
+    let e = c.put_name.ensures ∙ ap (λ (r : ℕ). stored a.out.now a.at (counted_units 2 (g.units + 1) (part a.text.now r (r + 2 * g.units - r)))) c.name_start-first.ensures in
+    put-name a.text.now (λ i. omega (arith, c.type_inv.text i)) g (start g + 2 * g.units - start g) (omega arith) c.requires.1 a.out.now _ a.at c.requires.0 e
