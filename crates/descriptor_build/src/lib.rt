@@ -9,7 +9,7 @@ ghost use Rattle.std.proofs.lemmas.List.Edits.{sets};
 ghost use Rattle.algebra.specs.Numbers.{be};
 ghost use Rattle.algebra.specs.Store.{part};
 ghost use Rattle.algebra.specs.Table.{row_at, rows};
-ghost use Rattle.fields.specs.Answer.{told_written};
+ghost use Rattle.fault.specs.Answer.{told_written};
 ghost use Rattle.descriptor_heads.specs.Heads.{pairs, settled};
 ghost use Rattle.descriptor_raw.specs.Raw.{due_of};
 ghost use Rattle.descriptor_entry.specs.Pieces.{bytes};
@@ -20,11 +20,11 @@ ghost use Rattle.descriptor_build.specs.scaffold.Putting.{Ready, Stored, PutHead
 use descriptor_columns::Level;
 use descriptor_entry::{Field, Shape, WIDTH};
 use descriptor_entry_fields::{id_length, number_in, place_in};
-use fields::Written;
+use fault::Fault;
 
-// What storing a head leaves: the place behind it, what its row's children are, with the number of
-// objects, and how many.
-#[derive(Drop)]
+/// What storing a head leaves: the place behind it, what its row's children are, with the number of
+/// objects, and how many.
+#[derive(Clone, Copy, Debug, PartialEq, Eq)]
 pub struct Put {
     pub end: usize,
     pub what: u32,
@@ -50,7 +50,7 @@ fn put_word(out: &mut [u8], at: usize, v: u32) -> usize
     requires { at + 4 ≤ length out.old }
     ensures { (out.new ≡ sets out.old at (be 4 v)) × (result ≡ at + 4) }
 {
-    fields::put_u32(out, at, v);
+    fields::put_number(out, at, v);
     at + 4
 }
 
@@ -77,7 +77,7 @@ fn put_counted(out: &mut [u8], at: usize, v: u32, text: &[u8], first: usize, n: 
     requires { (at + (4 + n) ≤ length out.old) × (length (part text.now first n) ≡ n) }
     ensures { (out.new ≡ sets out.old at (be 4 v ++ part text.now first n)) × (result ≡ at + (4 + n)) }
 {
-    fields::put_u32(out, at, v);
+    fields::put_number(out, at, v);
     fields::put_run(out, at + 4, part_of(text, first, n));
     at + 4 + n
 }
@@ -91,7 +91,7 @@ fn put_part(out: &mut [u8], at: usize, text: &[u8], row: &[u32], i: usize, n: us
 }
 
 // A field of an entry; the place behind it.
-fn put_some(out: &mut [u8], at: usize, text: &[u8], row: &[u32], field: Field) -> usize
+fn put_field(out: &mut [u8], at: usize, text: &[u8], row: &[u32], field: Field) -> usize
     requires { Ready text.now (pieces_of 0 row.now field) at (length out.old) }
     ensures { Stored text.now (pieces_of 0 row.now field) out.old at out.new result }
 {
@@ -104,20 +104,9 @@ fn put_some(out: &mut [u8], at: usize, text: &[u8], row: &[u32], field: Field) -
         Field::Wide => put_wide(out, at, number_in(row, 12), number_in(row, 13)),
         Field::Double => put_wide(out, at, number_in(row, 12), number_in(row, 13)),
         Field::Id(i) => put_part(out, at, text, row, i, id_length(number_in(row, i))),
-        Field::Text(i) => put_part(out, at, text, row, i, 2 * fields::wide(number_in(row, i))),
-        Field::Run(i) => put_part(out, at, text, row, i, fields::wide(number_in(row, i))),
-        Field::Doubles(i) => put_part(out, at, text, row, i, 8 * fields::wide(number_in(row, i))),
-    }
-}
-
-// The same, with no call where there is no field.
-fn put_field(out: &mut [u8], at: usize, text: &[u8], row: &[u32], field: Field) -> usize
-    requires { Ready text.now (pieces_of 0 row.now field) at (length out.old) }
-    ensures { Stored text.now (pieces_of 0 row.now field) out.old at out.new result }
-{
-    match field {
-        Field::Nothing => at,
-        _ => put_some(out, at, text, row, field),
+        Field::Text(i) => put_part(out, at, text, row, i, 2 * number_in(row, i) as usize),
+        Field::Run(i) => put_part(out, at, text, row, i, number_in(row, i) as usize),
+        Field::Doubles(i) => put_part(out, at, text, row, i, 8 * number_in(row, i) as usize),
     }
 }
 
@@ -128,14 +117,10 @@ fn put_fields(out: &mut [u8], at: usize, text: &[u8], row: &[u32], shape: Shape)
     requires { Ready text.now (field_pieces 0 shape row.now) at (length out.old) }
     ensures { Stored text.now (field_pieces 0 shape row.now) out.old at out.new result }
 {
-    let first = shape.first;
-    let second = shape.second;
-    let third = shape.third;
-    let fourth = shape.fourth;
-    let p = put_field(out, at, text, row, first);
-    let q = put_field(out, p, text, row, second);
-    let r = put_field(out, q, text, row, third);
-    put_field(out, r, text, row, fourth)
+    let p = put_field(out, at, text, row, shape.first);
+    let q = put_field(out, p, text, row, shape.second);
+    let r = put_field(out, q, text, row, shape.third);
+    put_field(out, r, text, row, shape.fourth)
 }
 
 // A key, where a pair is due.
@@ -176,8 +161,7 @@ fn put_at(out: &mut [u8], at: usize, entries: &[u32], text: &[u8], k: usize, wha
     ensures { PutHead text.now (head_pieces (due_of what 0) (row_at width entries.now k)) (asks (shape_of (due_of what 0) (kind_of (row_at width entries.now k))) 0 0 0 (row_at width entries.now k)) out.old at out.new result }
 {
     let first = WIDTH * k;
-    let end = first + WIDTH;
-    put_head(out, at, text, &entries[first..end], what)
+    put_head(out, at, text, &entries[first..first + WIDTH], what)
 }
 
 // The root's head.
@@ -194,9 +178,7 @@ fn put_first(out: &mut [u8], entries: &[u32], text: &[u8]) -> usize
     requires { (width ≤ length entries.now) × Ready text.now (root_pieces (row_at width entries.now 0)) 0 (length out.old) }
     ensures { Stored text.now (root_pieces (row_at width entries.now 0)) out.old 0 out.new result }
 {
-    let first: usize = 0;
-    let end = WIDTH;
-    put_root(out, text, &entries[first..end])
+    put_root(out, text, &entries[..WIDTH])
 }
 
 // ---- the run
@@ -262,19 +244,15 @@ fn put_all(out: &mut [u8], entries: &[u32], text: &[u8])
     put_members(out, entries, text, n, p, number_in(entries, 14));
 }
 
-// Builds the descriptor of a run of entries, whose parts lie in `text`, in `out`; a refusal changes
-// nothing.
-pub fn write(entries: &[u32], text: &[u8], out: &mut [u8]) -> Written
+/// Builds the descriptor of a run of entries, whose parts lie in `text`, in `out`; a refusal changes
+/// nothing.
+pub fn write(entries: &[u32], text: &[u8], out: &mut [u8]) -> Result<usize, Fault>
     ensures { (told_written result, out.new) ≡ built text.now (given entries.now) out.old }
 {
-    match descriptor_build_judge::write_length(entries, text) {
-        Written::Refused(x) => Written::Refused(x),
-        Written::Bytes(size) => {
-            if out.len() < size {
-                return Written::Refused(11);
-            }
-            put_all(out, entries, text);
-            Written::Bytes(size)
-        }
+    let size = descriptor_build_judge::write_length(entries, text)?;
+    if out.len() < size {
+        return Err(Fault::NoRoom);
     }
+    put_all(out, entries, text);
+    Ok(size)
 }

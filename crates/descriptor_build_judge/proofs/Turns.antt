@@ -15,6 +15,11 @@ use Rattle.algebra.specs.Faults.{first_of, faults}
 use Rattle.algebra.specs.Writing.{Outcome, refused, needs}
 use Rattle.algebra.proofs.Counted.{counted-turn, counted-end, counted_start}
 use Rattle.algebra.proofs.Writing.{needs-no}
+use Rattle.algebra.proofs.Tells.{first_some}
+use Rattle.std.specs.Prelude.{Result, Ok, Err}
+use Rattle.std.specs.Result.{result_and}
+use Rattle.fault.specs.declared.Fault.{Fault}
+use Rattle.descriptor_entry_judge.proofs.Judging.{numbered}
 use Rattle.descriptor_heads.specs.Heads.{Due, Stack, settled, deepest}
 use Rattle.descriptor_raw.specs.Raw.{due_of}
 use Rattle.descriptor_columns.specs.scaffold.Filling.{dues}
@@ -25,12 +30,19 @@ use Rattle.descriptor_entry.specs.Shapes.{width, Entry, kind_of, object, shape_o
 use Rattle.descriptor_entry.specs.Entries.{head_pieces, root_pieces, asks, next, member_pieces, ending, root_stack, pieces, ended, build_fault, needed}
 use Rattle.descriptor_entry.proofs.Laws.{first-assoc, size-append, faults-append}
 use Rattle.descriptor_entry_judge.specs.declared.Judged.{Judged}
-use Rattle.descriptor_entry_judge.specs.Judging.{Judges}
+use Rattle.descriptor_entry_judge.specs.Judging.{told_fault, Judges}
 use Rattle.descriptor_build_judge.specs.scaffold.Judging.{Begun}
 
 -- the entries from k on, of n
 abbrev pub entries_from : List ℕ → ℕ → ℕ → List Entry
 entries_from run n k = rows width (λ row. row) run (n - k) k
+
+-- ---- faults
+
+-- the first of two
+pub and-first : (x y : Result Unit Fault) → told_fault (result_and x y) ≡ first_of (told_fault x) (told_fault y)
+and-first (Ok u) y = refl
+and-first (Err f) y = sym (first_some (told_fault (Err f)) (told_fault y) (omega (arith, numbered f)))
 
 -- ---- stacks
 
@@ -204,7 +216,7 @@ module _ (text run : List ℕ) (n : ℕ) where
           unfolding e top
           size-now = g.size_is ∙ ap (λ (p : List Piece). total + size p) ps-are ∙ omega (arith, size-append (head_pieces (due_of l.what l.objects) (row_at width run k)) (member_pieces (entries_from run n more) behind), j.size_is)
 
-          fault-now : r.size ≤ limit → first_of (fault text (pieces all)) (ended all) ≡ first_of (first_of x r.fault) (restFault more behind)
+          fault-now : r.size ≤ limit → first_of (fault text (pieces all)) (ended all) ≡ first_of (first_of x (told_fault r.sound)) (restFault more behind)
           unfolding e top
           fault-now h =
               let hp : List Piece = head_pieces (due_of l.what l.objects) (row_at width run k) in
@@ -217,7 +229,7 @@ module _ (text run : List ℕ) (n : ℕ) where
           pub turn-long : limit < total + r.size → refused 1 0 ≡ needed text all
           turn-long h = too_long (omega (arith, size-now, h))
 
-          module _ (short : total + r.size ≤ limit) (x' : ℕ) (hx : x' ≡ first_of x r.fault) where
+          module _ (short : total + r.size ≤ limit) (x' : ℕ) (hx : x' ≡ first_of x (told_fault r.sound)) where
             stepped : {saved' : List Level} {d' : ℕ} {l' : Level} → behind ≡ settled (dues (l' ∷ levels saved' d')) → d' ≤ 32 → length saved' ≡ 33 → Loop saved' d' l' (total + r.size) x' more
             unfolding more
             stepped b dd rr = record {
@@ -242,7 +254,7 @@ module _ (text run : List ℕ) (n : ℕ) where
 
   -- ---- the start
 
-  pub start : (r : Judged) → Begun text run n r → (saved : List Level) → length saved ≡ 33 → Loop saved 0 (due r.what r.objects r.count) r.size r.fault 1
+  pub start : (r : Judged) → Begun text run n r → (saved : List Level) → length saved ≡ 33 → Loop saved 0 (due r.what r.objects r.count) r.size (told_fault r.sound) 1
   unfolding pieces ended
   start r b saved room =
       let e : Entry = row_at width run 0 in

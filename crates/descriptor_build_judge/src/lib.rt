@@ -8,19 +8,18 @@ ghost use Rattle.std.specs.Prelude.{◌≡◌, ◌+◌, ◌*◌, ◌≤◌, leng
 ghost use Rattle.algebra.specs.Table.{row_at, rows};
 ghost use Rattle.algebra.specs.Writing.{needs};
 ghost use Rattle.algebra.specs.Reader.{pick};
-ghost use Rattle.algebra.specs.Faults.{first_of};
-ghost use Rattle.fields.specs.Answer.{told_written};
+ghost use Rattle.fault.specs.Answer.{told_written};
 ghost use Rattle.descriptor_raw.specs.Raw.{due_of};
 ghost use Rattle.descriptor_entry.specs.Shapes.{width, kind_of, object, shape_of};
 ghost use Rattle.descriptor_entry.specs.Entries.{given, head_pieces, root_pieces, asks, needed};
-ghost use Rattle.descriptor_entry_judge.specs.Judging.{Judges};
+ghost use Rattle.descriptor_entry_judge.specs.Judging.{told_fault, Judges};
 ghost use Rattle.descriptor_build_judge.specs.scaffold.Judging.{Begun};
 
 use descriptor_columns::Level;
 use descriptor_entry::WIDTH;
 use descriptor_entry_judge::Judged;
 use descriptor_judge::LIMIT;
-use fields::Written;
+use fault::Fault;
 
 // ---- an entry of the run
 
@@ -30,8 +29,7 @@ fn judge_at(entries: &[u32], text: &[u8], k: usize, what: u32, objects: u32) -> 
     ensures { Judges text.now (head_pieces (due_of what objects) (row_at width entries.now k)) (asks (shape_of (due_of what objects) (kind_of (row_at width entries.now k))) 0 0 0 (row_at width entries.now k)) result }
 {
     let at = WIDTH * k;
-    let end = at + WIDTH;
-    descriptor_entry_judge::judge_head(&entries[at..end], text, what, objects)
+    descriptor_entry_judge::judge_head(&entries[at..at + WIDTH], text, what, objects)
 }
 
 // The same of the first entry, which is the root's.
@@ -39,44 +37,31 @@ fn judge_first(entries: &[u32], text: &[u8]) -> Judged
     requires { width ≤ length entries.now }
     ensures { Judges text.now (root_pieces (row_at width entries.now 0)) (asks object 0 0 0 (row_at width entries.now 0)) result }
 {
-    let at: usize = 0;
-    let end = WIDTH;
-    descriptor_entry_judge::judge_root(&entries[at..end], text)
+    descriptor_entry_judge::judge_root(&entries[..WIDTH], text)
 }
 
 // ---- the run
 
-// The first of two faults.
-fn first_of(x: u32, y: u32) -> u32
-    ensures { result ≡ first_of x y }
-{
-    if x == 0 {
-        return y;
-    }
-    x
-}
-
-// Entries left over.
-fn left_over(k: usize, n: usize) -> u32
-    ensures { result ≡ pick (ltb k n) 6 0 }
+// Whether no entry is left over.
+fn none_left(k: usize, n: usize) -> Result<(), Fault>
+    ensures { told_fault result ≡ pick (ltb k n) 6 0 }
 {
     if k < n {
-        return 6;
+        return Err(Fault::LeftOver);
     }
-    0
+    Ok(())
 }
 
-fn finish(total: usize, x: u32) -> Written
-    ensures { told_written result ≡ needs x total }
+// The length, where all is sound.
+fn finish(total: usize, sound: Result<(), Fault>) -> Result<usize, Fault>
+    ensures { told_written result ≡ needs (told_fault sound) total }
 {
-    if x == 0 {
-        return Written::Bytes(total);
-    }
-    Written::Refused(x)
+    sound?;
+    Ok(total)
 }
 
 // The n entries, the root's head being judged.
-fn judge_members(entries: &[u32], text: &[u8], n: usize, root: Judged) -> Written
+fn judge_members(entries: &[u32], text: &[u8], n: usize, root: Judged) -> Result<usize, Fault>
     requires { Begun text.now entries.now n root }
     ensures { told_written result ≡ needed text.now (rows width (λ row. row) entries.now n 0) }
 {
@@ -92,12 +77,12 @@ fn judge_members(entries: &[u32], text: &[u8], n: usize, root: Judged) -> Writte
     let mut objects = root.objects;
     let mut left = root.count;
     let mut total = root.size;
-    let mut x = root.fault;
+    let mut sound = root.sound;
     let mut k: usize = 1;
     loop {
         if left == 0 {
             if d == 0 {
-                return finish(total, first_of(x, left_over(k, n)));
+                return finish(total, sound.and(none_left(k, n)));
             }
             d -= 1;
             let level = saved[d];
@@ -107,17 +92,17 @@ fn judge_members(entries: &[u32], text: &[u8], n: usize, root: Judged) -> Writte
             continue;
         }
         if d == 32 {
-            return finish(total, first_of(x, 10));
+            return finish(total, sound.and(Err(Fault::TooDeep)));
         }
         if k == n {
-            return finish(total, first_of(x, 2));
+            return finish(total, sound.and(Err(Fault::Short)));
         }
         let head = judge_at(entries, text, k, what, objects);
         total += head.size;
         if LIMIT < total {
-            return Written::Refused(1);
+            return Err(Fault::TooLong);
         }
-        x = first_of(x, head.fault);
+        sound = sound.and(head.sound);
         left -= 1;
         k += 1;
         if head.count == 0 {
@@ -137,17 +122,17 @@ fn judge_members(entries: &[u32], text: &[u8], n: usize, root: Judged) -> Writte
     }
 }
 
-// The exact length that building needs, or the refusal.
-pub fn write_length(entries: &[u32], text: &[u8]) -> Written
+/// The exact length that building needs, or the refusal.
+pub fn write_length(entries: &[u32], text: &[u8]) -> Result<usize, Fault>
     ensures { told_written result ≡ needed text.now (given entries.now) }
 {
     let n = entries.len() / WIDTH;
     if n == 0 {
-        return Written::Refused(2);
+        return Err(Fault::Short);
     }
     let root = judge_first(entries, text);
     if LIMIT < root.size {
-        return Written::Refused(1);
+        return Err(Fault::TooLong);
     }
     judge_members(entries, text, n, root)
 }

@@ -5,4 +5,4 @@ use Rattle.descriptor_build.proofs.put_word.Goals as goal
 pub returns : goal.returns
 returns c =
     let a = c.args in
-    (P.word-put a.out.now _ a.at a.v c.requires c.put_u32.ensures, refl)
+    (P.word-put a.out.now _ a.at a.v c.requires c.put_number.ensures, refl)

@@ -1,4 +1,5 @@
-use mathlib.Core.Path.{◌≡◌, refl}
+use mathlib.Core.Path.{◌≡◌, refl, ap, ◌∙◌}
+use Rattle.descriptor_entry_judge.specs.Judging.{told_fault}
 use native.Mathlib.Omega.{arith}
 use Rattle.descriptor_build_judge.proofs.Turns as W
 use Rattle.descriptor_build_judge.proofs.judge_members.Goals as goal
@@ -14,7 +15,7 @@ returns-then-d-eq0 c =
     let a = c.args in
     let g = o.invariant in
     let l = W.due o.what o.objects o.left in
-    W.turn_end a.text.now a.entries.now a.n l g c.if-left-eq0.true c.if-d-eq0.true _ _ c.left_over.ensures c.first_of.ensures _ c.finish.ensures
+    W.turn_end a.text.now a.entries.now a.n l g c.if-left-eq0.true c.if-d-eq0.true _ _ c.none_left.ensures (ap told_fault c.and.ensures ∙ W.and-first _ _) _ c.finish.ensures
 
 pub offset_bounds-saved-d : goal.offset_bounds-saved-d
 offset_bounds-saved-d c =
@@ -55,7 +56,7 @@ returns-then-d-eq32 c =
     let a = c.args in
     let g = o.invariant in
     let l = W.due o.what o.objects o.left in
-    W.turn-deep a.text.now a.entries.now a.n l g c.if-left-eq0.false c.if-d-eq32.true _ c.first_of-then-d-eq32.ensures _ c.finish-then-d-eq32.ensures
+    W.turn-deep a.text.now a.entries.now a.n l g c.if-left-eq0.false c.if-d-eq32.true _ (ap told_fault c.and-then-d-eq32.ensures ∙ W.and-first _ _) _ c.finish-then-d-eq32.ensures
 
 pub returns-then-k-n : goal.returns-then-k-n
 returns-then-k-n c =
@@ -63,7 +64,7 @@ returns-then-k-n c =
     let a = c.args in
     let g = o.invariant in
     let l = W.due o.what o.objects o.left in
-    W.turn-short a.text.now a.entries.now a.n l g c.if-left-eq0.false c.if-d-eq32.false c.if-k-n.true _ c.first_of-then-k-n.ensures _ c.finish-then-k-n.ensures
+    W.turn-short a.text.now a.entries.now a.n l g c.if-left-eq0.false c.if-d-eq32.false c.if-k-n.true _ (ap told_fault c.and-then-k-n.ensures ∙ W.and-first _ _) _ c.finish-then-k-n.ensures
 
 pub judge_at-head-requires : goal.judge_at-head-requires
 judge_at-head-requires c =
@@ -114,7 +115,7 @@ loop-left-preserved-then-head-eq0 c =
     let a = c.args in
     let g = o.invariant in
     let l = W.due o.what o.objects o.left in
-    W.turn-leaf a.text.now a.entries.now a.n l g c.if-left-eq0.false c.if-d-eq32.false c.if-k-n.false _ c.judge_at-head.ensures c.if-total-gt-LIMIT.false _ c.first_of-x.ensures c.if-head-eq0.true
+    W.turn-leaf a.text.now a.entries.now a.n l g c.if-left-eq0.false c.if-d-eq32.false c.if-k-n.false _ c.judge_at-head.ensures c.if-total-gt-LIMIT.false _ (ap told_fault c.and-sound.ensures ∙ W.and-first _ _) c.if-head-eq0.true
 
 pub offset_bounds-saved-d-in-loop-left : goal.offset_bounds-saved-d-in-loop-left
 offset_bounds-saved-d-in-loop-left c =
@@ -158,4 +159,4 @@ loop-left-preserved c =
     let a = c.args in
     let g = o.invariant in
     let l = W.due o.what o.objects o.left in
-    W.turn-head a.text.now a.entries.now a.n l g c.if-left-eq0.false c.if-d-eq32.false c.if-k-n.false _ c.judge_at-head.ensures c.if-total-gt-LIMIT.false _ c.first_of-x.ensures
+    W.turn-head a.text.now a.entries.now a.n l g c.if-left-eq0.false c.if-d-eq32.false c.if-k-n.false _ c.judge_at-head.ensures c.if-total-gt-LIMIT.false _ (ap told_fault c.and-sound.ensures ∙ W.and-first _ _)
