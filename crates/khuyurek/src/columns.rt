@@ -7,7 +7,7 @@ ghost use Rattle.khuyurek.specs.Descriptor.{answer_of, read_of, parents_of, pare
 
 use crate::DescriptorAnswer;
 use crate::descriptors::exported;
-use descriptor_judge::Answer;
+use fault::Refusal;
 
 // Number 0 is accepted, with the number of rows; else the refusal.
 #[repr(C)]
@@ -17,12 +17,15 @@ pub struct Parents {
     pub rows: usize,
 }
 
-fn exported_parents(a: Answer) -> Parents
+fn exported_parents(a: Result<usize, Refusal>) -> Parents
     ensures { result ≡ parents_of (told a) }
 {
     match a {
-        Answer::Accepted { rows } => Parents { number: 0, rows },
-        Answer::Refused { number, place: _ } => Parents { number, rows: 0 },
+        Ok(rows) => Parents { number: 0, rows },
+        Err(Refusal(fault, _)) => Parents {
+            number: fault.number(),
+            rows: 0,
+        },
     }
 }
 

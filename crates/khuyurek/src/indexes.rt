@@ -5,8 +5,7 @@ ghost use Rattle.acb_order.specs.Index.{indexed};
 ghost use Rattle.acb_order.specs.Search.{searched};
 ghost use Rattle.khuyurek.specs.Names.{indexed_of, found_of};
 
-use acb_find::Found;
-use acb_index::Indexed;
+use fault::Refusal;
 
 // Number 0 is built, with the number of entries; else the refusal.
 #[repr(C)]
@@ -32,13 +31,13 @@ pub extern "C" fn khuyurek_acb_index(file: &[u8], index: &mut [u32]) -> AcbIndex
     ensures { (result, index.new) ≡ indexed_of (indexed (acb file.now) index.old) }
 {
     match acb_index::build(file, index) {
-        Indexed::Built { shown } => AcbIndexed {
+        Ok(shown) => AcbIndexed {
             number: 0,
             place: 0,
             shown,
         },
-        Indexed::Refused { number, place } => AcbIndexed {
-            number,
+        Err(Refusal(fault, place)) => AcbIndexed {
+            number: fault.number(),
             place,
             shown: 0,
         },
@@ -51,13 +50,13 @@ pub extern "C" fn khuyurek_acb_find(file: &[u8], index: &[u32], name: &[u16]) ->
     ensures { result ≡ found_of (searched index.now name.now (acb file.now)) }
 {
     match acb_find::find(file, index, name) {
-        Found::Is { record } => AcbFound {
+        Ok(record) => AcbFound {
             number: 0,
             place: 0,
             record,
         },
-        Found::Refused { number, place } => AcbFound {
-            number,
+        Err(Refusal(fault, place)) => AcbFound {
+            number: fault.number(),
             place,
             record: 0,
         },

@@ -4,7 +4,8 @@ ghost use Rattle.report.specs.Answer.{told_added, told_merged};
 ghost use Rattle.report.specs.Report.{merged};
 ghost use Rattle.khuyurek.specs.Reports.{report_kind, reported_of, reported_by, merged_of};
 
-use report::{Added, Kind, Merged, Report};
+use fault::{Fault, Refusal};
+use report::{Added, Kind, Report};
 
 // The totals of a report, in the order of `report::Report`.
 #[repr(C)]
@@ -45,17 +46,41 @@ fn report_kind(number: u32) -> Option<Kind>
     }
 }
 
-fn exported_report(a: Added) -> Reported
-    ensures { result ≡ reported_of (told_added a) }
+// The number of a call that gave a report, and the report; else the one given before.
+fn merged_of(before: [u32; 31], after: Result<Report, Fault>) -> MergedReport
+    ensures { result ≡ merged_of (told_merged before after) }
 {
-    let after = a.report;
-    let totals = after.totals;
-    let report = SeasonReport { totals };
-    Reported {
-        number: a.number,
-        file_number: a.refusal,
-        file_place: a.place,
-        report,
+    match after {
+        Ok(report) => MergedReport {
+            number: 0,
+            report: SeasonReport {
+                totals: report.totals,
+            },
+        },
+        Err(fault) => MergedReport {
+            number: fault.number(),
+            report: SeasonReport { totals: before },
+        },
+    }
+}
+
+fn exported_report(before: [u32; 31], a: Added) -> Reported
+    ensures { result ≡ reported_of (told_added before a) }
+{
+    let MergedReport { number, report } = merged_of(before, a.report);
+    match a.file {
+        Ok(()) => Reported {
+            number,
+            file_number: 0,
+            file_place: 0,
+            report,
+        },
+        Err(Refusal(fault, place)) => Reported {
+            number,
+            file_number: fault.number(),
+            file_place: place,
+            report,
+        },
     }
 }
 
@@ -73,21 +98,8 @@ pub extern "C" fn khuyurek_report_add(report: SeasonReport, kind: u32, file: &[u
         },
         Some(known) => {
             let totals = report.totals;
-            let before = Report { totals };
-            exported_report(report::add(before, known, file))
+            exported_report(totals, report::add(Report { totals }, known, file))
         }
-    }
-}
-
-fn exported_merge(m: Merged) -> MergedReport
-    ensures { result ≡ merged_of (told_merged m) }
-{
-    let after = m.report;
-    let totals = after.totals;
-    let report = SeasonReport { totals };
-    MergedReport {
-        number: m.number,
-        report,
     }
 }
 
@@ -98,7 +110,8 @@ pub extern "C" fn khuyurek_report_merge(first: SeasonReport, second: SeasonRepor
 {
     let one = first.totals;
     let other = second.totals;
-    let a = Report { totals: one };
-    let b = Report { totals: other };
-    exported_merge(report::merge(a, b))
+    merged_of(
+        one,
+        report::merge(Report { totals: one }, Report { totals: other }),
+    )
 }

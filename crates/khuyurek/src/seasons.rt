@@ -1,10 +1,12 @@
 // Two palettes compared, for C.
 ghost use Rattle.std.specs.Prelude.{◌≡◌};
-ghost use Rattle.palette_compare.specs.Answer.{told};
+ghost use Rattle.palette_compare.specs.Answer.{told, rejected_by};
 ghost use Rattle.khuyurek.specs.Seasons.{palette_kind, comparison_of, unknown_kind, compared_by};
 
+use aco_judge::Rejection;
+use fault::{Fault, Refusal};
 use palette::Kind;
-use palette_compare::Compared;
+use palette_compare::{CompareError, Comparison};
 
 // Number 0 is compared, with the positions of the longer palette and how many of them differ; else
 // the refusal: of file 1 or 2, with its place and for 7 the record and field, or 0 for 4 and 11.
@@ -45,30 +47,25 @@ fn unknown() -> ComparedAnswer
     }
 }
 
-fn exported_comparison(a: Compared) -> ComparedAnswer
-    ensures { result ≡ comparison_of (told a) }
+fn refused(file: u32, rejection: Rejection) -> ComparedAnswer
+    ensures { result ≡ comparison_of (rejected_by file rejection) }
 {
-    match a {
-        Compared::Is {
-            positions,
-            differences,
-        } => ComparedAnswer {
-            number: 0,
-            file: 0,
-            place: 0,
+    match rejection {
+        Rejection::Refused(Refusal(fault, place)) => ComparedAnswer {
+            number: fault.number(),
+            file,
+            place,
             rec: 0,
             field: 0,
-            positions,
-            differences,
+            positions: 0,
+            differences: 0,
         },
-        Compared::Refused {
-            file,
-            number,
+        Rejection::Differ {
             place,
             record,
             field,
         } => ComparedAnswer {
-            number,
+            number: Fault::ListsDiffer.number(),
             file,
             place,
             rec: record,
@@ -76,6 +73,25 @@ fn exported_comparison(a: Compared) -> ComparedAnswer
             positions: 0,
             differences: 0,
         },
+    }
+}
+
+fn exported_comparison(a: Result<Comparison, CompareError>) -> ComparedAnswer
+    ensures { result ≡ comparison_of (told a) }
+{
+    match a {
+        Ok(comparison) => ComparedAnswer {
+            number: 0,
+            file: 0,
+            place: 0,
+            rec: 0,
+            field: 0,
+            positions: comparison.positions,
+            differences: comparison.differences,
+        },
+        Err(CompareError::First(rejection)) => refused(1, rejection),
+        Err(CompareError::Second(rejection)) => refused(2, rejection),
+        Err(CompareError::NoRoom) => refused(0, Rejection::Refused(Refusal(Fault::NoRoom, 0))),
     }
 }
 

@@ -1,7 +1,8 @@
 // ACO for C.
 ghost use Rattle.std.specs.Prelude.{◌≡◌};
-ghost use Rattle.aco.specs.Reading.{aco};
-ghost use Rattle.algebra.specs.Table.{accepted, refused, verdict, whole};
+ghost use Rattle.aco.specs.Reading.{zero_colour, aco};
+ghost use Rattle.algebra.specs.Table.{refused, verdict, whole};
+ghost use Rattle.aco_read.specs.Answer.{told_swatch};
 ghost use Rattle.aco.specs.Row.{width, taken};
 ghost use Rattle.aco_judge.specs.Answer.{report, told};
 ghost use Rattle.aco_read.specs.Table.{filled, record_at, by_value};
@@ -10,9 +11,9 @@ ghost use Rattle.khuyurek.specs.Written.{written_of, wrote_of};
 ghost use Rattle.khuyurek.specs.Aco.{answer_of, placed, to_record, read_of};
 
 use crate::{Length, exported_length};
-use aco_judge::Answer;
-use aco_read::NamePlace;
-use colour::Colour;
+use aco_judge::{Counts, Rejection};
+use aco_read::SwatchRecord;
+use fault::{Fault, Refusal};
 
 // Number 0 is accepted, with the number of colours and of lists; else the refusal with its place,
 // and for 7 the record and field.
@@ -43,32 +44,32 @@ pub struct AcoRecord {
     pub ink: u32,
 }
 
-fn exported(a: Answer) -> AcoAnswer
+fn exported(a: Result<Counts, Rejection>) -> AcoAnswer
     ensures { result ≡ answer_of (told a) }
 {
     match a {
-        Answer::Accepted { colours, lists } => AcoAnswer {
+        Ok(counts) => AcoAnswer {
             number: 0,
             place: 0,
             rec: 0,
             field: 0,
-            colours,
-            lists,
+            colours: counts.colours,
+            lists: counts.lists,
         },
-        Answer::Refused { number, place } => AcoAnswer {
-            number,
+        Err(Rejection::Refused(Refusal(fault, place))) => AcoAnswer {
+            number: fault.number(),
             place,
             rec: 0,
             field: 0,
             colours: 0,
             lists: 0,
         },
-        Answer::Differ {
+        Err(Rejection::Differ {
             place,
             record,
             field,
-        } => AcoAnswer {
-            number: 7,
+        }) => AcoAnswer {
+            number: Fault::ListsDiffer.number(),
             place,
             rec: record,
             field,
@@ -94,34 +95,25 @@ pub extern "C" fn khuyurek_aco_read(file: &[u8], table: &mut [u32]) -> AcoAnswer
     exported(aco_read::read(file, table))
 }
 
-fn found(colour: Colour, name: usize, units: u32, ink: u32) -> AcoRecord
-    ensures { result ≡ placed colour ink (accepted (name, units)) }
+fn found(swatch: SwatchRecord) -> AcoRecord
+    ensures { result ≡ to_record (told_swatch swatch) }
 {
-    let samples = colour.samples;
     AcoRecord {
         number: 0,
-        units,
+        units: swatch.name.units,
         place: 0,
         rec: 0,
         field: 0,
-        name,
-        space: colour.space,
-        samples,
-        ink,
+        name: swatch.name.first,
+        space: swatch.colour.space,
+        samples: swatch.colour.samples,
+        ink: swatch.ink.number(),
     }
 }
 
-fn missing(
-    colour: Colour,
-    number: u32,
-    place: usize,
-    rec: usize,
-    field: usize,
-    ink: u32,
-) -> AcoRecord
-    ensures { result ≡ placed colour ink (refused number place rec field) }
+fn missing(number: u32, place: usize, rec: usize, field: usize) -> AcoRecord
+    ensures { result ≡ placed zero_colour 0 (refused number place rec field) }
 {
-    let samples = colour.samples;
     AcoRecord {
         number,
         units: 0,
@@ -129,9 +121,9 @@ fn missing(
         rec,
         field,
         name: 0,
-        space: colour.space,
-        samples,
-        ink,
+        space: 0,
+        samples: [0; 4],
+        ink: 0,
     }
 }
 
@@ -140,19 +132,14 @@ fn missing(
 pub extern "C" fn khuyurek_aco_record_at(file: &[u8], i: usize) -> AcoRecord
     ensures { result ≡ to_record (by_value (record_at i (aco file.now))) }
 {
-    let swatch = aco_read::record_at(file, i);
-    let colour = swatch.colour;
-    let name = swatch.name;
-    let stated = swatch.ink;
-    let ink = stated.number();
-    match name {
-        NamePlace::At { place, units } => found(colour, place, units, ink),
-        NamePlace::Refused { number, place } => missing(colour, number, place, 0, 0, ink),
-        NamePlace::Differ {
+    match aco_read::record_at(file, i) {
+        Ok(swatch) => found(swatch),
+        Err(Rejection::Refused(Refusal(fault, place))) => missing(fault.number(), place, 0, 0),
+        Err(Rejection::Differ {
             place,
             record,
             field,
-        } => missing(colour, 7, place, record, field, ink),
+        }) => missing(Fault::ListsDiffer.number(), place, record, field),
     }
 }
 

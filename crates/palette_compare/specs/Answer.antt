@@ -1,17 +1,21 @@
 -- What each answer of the code says.
-use Rattle.std.specs.Prelude.{Result, Ok, Err}
+use Rattle.std.specs.Prelude.{ℕ, Result, Ok, Err}
 use Rattle.palette_compare.specs.Compare.{Comparison, compared, refused_by}
 use Rattle.fault.specs.Fault.{number_of}
+use Rattle.aco_judge.specs.declared.Rejection.{Rejection}
 use Rattle.aco_judge.specs.declared.Rejection.TheVariants as rejection
 use Rattle.palette_compare.specs.declared.Comparison.{Comparison as Counted}
 use Rattle.palette_compare.specs.declared.CompareError.{CompareError}
 use Rattle.palette_compare.specs.declared.CompareError.TheVariants as error
 
+-- the rejection of file w
+abbrev pub rejected_by : ℕ → Rejection → Comparison
+rejected_by w (rejection.Refused e) = refused_by w (number_of e.0) e.1 0 0
+rejected_by w (rejection.Differ p r f) = refused_by w 7 p r f
+
 abbrev pub told_error : CompareError → Comparison
-told_error (error.First (rejection.Refused e)) = refused_by 1 (number_of e.0) e.1 0 0
-told_error (error.First (rejection.Differ p r f)) = refused_by 1 7 p r f
-told_error (error.Second (rejection.Refused e)) = refused_by 2 (number_of e.0) e.1 0 0
-told_error (error.Second (rejection.Differ p r f)) = refused_by 2 7 p r f
+told_error (error.First r) = rejected_by 1 r
+told_error (error.Second r) = rejected_by 2 r
 told_error error.NoRoom = refused_by 0 11 0 0 0
 
 abbrev pub told : Result Counted CompareError → Comparison

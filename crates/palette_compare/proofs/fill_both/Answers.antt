@@ -17,11 +17,6 @@ pub overflow_add-differences : goal.overflow_add-differences
 overflow_add-differences c =
     omega (arith, c.loop-i.invariant.few, c.counted-differences.ensures, marked-one (eqb c.kind_at-kind.result 0))
 
-pub overflow_add-i : goal.overflow_add-i
-overflow_add-i c =
-    let a = c.args in
-    omega (arith, few-positions _ _ a.first.now a.second.now (λ k. omega (arith, c.type_inv.first k)) (λ k. omega (arith, c.type_inv.second k)) a.n a.table.now _ _ _ _ c.loop-i.i c.loop-i.invariant c.loop-i-test.true)
-
 pub loop-i-preserved : goal.loop-i-preserved
 loop-i-preserved c =
     let a = c.args in

@@ -7,6 +7,3 @@ use Rattle.palette_compare.proofs.fill_rest.Given as goal
 
 abbrev pub invariant-loop-i : goal.invariant-loop-i
 invariant-loop-i l = (l.i ≤ l.to) × (length l.table ≡ length l.initial.table) × (sets l.initial.table (2 * l.from) (rows l.from (replicate (l.to - l.from) l.kind)) ≡ sets l.table (2 * l.i) (rows l.i (replicate (l.to - l.i) l.kind)))
-
-abbrev pub decreases-loop-i : goal.decreases-loop-i
-decreases-loop-i l = l.to - l.i

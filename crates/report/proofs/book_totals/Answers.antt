@@ -7,15 +7,15 @@ use Rattle.report.proofs.book_totals.Goals as goal
 
 pub count_records-requires : goal.count_records-requires
 count_records-requires c =
-    let b = book-judged c.args.file.now (sym (ap told c.in-Accepted.is) ∙ c.judge.ensures) in
+    let b = book-judged c.args.file.now c.in-Ok.ensures in
     (book-few c.args.file.now (λ k. omega (arith, c.type_inv.file k)) b, begun-low _ 0 c.tally.ensures)
 
-pub returns-in-Refused : goal.returns-in-Refused
-returns-in-Refused c =
+pub returns-in-Err : goal.returns-in-Err
+returns-in-Err c =
     let a = c.args in
-    c.refused.ensures ∙ book-refused a.file.now (sym (ap told c.in-Refused.is) ∙ c.judge.ensures)
+    c.refused.ensures ∙ book-refused a.file.now c.in-Err.ensures
 
-pub returns-in-Accepted : goal.returns-in-Accepted
-returns-in-Accepted c =
+pub returns-in-Ok : goal.returns-in-Ok
+returns-in-Ok c =
     let a = c.args in
-    book-accepted a.file.now (book-judged a.file.now (sym (ap told c.in-Accepted.is) ∙ c.judge.ensures)) _ _ (begun _ 0 c.tally.ensures) c.count_records.ensures
+    book-accepted a.file.now (book-judged a.file.now c.in-Ok.ensures) _ _ (begun _ 0 c.tally.ensures) c.count_records.ensures

@@ -11,12 +11,12 @@ loop-i-init c =
 pub tally_two-requires : goal.tally_two-requires
 tally_two-requires c =
     let a = c.args in
-    colours-low _ a.file.now (λ k. omega (arith, c.type_inv.file k)) a.n a.totals.now c.loop-i.totals c.loop-i.p c.loop-i.i c.loop-i.invariant c.loop-i-test.true
+    colours-low _ a.file.now (λ k. omega (arith, c.type_inv.file k)) a.n a.totals.now c.loop-i.totals c.loop-i.p c.loop-i._i c.loop-i.invariant c.loop-i-test.true
 
 pub loop-i-preserved : goal.loop-i-preserved
 loop-i-preserved c =
     let a = c.args in
-    count_turn _ a.file.now (λ k. omega (arith, c.type_inv.file k)) a.n a.totals.now c.loop-i.totals c.loop-i.p c.loop-i.i c.loop-i.invariant c.loop-i-test.true
+    count_turn _ a.file.now (λ k. omega (arith, c.type_inv.file k)) a.n a.totals.now c.loop-i.totals c.loop-i.p c.loop-i._i c.loop-i.invariant c.loop-i-test.true
     c.step_at-x.result c.tag_place-place.result c.units_place.result _ c.step_at-x.ensures c.tag_place-place.ensures c.units_place.ensures c.tally_two.ensures
 
 pub shape_of-totals : goal.shape_of-totals
@@ -25,4 +25,4 @@ shape_of-totals c = c.loop-i.invariant.low.long ∙ sym c.requires.1.long
 pub returns : goal.returns
 returns c =
     let a = c.args in
-    count-end a.kind a.file.now a.n a.totals.now _ c.loop-i.totals c.loop-i.p c.loop-i.i c.view_of-view.ensures c.loop-i-test.false c.loop-i.invariant
+    count-end a.kind a.file.now a.n a.totals.now _ c.loop-i.totals c.loop-i.p c.loop-i._i c.view_of-view.ensures c.loop-i-test.false c.loop-i.invariant

@@ -13,12 +13,12 @@ loop-i-init c =
 pub tally_record-requires : goal.tally_record-requires
 tally_record-requires c =
     let a = c.args in
-    shelf-low a.space a.file.now a.n a.first a.totals.now c.loop-i.totals c.loop-i.p c.loop-i.i c.loop-i.invariant c.loop-i-test.true c.requires.0
+    shelf-low a.space a.file.now a.n a.first a.totals.now c.loop-i.totals c.loop-i.p c.loop-i._i c.loop-i.invariant c.loop-i-test.true c.requires.0
 
 pub loop-i-preserved : goal.loop-i-preserved
 loop-i-preserved c =
     let a = c.args in
-    shelf-turn a.space a.file.now a.n a.first a.totals.now c.loop-i.totals c.loop-i.p c.loop-i.i c.loop-i.invariant c.loop-i-test.true _ _ _
+    shelf-turn a.space a.file.now a.n a.first a.totals.now c.loop-i.totals c.loop-i.p c.loop-i._i c.loop-i.invariant c.loop-i-test.true _ _ _
     (ap (λ (l : ℕ × ℕ). l.1) c.text_place-text.ensures ∙ ap (λ (r : RecordPlaces × ℕ). (name_place_of r.0.name).1) c.step_at-step.ensures) (ap (λ (r : RecordPlaces × ℕ). r.1) c.step_at-step.ensures) c.tally_record.ensures
 
 pub shape_of-totals : goal.shape_of-totals
@@ -27,4 +27,4 @@ shape_of-totals c = c.loop-i.invariant.low.long ∙ sym c.requires.1.long
 pub returns : goal.returns
 returns c =
     let a = c.args in
-    shelf-end a.space a.file.now a.n a.first a.totals.now c.loop-i.totals c.loop-i.p c.loop-i.i c.loop-i.invariant c.loop-i-test.false
+    shelf-end a.space a.file.now a.n a.first a.totals.now c.loop-i.totals c.loop-i.p c.loop-i._i c.loop-i.invariant c.loop-i-test.false

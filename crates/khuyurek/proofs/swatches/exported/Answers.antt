@@ -3,11 +3,5 @@ use Rattle.khuyurek.specs.Aco.{answer_of}
 use Rattle.aco_judge.specs.Answer.{told}
 use Rattle.khuyurek.proofs.swatches.exported.Goals as goal
 
-pub returns-in-Accepted : goal.returns-in-Accepted
-returns-in-Accepted c = sym (ap (λ (v : _). answer_of (told v)) c.in-Accepted.is)
-
-pub returns-in-Refused : goal.returns-in-Refused
-returns-in-Refused c = sym (ap (λ (v : _). answer_of (told v)) c.in-Refused.is)
-
-pub returns-in-Differ : goal.returns-in-Differ
-returns-in-Differ c = sym (ap (λ (v : _). answer_of (told v)) c.in-Differ.is)
+pub returns-in-Ok : goal.returns-in-Ok
+returns-in-Ok c = sym (ap (λ (v : _). answer_of (told v)) c.in-Ok.is)
