@@ -1,12 +1,11 @@
 // Channels to samples.
-ghost use Rattle.std.specs.Prelude.{◌≡◌, true, map, ◌≤◌, length};
+ghost use Rattle.std.specs.Prelude.{◌≡◌, ℕ, true, map, ◌≤◌, length};
 ghost use Rattle.std.proofs.lemmas.List.Edits.{sets};
 ghost use Rattle.algebra.specs.Reader.{pick};
 ghost use Rattle.conversion.specs.Convert.{gives, and_then, to_sample};
-ghost use Rattle.conversion.specs.Scale.{sample_of_bits};
 ghost use Rattle.conversion.specs.Tray.{converted_in_order, samples_of};
 ghost use Rattle.tray.specs.Answer.{told};
-ghost use Rattle.tray.specs.scaffold.Parts.{Passed, First, unit, inked, converted, results, judged};
+ghost use Rattle.tray.specs.scaffold.Parts.{Passed, First, Gives, unit, converted, results, judged};
 
 use colour::{Model, is_channel};
 use convert::{gray_sample, rgb_sample, to_sample};
@@ -71,33 +70,14 @@ fn judge(tag: u32, bits: &[u32]) -> Result<(), Refusal>
     judge_first(tag, bits[0])
 }
 
-// The samples of RGB.
-fn fill_rgb(bits: &[u32], out: &mut [u16])
-    requires { length bits.now ≤ length out.old }
-    ensures { out.new ≡ sets out.old 0 (map (sample_of_bits 65535) bits.now) }
+// Stores what each channel becomes, in their order.
+fn store_each<F: Fn(u32) -> u16>(bits: &[u32], out: &mut [u16], sample: F)
+    requires always { F.IsAlwaysCallable sample }
+    requires room { length bits.now ≤ length out.old }
+    ensures { (g : ℕ → ℕ) → Gives (F.post sample) g bits.now → out.new ≡ sets out.old 0 (map g bits.now) }
 {
     for i in 0..bits.len() {
-        out[i] = rgb_sample(bits[i]);
-    }
-}
-
-// The samples of CMYK, taken from the full scale.
-fn fill_cmyk(bits: &[u32], out: &mut [u16])
-    requires { length bits.now ≤ length out.old }
-    ensures { out.new ≡ sets out.old 0 (map inked bits.now) }
-{
-    for i in 0..bits.len() {
-        out[i] = Model::CMYK.full - rgb_sample(bits[i]);
-    }
-}
-
-// The samples of gray.
-fn fill_gray(bits: &[u32], out: &mut [u16])
-    requires { length bits.now ≤ length out.old }
-    ensures { out.new ≡ sets out.old 0 (map (sample_of_bits 10000) bits.now) }
-{
-    for i in 0..bits.len() {
-        out[i] = gray_sample(bits[i]);
+        out[i] = sample(bits[i]);
     }
 }
 
@@ -107,15 +87,15 @@ fn fill(tag: u32, bits: &[u32], out: &mut [u16])
     ensures { out.new ≡ sets out.old 0 (results (converted_in_order (to_sample tag) 0 bits.now)) }
 {
     if tag == Model::RGB.tag {
-        fill_rgb(bits, out);
+        store_each(bits, out, |channel| rgb_sample(channel));
         return;
     }
     if tag == Model::CMYK.tag {
-        fill_cmyk(bits, out);
+        store_each(bits, out, |channel| Model::CMYK.full - rgb_sample(channel));
         return;
     }
     if tag == Model::GRAY.tag {
-        fill_gray(bits, out);
+        store_each(bits, out, |channel| gray_sample(channel));
         return;
     }
 }

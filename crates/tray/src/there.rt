@@ -1,10 +1,10 @@
 // Samples to channels.
-ghost use Rattle.std.specs.Prelude.{◌≡◌, true, map, ◌≤◌, length};
+ghost use Rattle.std.specs.Prelude.{◌≡◌, ℕ, true, map, ◌≤◌, length};
 ghost use Rattle.std.proofs.lemmas.List.Edits.{sets};
 ghost use Rattle.conversion.specs.Convert.{gives, and_then, to_channel};
 ghost use Rattle.conversion.specs.Tray.{converted_in_order, to_bits_of, channels_of};
 ghost use Rattle.tray.specs.Answer.{told};
-ghost use Rattle.tray.specs.scaffold.Parts.{Passed, First, low, plain, turned, results, judged};
+ghost use Rattle.tray.specs.scaffold.Parts.{Passed, First, Gives, low, results, judged};
 
 use colour::{CMYK, GRAY, Model, RGB, bits_of};
 use convert::{quotient, to_channel};
@@ -64,23 +64,14 @@ fn judge(space: u16, samples: &[u16]) -> Result<(), Refusal>
     }
 }
 
-// The channels of a scale to `full`.
-fn fill_plain(full: u16, samples: &[u16], out: &mut [u32])
-    requires { length samples.now ≤ length out.old }
-    ensures { out.new ≡ sets out.old 0 (map (plain full) samples.now) }
+// Stores what each sample becomes, in their order.
+fn store_each<F: Fn(u16) -> u32>(samples: &[u16], out: &mut [u32], channel: F)
+    requires always { F.IsAlwaysCallable channel }
+    requires room { length samples.now ≤ length out.old }
+    ensures { (g : ℕ → ℕ) → Gives (F.post channel) g samples.now → out.new ≡ sets out.old 0 (map g samples.now) }
 {
     for i in 0..samples.len() {
-        out[i] = bits_of(quotient(full, samples[i]));
-    }
-}
-
-// The channels of CMYK.
-fn fill_turned(samples: &[u16], out: &mut [u32])
-    requires { length samples.now ≤ length out.old }
-    ensures { out.new ≡ sets out.old 0 (map turned samples.now) }
-{
-    for i in 0..samples.len() {
-        out[i] = bits_of(quotient(Model::CMYK.full, Model::CMYK.full - samples[i]));
+        out[i] = channel(samples[i]);
     }
 }
 
@@ -90,9 +81,21 @@ fn fill(space: u16, samples: &[u16], out: &mut [u32])
     ensures { out.new ≡ sets out.old 0 (results (converted_in_order (to_bits_of space) 0 samples.now)) }
 {
     match space {
-        RGB => fill_plain(Model::RGB.full, samples, out),
-        CMYK => fill_turned(samples, out),
-        GRAY => fill_plain(Model::GRAY.full, samples, out),
+        RGB => store_each(
+            samples,
+            out,
+            |sample| bits_of(quotient(Model::RGB.full, sample)),
+        ),
+        CMYK => store_each(
+            samples,
+            out,
+            |sample| bits_of(quotient(Model::CMYK.full, Model::CMYK.full - sample)),
+        ),
+        GRAY => store_each(
+            samples,
+            out,
+            |sample| bits_of(quotient(Model::GRAY.full, sample)),
+        ),
         _ => {}
     }
 }

@@ -16,6 +16,10 @@ abbrev pub First : (ℕ → Bool) → List ℕ → Option ℕ → Type 0
 First ok xs (Some i) = (i < length xs) × Passed ok xs i × (ok (get_or xs i 0) ≡ false)
 First ok xs None = Passed ok xs (length xs)
 
+-- what is had of each element is what g gives for it
+abbrev pub Gives : (ℕ → ℕ → Type 0) → (ℕ → ℕ) → List ℕ → Type 0
+Gives Had g xs = (j y : ℕ) → j < length xs → Had (get_or xs j 0) y → y ≡ g (get_or xs j 0)
+
 -- a gray sample on its scale
 abbrev pub low : ℕ → Bool
 low v = leb v 10000

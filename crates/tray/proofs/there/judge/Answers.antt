@@ -11,10 +11,10 @@ pub returns-in-Some : goal.returns-in-Some
 returns-in-Some c = let a = c.args in gray-stopped a.space a.samples.now c.in-8.is _ c.in-Some.ensures
 
 pub returns-in-0 : goal.returns-in-0
-returns-in-0 c = let a = c.args in rgb-judged a.space a.samples.now c.in-0.is (λ j. (c.shared_slice_known-1.given j).fits)
+returns-in-0 c = let a = c.args in rgb-judged a.space a.samples.now c.in-0.is (λ j. omega (arith, c.type_inv.samples j))
 
 pub returns-in-2 : goal.returns-in-2
-returns-in-2 c = let a = c.args in cmyk-judged a.space a.samples.now c.in-2.is (λ j. (c.shared_slice_known-1.given j).fits)
+returns-in-2 c = let a = c.args in cmyk-judged a.space a.samples.now c.in-2.is (λ j. omega (arith, c.type_inv.samples j))
 
 pub returns-in-None : goal.returns-in-None
 returns-in-None c = let a = c.args in gray-judged a.space a.samples.now c.in-8.is c.in-None.ensures

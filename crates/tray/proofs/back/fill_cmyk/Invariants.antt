@@ -1,9 +1,0 @@
-use mathlib.Core.Path.{◌≡◌}
-use mathlib.Core.List.{map}
-use lib.ListN.{length, drop}
-use lib.Seq.{sets}
-use Rattle.tray.specs.scaffold.Parts.{inked}
-use Rattle.tray.proofs.back.fill_cmyk.Given as goal
-
-abbrev pub invariant-loop-i : goal.invariant-loop-i
-invariant-loop-i l = (length l.out ≡ length l.initial.out) × (sets l.initial.out 0 (map inked l.bits) ≡ sets l.out l.i (drop l.i (map inked l.bits)))
