@@ -93,8 +93,8 @@ passes-colours start bytes n i at store fits zero s o l r e q w h p after u = ab
 pub pos : {m : ℕ} → (m ≡ 0 → ⊥) → 0 < m
 pos h = omega arith
 
-pub closes : (m : ℕ) (bytes : List ℕ) (at q : ℕ) → 0 < m → q ≡ at + m * 2 → at + m * 2 ≤ length bytes → any_zero (nums 2 (m - 1) bytes at) ≡ false → or_zero (field 2 bytes (at + (m - 1) * 2)) ≡ 0 → 0 < q → Closed m bytes at q
-closes m bytes at q o e w n l h =
+pub closes : (m : ℕ) (bytes : List ℕ) (at q : ℕ) → 0 < m → q ≡ at + m * 2 → at + m * 2 ≤ length bytes → any_zero (nums 2 (m - 1) bytes at) ≡ false → or_zero (field 2 bytes (at + (m - 1) * 2)) ≡ 0 → Closed m bytes at q
+closes m bytes at q o e w n l =
     let f : field 2 bytes (at + (m - 1) * 2) ≡ ok (num 2 bytes (at + (m - 1) * 2)) (at + (m - 1) * 2 + 2) = field_in 2 bytes (at + (m - 1) * 2) (omega (arith, o, w)) in
     record { some = o; ends = e; inside = omega (arith, e, w); none = n; last = sym (ap or_zero f) ∙ l }
 

@@ -1,7 +1,7 @@
 // What stands whole in a chunk, passed at once: colours of list 1, records of list 2, a name's units.
 #![tactic(auto)]
 
-ghost use Rattle.std.specs.Prelude.{◌≡◌, ℕ, ◌+◌, ◌-◌, ◌*◌, ◌≤◌, ◌<◌, List, true, length};
+ghost use Rattle.std.specs.Prelude.{◌≡◌, ℕ, ◌+◌, ◌*◌, ◌≤◌, ◌<◌, List, IfSome, true, length};
 ghost use Rattle.algebra.specs.Reader.{limit, pick};
 ghost use Rattle.algebra.specs.Numbers.{nums};
 ghost use Rattle.algebra.specs.Text.{any_zero};
@@ -9,10 +9,10 @@ ghost use Rattle.aco_chunks.specs.Chunks.{size};
 ghost use Rattle.aco_pass.specs.scaffold.Parts.{Passes, PassesWith, Sounds, Closed, SameAs, Headed};
 
 use aco_chunks::Stage;
-use fields::FieldEnd;
+use fields::{number_or_zero, put_run};
 
-// What is passed at once: the stage behind it, and where it ends.
-#[derive(Drop)]
+/// What is passed at once: the stage behind it, and where it ends.
+#[derive(Clone, Copy, Debug, PartialEq, Eq)]
 pub struct Passed {
     pub stage: Stage,
     pub at: usize,
@@ -24,19 +24,9 @@ fn zero_in(bytes: &[u8], at: usize, k: u32, zero: bool) -> bool
     ensures { result ≡ pick (any_zero (nums 2 k bytes.now at)) true zero }
 {
     match names::text_at(bytes, at, k) {
-        FieldEnd::Next(_) => zero,
-        FieldEnd::Refused(_, _) => true,
+        Ok(_) => zero,
+        Err(_) => true,
     }
-}
-
-// The smaller of two numbers, the second of 32 bits.
-fn fewer(n: usize, m: u32) -> u32
-    ensures { (result ≤ n) × (result ≤ m) }
-{
-    if n < (m as usize) {
-        return n as u32;
-    }
-    m
 }
 
 // The units of a name from `at` that stand whole.
@@ -57,7 +47,7 @@ fn pass_units(
         let stage = Stage::Unit(count, index, place, left, zero);
         return Passed { stage, at };
     }
-    let k = fewer(whole, aco_items::less(left));
+    let k = whole.min(left.saturating_sub(1) as usize) as u32;
     let found = zero_in(bytes, at, k, zero);
     let end = at + 2 * (k as usize);
     let more = left - k;
@@ -69,7 +59,7 @@ fn pass_units(
         let stage = Stage::Unit(count, index, place, 1, found);
         return Passed { stage, at: end };
     }
-    let u = fields::u16_or_zero(bytes, end);
+    let u = number_or_zero::<u16>(bytes, end);
     Passed {
         stage: aco_items::unit_of(count, index, place, 1, found, u as u32),
         at: end + 2,
@@ -81,11 +71,7 @@ fn due_of(count: usize, index: usize, whole: usize, room: usize) -> usize
     requires { (count ≤ 65535) × (index ≤ 65535) }
     ensures { (result ≤ whole) × (0 < result → (index + result ≤ count) × (index + result ≤ room)) }
 {
-    let end = aco_items::least(count, room);
-    if end <= index {
-        return 0;
-    }
-    aco_items::least(end - index, whole)
+    count.min(room).saturating_sub(index).min(whole)
 }
 
 // How many of n colours from `at` have no fault, up to the first that has one.
@@ -93,21 +79,15 @@ fn sound_in(bytes: &[u8], at: usize, n: usize) -> usize
     requires { (at + 10 * n ≤ length bytes.now) × (length bytes.now ≤ limit) }
     ensures { (result ≤ n) × (Sounds result bytes.now at) }
 {
-    let mut k: usize = 0;
-    let mut p = at;
-    while k < n {
+    for k in 0..n {
+        let p = at + 10 * k;
         let e = p + 10;
         match aco_judge::colour_at(&bytes[p..e], 0) {
-            FieldEnd::Next(_) => {
-                p = e;
-                k += 1;
-            }
-            FieldEnd::Refused(_, _) => {
-                return k;
-            }
+            Ok(_) => {}
+            Err(_) => return k,
         }
     }
-    k
+    n
 }
 
 // The colours of list 1 from `at` that stand whole, up to the first with a fault.
@@ -131,33 +111,33 @@ fn pass_colours(count: u16, index: u16, store: &mut [u8], bytes: &[u8], at: usiz
         };
     }
     let end = at + 10 * k;
-    fields::put_run(store, 10 * (index as usize), &bytes[at..end]);
+    put_run(store, 10 * (index as usize), &bytes[at..end]);
     Passed {
         stage: aco_items::colours_of(count, (index as usize) + k),
         at: end,
     }
 }
 
-// Where m units from `at` end, if they are all there, the last is zero and no other; else 0.
-fn name_end(bytes: &[u8], at: usize, m: u32) -> usize
+// Where m units from `at` end, if they are all there, the last is zero and no other.
+fn name_end(bytes: &[u8], at: usize, m: u32) -> Option<usize>
     requires { (at ≤ length bytes.now) × (length bytes.now ≤ limit) }
-    ensures { 0 < result → Closed m bytes.now at result }
+    ensures { IfSome result (λ q. Closed m bytes.now at q) }
 {
     let rest = bytes.len() - at;
     if m == 0 {
-        return 0;
+        return None;
     }
     if rest / 2 < (m as usize) {
-        return 0;
+        return None;
     }
     let k = m - 1;
     let last = at + 2 * (k as usize);
-    if fields::u16_or_zero(bytes, last) != 0 {
-        return 0;
+    if number_or_zero::<u16>(bytes, last) != 0 {
+        return None;
     }
     match names::text_at(bytes, at, k) {
-        FieldEnd::Next(_) => last + 2,
-        FieldEnd::Refused(_, _) => 0,
+        Ok(_) => Some(last + 2),
+        Err(_) => None,
     }
 }
 
@@ -175,27 +155,31 @@ fn is_same(head: &[u8], store: &[u8], first: usize) -> bool
     }
     let last = first + 10;
     let colour = &store[first..last];
-    if fields::u64_or_zero(head, 0) != fields::u64_or_zero(colour, 0) {
+    if number_or_zero::<u64>(head, 0) != number_or_zero::<u64>(colour, 0) {
         return false;
     }
-    fields::u16_or_zero(head, 8) == fields::u16_or_zero(colour, 8)
+    number_or_zero::<u16>(head, 8) == number_or_zero::<u16>(colour, 8)
 }
 
 // How many units the name of record `index` of list 2 has, whose head stands whole from `at` and
-// has no fault; else 0.
-fn head_of(store: &[u8], bytes: &[u8], index: u16, at: usize) -> u32
+// has no fault.
+fn head_of(store: &[u8], bytes: &[u8], index: u16, at: usize) -> Option<u32>
     requires { at ≤ length bytes.now }
-    ensures { 0 < result → Headed index store.now bytes.now at result }
+    ensures { IfSome result (λ m. (0 < m) × Headed index store.now bytes.now at m) }
 {
     if bytes.len() - at < 14 {
-        return 0;
+        return None;
     }
     let end = at + 14;
     let head = &bytes[at..end];
-    if is_same(head, store, 10 * (index as usize)) {
-        return fields::u32_or_zero(head, 10);
+    if !is_same(head, store, 10 * (index as usize)) {
+        return None;
     }
-    0
+    let m = number_or_zero::<u32>(head, 10);
+    if m == 0 {
+        return None;
+    }
+    Some(m)
 }
 
 // The records of list 2 from `at` that stand whole and have no fault, and the head of the next.
@@ -214,22 +198,18 @@ fn pass_records(
         let stage = Stage::Entry(count, index);
         return Passed { stage, at };
     }
-    let mut i = index;
     let mut p = at;
-    while i < count {
-        let m = head_of(store, bytes, i, p);
-        if m == 0 {
+    for i in index..count {
+        let Some(m) = head_of(store, bytes, i, p) else {
             let stage = Stage::Entry(count, i);
             return Passed { stage, at: p };
-        }
+        };
         let body = p + 14;
-        let q = name_end(bytes, body, m);
-        if q == 0 {
+        let Some(q) = name_end(bytes, body, m) else {
             let stage = Stage::Unit(count, i, (start + p + 10) as u32, m, false);
             return Passed { stage, at: body };
-        }
+        };
         p = q;
-        i += 1;
     }
     Passed {
         stage: Stage::End(count),
@@ -267,7 +247,7 @@ fn pass_within(stage: Stage, start: usize, store: &mut [u8], bytes: &[u8], at: u
     }
 }
 
-// The same where `got` bytes are carried: nothing within an item that has begun.
+/// What can be passed at once from `at`, where `got` bytes are carried: nothing within an item that has begun.
 pub fn pass(
     stage: Stage,
     got: usize,

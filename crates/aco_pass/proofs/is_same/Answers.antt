@@ -17,8 +17,8 @@ returns-then-n-lt10 c = λ e. absurd (true≢false (sym e))
 pub returns-then-n-first : goal.returns-then-n-first
 returns-then-n-first c = λ e. absurd (true≢false (sym e))
 
-pub returns-then-u64_or_zero : goal.returns-then-u64_or_zero
-returns-then-u64_or_zero c = λ e. absurd (true≢false (sym e))
+pub returns-then-number_or_zero : goal.returns-then-number_or_zero
+returns-then-number_or_zero c = λ e. absurd (true≢false (sym e))
 
 pub returns : goal.returns
 returns c =
@@ -27,11 +27,11 @@ returns c =
     let s = a.head.now in
     let t = a.store.now in
     let j = a.first + 10 - a.first in
-    let high = c.u64_or_zero.ensures ∙ ap or_zero (field_in 8 s 0 (omega (arith, n))) in
-    let high₂ = load_part 8 t a.first j 0 _ (omega arith) (omega arith) c.u64_or_zero-2.ensures ∙ ap (num 8 t) (add-zero a.first) in
-    let low = c.u16_or_zero.ensures ∙ ap or_zero (field_in 2 s 8 (omega (arith, n))) in
-    let low₂ = load_part 2 t a.first j 8 _ (omega arith) (omega arith) c.u16_or_zero-2.ensures in
+    let high = c.number_or_zero.ensures ∙ ap or_zero (field_in 8 s 0 (omega (arith, n))) in
+    let high₂ = load_part 8 t a.first j 0 _ (omega arith) (omega arith) c.number_or_zero-2.ensures ∙ ap (num 8 t) (add-zero a.first) in
+    let low = c.number_or_zero-3.ensures ∙ ap or_zero (field_in 2 s 8 (omega (arith, n))) in
+    let low₂ = load_part 2 t a.first j 8 _ (omega arith) (omega arith) c.number_or_zero-4.ensures in
     λ e. (
       omega arith,
-      ten-same s t (λ i. omega (arith, c.type_inv.head i)) (λ i. omega (arith, c.type_inv.store i)) a.first (sym high ∙ c.if-u64_or_zero.false ∙ high₂) (sym low ∙ eqb-true _ _ e ∙ low₂),
+      ten-same s t (λ i. omega (arith, c.type_inv.head i)) (λ i. omega (arith, c.type_inv.store i)) a.first (sym high ∙ c.if-number_or_zero.false ∙ high₂) (sym low ∙ eqb-true _ _ e ∙ low₂),
     )
