@@ -15,24 +15,27 @@ use Rattle.colour.specs.declared.space.Colour.{Colour}
 use Rattle.colour.specs.Spaces.{known, allowed, sound}
 use Rattle.aco.specs.Reading.{colour, Entry, Contents, zero_colour, unnamed, aco}
 use Rattle.algebra.specs.Table.{accepted, refused, verdict}
-use Rattle.aco_judge.specs.Answer.{report}
+use Rattle.std.specs.Prelude.{Err, Some, None}
+use Rattle.aco_judge.specs.Answer.{report, rejected}
+use Rattle.aco_judge.specs.declared.Rejection.{Rejection}
+use Rattle.aco_judge.specs.declared.Rejection.TheVariants as rejection
 use Rattle.aco.proofs.Raw.{Good, colour-inv}
-use Rattle.aco_judge.proofs.Judging.{colour-sound}
+use Rattle.aco_judge.proofs.Judging.{colour-sound, rejecting}
 use Rattle.aco_read.proofs.Filling.{five}
 use Rattle.algebra.proofs.Table.{accepted-of, refused-of}
 use Rattle.walk.specs.Walk as w
 use Rattle.walk.proofs.Calls.{step-over, step-elsewhere}
 use Rattle.aco_walk.specs.Walking.{count_of, is_plain, first_place, named_entry, labelled, swatch_from, walk, lent_of, starts, refusal, start_of}
-use Rattle.aco_walk.specs.Answer.{call_and_place}
+use Rattle.aco_walk.specs.Answer.{call_and_place, told_start}
 use Rattle.aco_walk.specs.scaffold.Answer.{tested}
 use Rattle.aco_walk.proofs.Swatches.{fine-sound}
 
 -- ---- a colour
 
-pub tested-short : (s : List ℕ) (at : ℕ) → (at + 10 ≤ length s → ⊥) → (zero_colour, false) ≡ tested (colour s at)
+pub tested-short : (s : List ℕ) (at : ℕ) → (at + 10 ≤ length s → ⊥) → None ≡ tested (colour s at)
 tested-short s at h = go (colour s at) refl
   where
-    go : (m : Res Colour) → colour s at ≡ m → (zero_colour, false) ≡ tested m
+    go : (m : Res Colour) → colour s at ≡ m → None ≡ tested m
     go (ok c q) e = absurd (h (colour-inv s at e).2.inside)
     go (refuse x p r f) e = refl
 
@@ -45,17 +48,17 @@ module _ (s : List ℕ) (at x a b c d : ℕ) (h : at + 10 ≤ length s) (ex : x 
       allow : (k v n : ℕ) → k < 4 → v ≡ num 2 s n → n ≡ at + 2 + 2 * k → allowed x k v ≡ true
       allow k v n l e p = ap₂ (λ (y z : ℕ). allowed y k z) ex (e ∙ ap (num 2 s) p) ∙ g.are_allowed k l
 
-  pub tested-unsound : sound x (a ∷ b ∷ c ∷ d ∷ []) ≡ false → (zero_colour, false) ≡ tested (colour s at)
+  pub tested-unsound : sound x (a ∷ b ∷ c ∷ d ∷ []) ≡ false → None ≡ tested (colour s at)
   tested-unsound u = go (colour s at) refl
     where
-      go : (m : Res Colour) → colour s at ≡ m → (zero_colour, false) ≡ tested m
+      go : (m : Res Colour) → colour s at ≡ m → None ≡ tested m
       go (ok y q) e = absurd (true≢false (sym (good-sound (colour-inv s at e).2) ∙ u))
       go (refuse y p r f) e = refl
 
-  pub tested-sound : sound x (a ∷ b ∷ c ∷ d ∷ []) ≡ true → (record { space = x; samples = a ∷ b ∷ c ∷ d ∷ [] }, true) ≡ tested (colour s at)
+  pub tested-sound : sound x (a ∷ b ∷ c ∷ d ∷ []) ≡ true → Some (record { space = x; samples = a ∷ b ∷ c ∷ d ∷ [] }) ≡ tested (colour s at)
   tested-sound u =
       let i = done-inv (colour s at) (colour-sound s at x a b c d h ex ea eb ec ed u) in
-      ap (λ (y : Colour). (y, true)) (five s at x a b c d ex ea eb ec ed ∙ (colour-inv s at i.1).0) ∙ sym (ap tested i.1)
+      ap (λ (y : Colour). Some y) (five s at x a b c d ex ea eb ec ed ∙ (colour-inv s at i.1).0) ∙ sym (ap tested i.1)
 
 -- ---- what follows it
 
@@ -77,12 +80,12 @@ module _ (s : List ℕ) (at : ℕ) (c : Colour) where
           ap₂ (λ (g : ℕ × ℕ) (n : ℕ). (c, w.gives (g.0, g.1, 4), n)) v (ok-place z)
       go (refuse x y r g) z = clash (sym z)
 
-  pub labelled-lost : is_plain s ≡ false → {x y : ℕ} → refuse x y 0 0 ≡ place (name 4 s at) → call_and_place (w.lost (length s)) ≡ call_and_place (w.answered (length s) (labelled c s at))
-  labelled-lost p {x} {y} e = go (name 4 s at) e ∙ sym (ap (λ (m : Res Entry). call_and_place (w.answered (length s) m)) (labelled_by p))
+  pub labelled-lost : is_plain s ≡ false → {x y r g : ℕ} → refuse x y r g ≡ place (name 4 s at) → call_and_place (w.lost (length s)) ≡ call_and_place (w.answered (length s) (labelled c s at))
+  labelled-lost p {x} {y} {r} {g} e = go (name 4 s at) e ∙ sym (ap (λ (m : Res Entry). call_and_place (w.answered (length s) m)) (labelled_by p))
     where
-      go : (m : Res Name) → refuse x y 0 0 ≡ place m → call_and_place (w.lost (length s)) ≡ call_and_place (w.answered (length s) (then m (λ nm q. ok (named_entry c nm) q)))
+      go : (m : Res Name) → refuse x y r g ≡ place m → call_and_place (w.lost (length s)) ≡ call_and_place (w.answered (length s) (then m (λ nm q. ok (named_entry c nm) q)))
       go (ok nm r) z = clash z
-      go (refuse z p r g) k = refl
+      go (refuse z p h i) k = refl
 
 -- ---- the step
 
@@ -91,23 +94,25 @@ module _ (s : List ℕ) (at : ℕ) where
   walk-over e = sym (ap call_and_place (step-over swatch_from s at e))
 
   module _ (apart : at ≡ length s → ⊥) where
-    pub walk-lost : {c : Colour} → (c, false) ≡ tested (colour s at) → call_and_place (w.lost (length s)) ≡ call_and_place (walk s at)
+    pub walk-lost : None ≡ tested (colour s at) → call_and_place (w.lost (length s)) ≡ call_and_place (walk s at)
     unfolding swatch_from
-    walk-lost {c} t = go (colour s at) t ∙ sym (ap call_and_place (step-elsewhere swatch_from s at apart))
+    walk-lost t = go (colour s at) t ∙ sym (ap call_and_place (step-elsewhere swatch_from s at apart))
       where
-        go : (m : Res Colour) → (c, false) ≡ tested m → call_and_place (w.lost (length s)) ≡ call_and_place (w.answered (length s) (then m (λ c q. labelled c s q)))
-        go (ok x q) z = absurd (true≢false (sym (ap (λ (y : Colour × Bool). y.1) z)))
+        go : (m : Res Colour) → None ≡ tested m → call_and_place (w.lost (length s)) ≡ call_and_place (w.answered (length s) (then m (λ c q. labelled c s q)))
+        go (ok x q) z = let v : ◌≡◌ {A = ℕ} 0 1 = cc in absurd (omega arith)
         go (refuse x p r f) z = refl
 
     -- the colour that was found
-    pub tested_reads : {c : Colour} → (c, true) ≡ tested (colour s at) → colour s at ≡ ok c (at + 10)
+    pub tested_reads : {c : Colour} → Some c ≡ tested (colour s at) → colour s at ≡ ok c (at + 10)
     tested_reads {c} t = go (colour s at) refl t
       where
-        go : (m : Res Colour) → colour s at ≡ m → (c, true) ≡ tested m → m ≡ ok c (at + 10)
-        go (ok x q) e z = ap₂ (λ (y : Colour) (n : ℕ). ok y n) (sym (ap (λ (y : Colour × Bool). y.0) z)) (sym (colour-inv s at e).1)
-        go (refuse x p r f) e z = absurd (true≢false (ap (λ (y : Colour × Bool). y.1) z))
+        go : (m : Res Colour) → colour s at ≡ m → Some c ≡ tested m → m ≡ ok c (at + 10)
+        go (ok x q) e z =
+            let v : c ≡ x = cc in
+            ap₂ (λ (y : Colour) (n : ℕ). ok y n) (sym v) (sym (colour-inv s at e).1)
+        go (refuse x p r f) e z = let v : ◌≡◌ {A = ℕ} 0 1 = cc in absurd (omega arith)
 
-    pub walk-labelled : {c : Colour} → (c, true) ≡ tested (colour s at) → call_and_place (w.answered (length s) (labelled c s (at + 10))) ≡ call_and_place (walk s at)
+    pub walk-labelled : {c : Colour} → Some c ≡ tested (colour s at) → call_and_place (w.answered (length s) (labelled c s (at + 10))) ≡ call_and_place (walk s at)
     unfolding swatch_from
     walk-labelled {c} t = sym (ap call_and_place (step-elsewhere swatch_from s at apart ∙ ap (λ (m : Res Colour). w.answered (length s) (then m (λ c q. labelled c s q))) (tested_reads t)))
 
@@ -134,14 +139,18 @@ unfolding first_place
 first_plain s p = sym (rw p)
 
 module _ (s : List ℕ) where
-  pub start-refused : {x p r f : ℕ} → refused x p r f ≡ verdict report (aco s) → refusal x p r f ≡ start_of (aco s) s
+  start-refused : {x p r f : ℕ} → refused x p r f ≡ verdict report (aco s) → refusal x p r f ≡ start_of (aco s) s
   start-refused e = sym (ap (λ (m : Res Contents). start_of m s) (refused-of report (aco s) e))
+
+  pub start-rejected : (e : Rejection) → rejected e ≡ verdict report (aco s) → told_start (Err e) ≡ start_of (aco s) s
+  start-rejected (rejection.Refused e) h = start-refused h
+  start-rejected (rejection.Differ p r f) h = start-refused h
 
   pub start_is : {w : ℕ × ℕ} → accepted w ≡ verdict report (aco s) → (p : ℕ) → p ≡ first_place s → starts p ≡ start_of (aco s) s
   start_is v p e = ap starts e ∙ sym (ap (λ (m : Res Contents). start_of m s) (accepted-of report (aco s) v).2)
 
-  pub lent-refused : {x p r f : ℕ} → refused x p r f ≡ verdict report (aco s) → [] ≡ lent_of (aco s) s
-  lent-refused e = sym (ap (λ (m : Res Contents). lent_of m s) (refused-of report (aco s) e))
+  pub lent-rejected : (e : Rejection) → rejected e ≡ verdict report (aco s) → [] ≡ lent_of (aco s) s
+  lent-rejected e h = let z = rejecting e in sym (ap (λ (m : Res Contents). lent_of m s) (refused-of report (aco s) (sym z.judging ∙ h)))
 
   pub lent_is : {w : ℕ × ℕ} → accepted w ≡ verdict report (aco s) → s ≡ lent_of (aco s) s
   lent_is v = sym (ap (λ (m : Res Contents). lent_of m s) (accepted-of report (aco s) v).2)

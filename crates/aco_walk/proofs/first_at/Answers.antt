@@ -9,8 +9,8 @@ returns-then-is_plain c =
 
 pub returns-then-place-n : goal.returns-then-place-n
 returns-then-place-n c =
-    first-named c.args.file.now _ c.u16_or_zero-count.ensures (sym c.is_plain.ensures ∙ c.if-is_plain.false) c.if-place-n.true
+    first-named c.args.file.now _ c.number_or_zero-count.ensures (sym c.is_plain.ensures ∙ c.if-is_plain.false) c.if-place-n.true
 
 pub returns : goal.returns
 returns c =
-    first-none c.args.file.now _ c.u16_or_zero-count.ensures (sym c.is_plain.ensures ∙ c.if-is_plain.false) (omega (arith, c.if-place-n.false))
+    first-none c.args.file.now _ c.number_or_zero-count.ensures (sym c.is_plain.ensures ∙ c.if-is_plain.false) (omega (arith, c.if-place-n.false))

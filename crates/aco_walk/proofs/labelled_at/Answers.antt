@@ -1,5 +1,4 @@
-use mathlib.Core.Path.{sym, ap, ◌∙◌}
-use Rattle.names.specs.Answer.{told_name}
+use mathlib.Core.Path.{sym, ◌∙◌}
 use Rattle.aco_walk.proofs.Stepping.{labelled_plain, labelled-named, labelled-lost}
 use Rattle.aco_walk.proofs.labelled_at.Goals as goal
 
@@ -7,12 +6,12 @@ pub returns-then-is_plain : goal.returns-then-is_plain
 returns-then-is_plain c =
     let a = c.args in labelled_plain a.file.now a.at a.colour (sym c.is_plain.ensures ∙ c.if-is_plain.true)
 
-pub returns-in-Refused : goal.returns-in-Refused
-returns-in-Refused c =
+pub returns-in-Ok : goal.returns-in-Ok
+returns-in-Ok c =
     let a = c.args in
-    c.lost.ensures ∙ labelled-lost a.file.now a.at a.colour (sym c.is_plain.ensures ∙ c.if-is_plain.false) (sym (ap told_name c.in-Refused.is) ∙ c.name32_at.ensures)
+    labelled-named a.file.now a.at a.colour (sym c.is_plain.ensures ∙ c.if-is_plain.false) c.in-Ok.ensures
 
-pub returns-in-Is : goal.returns-in-Is
-returns-in-Is c =
+pub returns-in-Err : goal.returns-in-Err
+returns-in-Err c =
     let a = c.args in
-    labelled-named a.file.now a.at a.colour (sym c.is_plain.ensures ∙ c.if-is_plain.false) (sym (ap told_name c.in-Is.is) ∙ c.name32_at.ensures)
+    c.lost.ensures ∙ labelled-lost a.file.now a.at a.colour (sym c.is_plain.ensures ∙ c.if-is_plain.false) c.in-Err.ensures

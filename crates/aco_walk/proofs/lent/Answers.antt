@@ -1,16 +1,8 @@
-use mathlib.Core.Path.{sym, ap, ◌∙◌}
-use Rattle.aco_judge.specs.Answer.{told}
-use Rattle.aco_walk.proofs.Stepping.{lent-refused, lent_is}
+use Rattle.aco_walk.proofs.Stepping.{lent-rejected, lent_is}
 use Rattle.aco_walk.proofs.lent.Goals as goal
 
-pub returns-in-Refused : goal.returns-in-Refused
-returns-in-Refused c =
-    lent-refused c.args.file.now (sym (ap told c.in-Refused.is) ∙ c.judge.ensures)
+pub returns-in-Ok : goal.returns-in-Ok
+returns-in-Ok c = lent_is c.args.file.now c.in-Ok.ensures
 
-pub returns-in-Differ : goal.returns-in-Differ
-returns-in-Differ c =
-    lent-refused c.args.file.now (sym (ap told c.in-Differ.is) ∙ c.judge.ensures)
-
-pub returns-in-Accepted : goal.returns-in-Accepted
-returns-in-Accepted c =
-    lent_is c.args.file.now (sym (ap told c.in-Accepted.is) ∙ c.judge.ensures)
+pub returns-in-Err : goal.returns-in-Err
+returns-in-Err c = lent-rejected c.args.file.now _ c.in-Err.ensures

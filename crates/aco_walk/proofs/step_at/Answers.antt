@@ -1,27 +1,21 @@
-use Rattle.std.proofs.lemmas.Bool.{not-true, not-false}
-use mathlib.Core.Bool.{Bool}
-use mathlib.Core.Path.{sym, ap, ◌∙◌}
+use mathlib.Core.Path.{◌∙◌}
 use native.Mathlib.Omega.{arith}
 use Rattle.aco.proofs.Raw.{colour-inv}
 use Rattle.aco_walk.proofs.Stepping.{walk-over, walk-lost, walk-labelled, tested_reads}
 use Rattle.aco_walk.proofs.step_at.Goals as goal
 
 pub returns-then-at-file : goal.returns-then-at-file
-returns-then-at-file c =
-    let a = c.args in c.none.ensures ∙ walk-over a.file.now a.at c.if-at-file.true
-
-pub returns-then-not-found : goal.returns-then-not-found
-returns-then-not-found c =
-    let a = c.args in
-    c.lost.ensures ∙ walk-lost a.file.now a.at c.if-at-file.false (ap (λ (b : Bool). (c.colour_at-found.result.colour, b)) (sym (not-true _ c.if-not-found.true)) ∙ c.colour_at-found.ensures)
+returns-then-at-file c = walk-over c.args.file.now c.args.at c.if-at-file.true
 
 pub overflow_add-at : goal.overflow_add-at
 overflow_add-at c =
     let a = c.args in
-    let t = tested_reads a.file.now a.at c.if-at-file.false (ap (λ (b : Bool). (c.colour_at-found.result.colour, b)) (sym (not-false _ c.if-not-found.false)) ∙ c.colour_at-found.ensures) in
-    omega (arith, (colour-inv a.file.now a.at t).2.inside)
+    omega (arith, (colour-inv a.file.now a.at (tested_reads a.file.now a.at c.if-at-file.false c.in-Some.ensures)).2.inside)
 
-pub returns : goal.returns
-returns c =
+pub returns-in-Some : goal.returns-in-Some
+returns-in-Some c =
     let a = c.args in
-    c.labelled_at.ensures ∙ walk-labelled a.file.now a.at c.if-at-file.false (ap (λ (b : Bool). (c.colour_at-found.result.colour, b)) (sym (not-false _ c.if-not-found.false)) ∙ c.colour_at-found.ensures)
+    c.labelled_at.ensures ∙ walk-labelled a.file.now a.at c.if-at-file.false c.in-Some.ensures
+
+pub returns-in-None : goal.returns-in-None
+returns-in-None c = c.lost.ensures ∙ walk-lost c.args.file.now c.args.at c.if-at-file.false c.in-None.ensures

@@ -1,5 +1,5 @@
 use Prim.Native.Nat.{ℕ, ◌+◌, ◌*◌, ◌-◌}
-use mathlib.Core.Path.{refl, ap, ◌∙◌}
+use mathlib.Core.Path.{ap, ◌∙◌}
 use lib.Seq.{sets}
 use native.Mathlib.Omega.{arith}
 use Rattle.algebra.specs.Store.{stored, part}
@@ -24,4 +24,4 @@ returns c =
     let g = told_record a.given in
     let e₁ = c.put_colour.ensures ∙ ap (λ c. sets a.out.now a.at (colour_bytes (plain c))) c.colour_of.ensures in
     let e₂ = c.put_name.ensures ∙ ap (λ (r : ℕ). stored c.put_colour.new.out (a.at + 10) (counted_units 4 (g.units + 1) (part a.text.now r (r + 2 * a.given.units - r)))) c.name_start-first.ensures in
-    put_record a.text.now (λ i. omega (arith, c.type_inv.text i)) g a.out.now _ _ a.at (start g + 2 * a.given.units - start g) (omega arith) refl c.requires.name c.requires.inside c.put_colour.auto.out e₁ e₂
+    put_record a.text.now (λ i. omega (arith, c.type_inv.text i)) g a.out.now _ _ a.at (start g + 2 * a.given.units - start g) (omega arith) (omega arith) c.requires.name c.requires.inside c.put_colour.auto.out e₁ e₂
