@@ -5,12 +5,13 @@ use Prim.Native.Nat.{ℕ, zero, suc, ◌+◌, ◌*◌, ◌-◌, ◌≤◌, ◌<�
 use mathlib.Core.Path.{◌≡◌, refl, sym, ap, ap₂, ◌∙◌, subst}
 use mathlib.Core.List.{List, [], ◌∷◌}
 use lib.Dec.{leb, ltb}
-use lib.ListN.{length, get_or, take}
+use lib.ListN.{length, get_or, drop}
 use borrow.Author.Tests.{eq-eqb, ne_eqb, le-leb, lt-leb, leb-true, lt-ltb}
 use native.Mathlib.Omega.{arith}
 use native.Mathlib.Nat.{add-zero, lt_of_not-le}
 use native.Mathlib.Decide.{ℕ_discrete, dec_le}
-use Rattle.algebra.specs.Reader.{pick, number_of}
+use Rattle.algebra.specs.Reader.{pick}
+use Rattle.algebra.specs.Reader as reader
 use Rattle.algebra.specs.Faults.{first_of, faults}
 use Rattle.algebra.proofs.Laws.{body-in, body-short}
 use Rattle.algebra.proofs.Tells.{first-inv, pick-none}
@@ -23,7 +24,15 @@ use Rattle.acb_writing.specs.Writing.{components_in, sizes, string_size, size_wi
 use Rattle.algebra.specs.Table.{row_at, rows}
 use Rattle.acb.specs.Row.{RecordRow, width, taken}
 use Rattle.acb_write_judge.specs.Parts.{record_in}
-use Rattle.acb_write_judge.specs.scaffold.Parts.{given_at, start, RecordFits, RecordsFit}
+use Rattle.acb_write_judge.specs.scaffold.Parts.{given_at, start, RecordFits, RecordsFit, told_fault}
+use Rattle.std.specs.Prelude.{Result}
+use Rattle.std.specs.Result.{IsErrAnd}
+use Rattle.std.proofs.lemmas.Result.{err_from_is_err_and}
+use Rattle.fault.specs.Fault.{number_of}
+use Rattle.fault.specs.declared.Fault.{Fault}
+use Rattle.fault.specs.declared.Fault.TheVariants as fault
+use Rattle.std.proofs.Math.Seq.{drop-cons}
+use Rattle.std.proofs.lemmas.List.{drop_all}
 
 -- ---- a record of a run
 
@@ -59,32 +68,35 @@ found-last f a r e = go (f a) e
 
 -- ---- bytes
 
-module _ (v : ℕ) (l : List ℕ) where
-  pub byte-bad : 255 < v → 5 ≡ faults byte_fault (v ∷ l)
-  byte-bad h = found_here byte_fault v l 5 (sym (rw (lt-leb v 255 h))) (λ z. omega arith)
+-- numbers of which those before number i are bytes
+module _ (l : List ℕ) (i : ℕ) (e : faults byte_fault l ≡ faults byte_fault (drop i l)) where
+  module _ (h : i < length l) where
+    turn : faults byte_fault l ≡ first_of (byte_fault (get_or l i 0)) (faults byte_fault (drop (i + 1) l))
+    unfolding faults
+    turn =
+        let z : suc i ≡ i + 1 = omega arith in
+        e ∙ ap (faults byte_fault) (drop-cons l i 0 h) ∙ ap (λ (k : ℕ). first_of (byte_fault (get_or l i 0)) (faults byte_fault (drop k l))) z
 
-  pub byte-fine : (r : ℕ) → v ≤ 255 → r ≡ faults byte_fault l → r ≡ faults byte_fault (v ∷ l)
-  byte-fine r h e = found-next byte_fault v l 0 r (sym (rw (le-leb v 255 h))) refl e
+    pub byte-bad : 255 < get_or l i 0 → 5 ≡ faults byte_fault l
+    byte-bad k = hit 5 (byte_fault (get_or l i 0)) (faults byte_fault (drop (i + 1) l)) (sym (rw (lt-leb (get_or l i 0) 255 k))) (λ z. omega arith) ∙ sym turn
 
--- three or four of four
-module _ (k l m x n : ℕ) where
-  pub three-or-more : 3 ≤ n → k ∷ l ∷ m ∷ take (n - 3) (x ∷ []) ≡ take n (k ∷ l ∷ m ∷ x ∷ [])
-  three-or-more h = let e : suc (suc (suc (n - 3))) ≡ n = omega arith in ap (λ (j : ℕ). take j (k ∷ l ∷ m ∷ x ∷ [])) e
+    pub byte-fine : get_or l i 0 ≤ 255 → faults byte_fault l ≡ faults byte_fault (drop (i + 1) l)
+    byte-fine k =
+        let rest : ℕ = faults byte_fault (drop (i + 1) l) in
+        turn ∙ sym (pass rest (byte_fault (get_or l i 0)) rest 0 (sym (rw (le-leb (get_or l i 0) 255 k))) refl refl)
 
-  pub just-three : n ≡ 3 → k ∷ l ∷ m ∷ [] ≡ take n (k ∷ l ∷ m ∷ x ∷ [])
-  just-three e = ap (λ (j : ℕ). take j (k ∷ l ∷ m ∷ x ∷ [])) (sym e)
-
-  pub all-four : 3 ≤ n → n ≤ 4 → (n ≡ 3 → ⊥) → k ∷ l ∷ m ∷ x ∷ [] ≡ take n (k ∷ l ∷ m ∷ x ∷ [])
-  all-four a b c = let e : 4 ≡ n = omega arith in ap (λ (j : ℕ). take j (k ∷ l ∷ m ∷ x ∷ [])) e
+  pub bytes-end : length l ≤ i → 0 ≡ faults byte_fault l
+  unfolding faults
+  bytes-end h = sym (e ∙ ap (faults byte_fault) (drop_all i l h))
 
 -- ---- a string
 
 module _ (text : List ℕ) (l : ℕ × ℕ) where
   pub text_in : 2 * l.1 ≤ length text - l.0 → 0 ≡ text_fault text l
-  text_in h = sym (ap number_of (body-in 2 text l.0 l.1 (omega arith)))
+  text_in h = sym (ap reader.number_of (body-in 2 text l.0 l.1 (omega arith)))
 
   pub text-cut : length text - l.0 < 2 * l.1 → 2 ≡ text_fault text l
-  text-cut h = sym (ap number_of (body-short 2 text l.0 l.1 (omega arith)))
+  text-cut h = sym (ap reader.number_of (body-short 2 text l.0 l.1 (omega arith)))
 
   -- one without a fault lies in the lent bytes, from where its copy starts
   pub text-inside : text_fault text l ≡ 0 → start l + 2 * l.1 ≤ length text
@@ -204,3 +216,27 @@ module _ (text run : List ℕ) (m : ℕ) where
     fit-rest q w =
         let t = sizes-turn run (size_within m) n i h in
         record { least = e.least; most = e.most; inside = omega (arith, e.inside); sound = none.1 }
+
+-- ---- a fault that is handed on
+
+pub fault-exit : (r : Result Unit Fault) (f : Fault) {n : ℕ} → IsErrAnd r (λ y. y ≡ f) → number_of f ≡ n → told_fault r ≡ n
+fault-exit r f h rest = let p = err_from_is_err_and r h in rw (p.1, p.2) rest
+
+pub some : (f : Fault) → number_of f ≡ 0 → ⊥
+some fault.TooLong e = omega arith
+some fault.Short e = omega arith
+some fault.WrongTag e = omega arith
+some fault.Unknown e = omega arith
+some fault.OutOfRange e = omega arith
+some fault.LeftOver e = omega arith
+some fault.ListsDiffer e = omega arith
+some fault.BadlyClosed e = omega arith
+some fault.Unbalanced e = omega arith
+some fault.TooDeep e = omega arith
+some fault.NoRoom e = omega arith
+some fault.NoRecord e = omega arith
+some fault.WrongLength e = omega arith
+some fault.NoCounterpart e = omega arith
+
+pub fault-here : {A : Type 0} (g : A → ℕ) (a : A) (l : List A) (r : Result Unit Fault) (f : Fault) → IsErrAnd r (λ y. y ≡ f) → number_of f ≡ g a → told_fault r ≡ faults g (a ∷ l)
+fault-here g a l r f h e = fault-exit r f h (found_here g a l (number_of f) e (some f))

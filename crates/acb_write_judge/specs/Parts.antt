@@ -1,5 +1,5 @@
 -- What the parts of judging and storing take.
-use Rattle.std.specs.Prelude.{ℕ, List, [], ◌∷◌, get_or}
+use Rattle.std.specs.Prelude.{ℕ, List, [], get_or}
 use Rattle.acb_judge.specs.Answer.{told_text}
 use Rattle.acb_write_judge.specs.declared.Record.{Record}
 use Rattle.algebra.specs.Table.{whole}
@@ -13,7 +13,7 @@ record_in run k = get_or (whole width taken run) k (taken [])
 abbrev pub told_record : Record → RecordRow
 told_record r = record {
   name = told_text r.name;
-  code = r.code0 ∷ r.code1 ∷ r.code2 ∷ r.code3 ∷ r.code4 ∷ r.code5 ∷ [];
-  components = r.component0 ∷ r.component1 ∷ r.component2 ∷ r.component3 ∷ [];
+  code = r.code;
+  components = r.components;
   ink = r.ink;
 }

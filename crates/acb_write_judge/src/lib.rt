@@ -2,42 +2,36 @@
 // them.
 #![tactic(auto)]
 
-ghost use Rattle.std.specs.Prelude.{◌≡◌, [], ◌+◌, ◌*◌, ◌≤◌, ◌<◌, leb, length};
+ghost use Rattle.std.specs.Prelude.{◌≡◌, ◌+◌, ◌*◌, ◌≤◌, ◌<◌, leb, length};
 ghost use Rattle.algebra.specs.Reader.{pick, limit};
 ghost use Rattle.algebra.specs.Faults.{faults};
 ghost use Rattle.algebra.specs.Writing.{bytes, refused};
+ghost use Rattle.fault.specs.Answer.{told_written};
 ghost use Rattle.acb_judge.specs.Answer.{told_text, told_header, told_tag};
-ghost use Rattle.acb_writing.specs.Writing.{components_in, string_size, tag_size, ending_size, head_size, size, text_fault, byte_fault, head_fault, colour_fault, unless_ink, ink_fault, needed};
+ghost use Rattle.acb_writing.specs.Writing.{string_size, tag_size, ending_size, head_size, size, text_fault, byte_fault, head_fault, colour_fault, unless_ink, ink_fault, needed};
 ghost use Rattle.algebra.specs.Table.{rows, whole};
 ghost use Rattle.acb.specs.Row.{width, taken};
-ghost use Rattle.fields.specs.Answer.{told_written};
 ghost use Rattle.acb_write_judge.specs.Parts.{told_record, record_in};
-ghost use Rattle.acb_write_judge.specs.scaffold.Parts.{given_at, needed_apart};
+ghost use Rattle.acb_write_judge.specs.scaffold.Parts.{given_at, needed_apart, told_fault};
 ghost use Rattle.acb_write_judge.specs.Answer.{told_ending};
 
-use acb::WIDTH;
-use acb_judge::{Header, Tag, Text};
-use fields::Written;
+use acb::{LIMIT, WIDTH};
+use acb_judge::{Header, Tag};
+use fault::Fault;
+use names::Name;
 
-// A record of a run: where its name lies, its six code bytes, four components, and its ink.
+/// A record of a run: where its name lies, its six code bytes, four components, and its ink.
 #[derive(Clone, Copy)]
 pub struct Record {
-    pub name: Text,
-    pub code0: u32,
-    pub code1: u32,
-    pub code2: u32,
-    pub code3: u32,
-    pub code4: u32,
-    pub code5: u32,
-    pub component0: u32,
-    pub component1: u32,
-    pub component2: u32,
-    pub component3: u32,
+    pub name: Name,
+    pub code: [u32; 6],
+    pub components: [u32; 4],
     pub ink: u32,
 }
 
-// How a book to be written ends: as a file may end, or with another tag, which is refused.
-#[derive(Clone, Copy)]
+/// How a book to be written ends: as a file may end, or with another tag, which is refused.
+// Kept: an Option of a tag that is itself None where there is none would say less.
+#[derive(Clone, Copy, Debug, PartialEq, Eq)]
 pub enum Ending {
     Tagged(Tag),
     Other,
@@ -49,53 +43,29 @@ fn whole_at(run: &[u32], k: usize) -> Record
     ensures { told_record result ≡ given_at run.now k }
 {
     let at = WIDTH * k;
-    let end = at + WIDTH;
-    let row = &run[at..end];
-    let place = fields::wide(row[0]);
+    let row = &run[at..at + WIDTH];
     Record {
-        name: Text {
-            place,
+        name: Name {
+            first: row[0] as usize,
             units: row[1],
         },
-        code0: row[2],
-        code1: row[3],
-        code2: row[4],
-        code3: row[5],
-        code4: row[6],
-        code5: row[7],
-        component0: row[8],
-        component1: row[9],
-        component2: row[10],
-        component3: row[11],
+        code: [row[2], row[3], row[4], row[5], row[6], row[7]],
+        components: [row[8], row[9], row[10], row[11]],
         ink: row[12],
     }
 }
 
-fn no_record() -> Record
-    ensures { told_record result ≡ taken [] }
-{
-    Record {
-        name: Text { place: 0, units: 0 },
-        code0: 0,
-        code1: 0,
-        code2: 0,
-        code3: 0,
-        code4: 0,
-        code5: 0,
-        component0: 0,
-        component1: 0,
-        component2: 0,
-        component3: 0,
-        ink: 0,
-    }
-}
-
-// Record k of a run, all zeros where the run does not have it whole.
+/// Record k of a run, all zeros where the run does not have it whole.
 pub fn record_at(run: &[u32], k: usize) -> Record
     ensures { told_record result ≡ record_in run.now k }
 {
     if run.len() / WIDTH <= k {
-        return no_record();
+        return Record {
+            name: Name { first: 0, units: 0 },
+            code: [0; 6],
+            components: [0; 4],
+            ink: 0,
+        };
     }
     whole_at(run, k)
 }
@@ -103,10 +73,10 @@ pub fn record_at(run: &[u32], k: usize) -> Record
 // ---- how long the file is
 
 // How many bytes a string takes.
-fn string_size(string: Text) -> usize
+fn string_size(string: Name) -> usize
     ensures { (result ≡ string_size (told_text string)) × (result < 0x3_0000_0000) }
 {
-    4 + 2 * fields::wide(string.units)
+    4 + 2 * (string.units as usize)
 }
 
 // How many bytes the closing tag takes.
@@ -140,222 +110,142 @@ fn head_size(header: Header) -> usize
 }
 
 // How many bytes the file of n records takes. It stops at the limit, so that no sum passes 64 bits.
-fn size_of(header: Header, ending: Ending, run: &[u32], n: usize) -> Written
+fn size_of(header: Header, ending: Ending, run: &[u32], n: usize) -> Result<usize, Fault>
     requires { width * n ≤ length run.now }
     ensures { told_written result ≡ pick (leb (size (told_header header) (told_ending ending) (rows width taken run.now n 0)) limit) (bytes (size (told_header header) (told_ending ending) (rows width taken run.now n 0))) (refused 1 0) }
 {
     let behind_name = 6 + acb_judge::components_of(header.space);
     let mut total = head_size(header) + ending_size(ending);
-    if acb::LIMIT < total {
-        return Written::Refused(1);
+    if LIMIT < total {
+        return Err(Fault::TooLong);
     }
-    let mut i: usize = 0;
-    while i < n {
+    for i in 0..n {
         total += string_size(whole_at(run, i).name) + behind_name;
-        if acb::LIMIT < total {
-            return Written::Refused(1);
+        if LIMIT < total {
+            return Err(Fault::TooLong);
         }
-        i += 1;
     }
-    Written::Bytes(total)
+    Ok(total)
 }
 
 // ---- judging
 
-// The fault of a string: whether it runs past the lent bytes.
-fn text_fault(text: &[u8], string: Text) -> u32
-    ensures { result ≡ text_fault text.now (told_text string) }
+// A string runs past the lent bytes, or not.
+fn judge_text(text: &[u8], string: Name) -> Result<(), Fault>
+    ensures { told_fault result ≡ text_fault text.now (told_text string) }
 {
     if string.units == 0 {
-        return 0;
+        return Ok(());
     }
-    let k = 2 * fields::wide(string.units);
+    let k = 2 * (string.units as usize);
     let n = text.len();
     if n < k {
-        return 2;
+        return Err(Fault::Short);
     }
-    if n - k < string.place {
-        return 2;
+    if n - k < string.first {
+        return Err(Fault::Short);
     }
-    0
+    Ok(())
 }
 
-// The first fault of the header's strings.
-fn texts_fault(text: &[u8], header: Header) -> u32
-    ensures { result ≡ faults (text_fault text.now) (told_header header).texts }
+// The header's strings.
+fn judge_texts(text: &[u8], header: Header) -> Result<(), Fault>
+    ensures { told_fault result ≡ faults (text_fault text.now) (told_header header).texts }
 {
-    let a = text_fault(text, header.title);
-    if a != 0 {
-        return a;
-    }
-    let b = text_fault(text, header.prefix);
-    if b != 0 {
-        return b;
-    }
-    let c = text_fault(text, header.suffix);
-    if c != 0 {
-        return c;
-    }
-    text_fault(text, header.description)
+    judge_text(text, header.title)?;
+    judge_text(text, header.prefix)?;
+    judge_text(text, header.suffix)?;
+    judge_text(text, header.description)
 }
 
-// The first fault of a header before so many records.
-fn head_fault(text: &[u8], header: Header, count: usize) -> u32
-    ensures { result ≡ head_fault text.now (told_header header) count }
+// A header before so many records.
+fn judge_head(text: &[u8], header: Header, count: usize) -> Result<(), Fault>
+    ensures { told_fault result ≡ head_fault text.now (told_header header) count }
 {
-    let x = texts_fault(text, header);
-    if x != 0 {
-        return x;
-    }
+    judge_texts(text, header)?;
     if 65535 < count {
-        return 5;
+        return Err(Fault::OutOfRange);
     }
     if header.size == 0 {
-        return 5;
+        return Err(Fault::OutOfRange);
     }
-    if acb_judge::is_space(header.space) {
-        return 0;
+    if !acb_judge::is_space(header.space) {
+        return Err(Fault::Unknown);
     }
-    4
+    Ok(())
 }
 
-// The fault of a record's code.
-fn code_fault(given: Record) -> u32
-    ensures { result ≡ faults byte_fault (told_record given).code }
+// Numbers that are each to be a byte.
+fn judge_bytes(numbers: &[u32]) -> Result<(), Fault>
+    ensures { told_fault result ≡ faults byte_fault numbers.now }
 {
-    if 255 < given.code0 {
-        return 5;
-    }
-    if 255 < given.code1 {
-        return 5;
-    }
-    if 255 < given.code2 {
-        return 5;
-    }
-    if 255 < given.code3 {
-        return 5;
-    }
-    if 255 < given.code4 {
-        return 5;
-    }
-    if 255 < given.code5 {
-        return 5;
-    }
-    0
-}
-
-// The first fault of the n components of a record: three or four.
-fn components_fault(given: Record, n: usize) -> u32
-    requires { (3 ≤ n) × (n ≤ 4) }
-    ensures { result ≡ faults byte_fault (components_in n (told_record given)) }
-{
-    if 255 < given.component0 {
-        return 5;
-    }
-    if 255 < given.component1 {
-        return 5;
-    }
-    if 255 < given.component2 {
-        return 5;
-    }
-    if n == 3 {
-        return 0;
-    }
-    if 255 < given.component3 {
-        return 5;
-    }
-    0
-}
-
-// The first fault of a record of n components.
-fn colour_fault(text: &[u8], given: Record, n: usize) -> u32
-    requires { (3 ≤ n) × (n ≤ 4) }
-    ensures { result ≡ colour_fault text.now n (told_record given) }
-{
-    let x = text_fault(text, given.name);
-    if x != 0 {
-        return x;
-    }
-    let y = code_fault(given);
-    if y != 0 {
-        return y;
-    }
-    components_fault(given, n)
-}
-
-// The first fault of the count records of n components.
-fn colours_fault(run: &[u32], text: &[u8], count: usize, n: usize) -> u32
-    requires { (width * count ≤ length run.now) × (3 ≤ n) × (n ≤ 4) }
-    ensures { result ≡ faults (colour_fault text.now n) (rows width taken run.now count 0) }
-{
-    let mut i: usize = 0;
-    while i < count {
-        let x = colour_fault(text, whole_at(run, i), n);
-        if x != 0 {
-            return x;
+    for &x in numbers {
+        if 255 < x {
+            return Err(Fault::OutOfRange);
         }
-        i += 1;
     }
-    0
+    Ok(())
+}
+
+// A record of n components.
+fn judge_colour(text: &[u8], given: Record, n: usize) -> Result<(), Fault>
+    requires { n ≤ 4 }
+    ensures { told_fault result ≡ colour_fault text.now n (told_record given) }
+{
+    let code = given.code;
+    let components = given.components;
+    judge_text(text, given.name)?;
+    judge_bytes(&code)?;
+    judge_bytes(&components[..n])
+}
+
+// The count records of n components.
+fn judge_colours(run: &[u32], text: &[u8], count: usize, n: usize) -> Result<(), Fault>
+    requires { (width * count ≤ length run.now) × (n ≤ 4) }
+    ensures { told_fault result ≡ faults (colour_fault text.now n) (rows width taken run.now count 0) }
+{
+    for i in 0..count {
+        judge_colour(text, whole_at(run, i), n)?;
+    }
+    Ok(())
 }
 
 // The exact length that writing needs, or the refusal, apart from the inks.
-fn length_of(header: Header, ending: Ending, records: &[u32], text: &[u8]) -> Written
+fn length_of(header: Header, ending: Ending, records: &[u32], text: &[u8]) -> Result<usize, Fault>
     ensures { told_written result ≡ needed_apart text.now (told_header header) (told_ending ending) (whole width taken records.now) }
 {
     let n = records.len() / WIDTH;
-    let Written::Bytes(size) = size_of(header, ending, records, n) else {
-        return Written::Refused(1);
-    };
-    let x = head_fault(text, header, n);
-    if x != 0 {
-        return Written::Refused(x);
-    }
-    let y = colours_fault(records, text, n, acb_judge::components_of(header.space));
-    if y != 0 {
-        return Written::Refused(y);
-    }
+    let size = size_of(header, ending, records, n)?;
+    judge_head(text, header, n)?;
+    judge_colours(records, text, n, acb_judge::components_of(header.space))?;
     match ending {
-        Ending::Other => Written::Refused(3),
-        Ending::Tagged(_) => Written::Bytes(size),
+        Ending::Other => Err(Fault::WrongTag),
+        Ending::Tagged(_) => Ok(size),
     }
 }
 
 // ---- inks
 
-// The fault of a record's ink, where the book's tag states the ink with a number.
-fn ink_fault(given: Record, ink: u32) -> u32
-    ensures { result ≡ unless_ink ink (told_record given) }
-{
-    if given.ink == ink {
-        return 0;
-    }
-    14
-}
-
-// The first fault of the n inks.
-fn inks_fault(run: &[u32], n: usize, ink: u32) -> u32
+// The n inks of a run, where the book's tag states the ink with a number.
+fn judge_inks(run: &[u32], n: usize, ink: u32) -> Result<(), Fault>
     requires { width * n ≤ length run.now }
-    ensures { result ≡ faults (unless_ink ink) (rows width taken run.now n 0) }
+    ensures { told_fault result ≡ faults (unless_ink ink) (rows width taken run.now n 0) }
 {
-    let mut i: usize = 0;
-    while i < n {
-        let x = ink_fault(whole_at(run, i), ink);
-        if x != 0 {
-            return x;
+    for i in 0..n {
+        if whole_at(run, i).ink != ink {
+            return Err(Fault::NoCounterpart);
         }
-        i += 1;
     }
-    0
+    Ok(())
 }
 
-// The first fault of the inks of a book that ends so. Another tag was refused before.
-fn inks_of(ending: Ending, records: &[u32]) -> u32
-    ensures { result ≡ faults (ink_fault (told_ending ending)) (whole width taken records.now) }
+// The inks of a book that ends so. Another tag was refused before.
+fn judge_stated(ending: Ending, records: &[u32]) -> Result<(), Fault>
+    ensures { told_fault result ≡ faults (ink_fault (told_ending ending)) (whole width taken records.now) }
 {
     match ending {
-        Ending::Other => 0,
-        Ending::Tagged(tag) => inks_fault(
+        Ending::Other => Ok(()),
+        Ending::Tagged(tag) => judge_inks(
             records,
             records.len() / WIDTH,
             acb_judge::ink_of(tag).number(),
@@ -363,18 +253,16 @@ fn inks_of(ending: Ending, records: &[u32]) -> u32
     }
 }
 
-// The exact length that writing needs, or the refusal.
-pub fn write_length(header: Header, ending: Ending, records: &[u32], text: &[u8]) -> Written
+/// The exact length that writing needs, or the refusal.
+pub fn write_length(
+    header: Header,
+    ending: Ending,
+    records: &[u32],
+    text: &[u8],
+) -> Result<usize, Fault>
     ensures { told_written result ≡ needed text.now (told_header header) (told_ending ending) (whole width taken records.now) }
 {
-    match length_of(header, ending, records, text) {
-        Written::Refused(x) => Written::Refused(x),
-        Written::Bytes(size) => {
-            let x = inks_of(ending, records);
-            if x != 0 {
-                return Written::Refused(x);
-            }
-            Written::Bytes(size)
-        }
-    }
+    let size = length_of(header, ending, records, text)?;
+    judge_stated(ending, records)?;
+    Ok(size)
 }

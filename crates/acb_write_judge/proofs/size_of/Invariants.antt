@@ -8,6 +8,3 @@ use Rattle.acb_write_judge.proofs.size_of.Given as goal
 
 abbrev pub invariant-loop-i : goal.invariant-loop-i
 invariant-loop-i l = (l.i ≤ l.n) × (l.total ≤ 16777216) × (l.total + sizes (toned l.behind_name) (rows width taken l.run (l.n - l.i) l.i) ≡ l.initial.total + sizes (toned l.behind_name) (rows width taken l.run l.n 0))
-
-abbrev pub decreases-loop-i : goal.decreases-loop-i
-decreases-loop-i l = l.n - l.i

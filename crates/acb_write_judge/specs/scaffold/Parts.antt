@@ -1,15 +1,22 @@
 -- Scaffolding: the form in which the code goes; cited by private contracts and by proofs.
-use Rattle.std.specs.Prelude.{ℕ, ◌+◌, ◌≤◌, ◌≡◌, List, ◌++◌, map, eqb}
+use Rattle.std.specs.Prelude.{ℕ, ◌+◌, ◌≤◌, ◌≡◌, List, ◌++◌, map, eqb, Result, Ok, Err}
 use Rattle.algebra.specs.Chars.{chars}
 use Rattle.algebra.specs.Numbers.{be, joined}
 use Rattle.algebra.specs.Reader.{pick}
 use Rattle.algebra.specs.Faults.{faults}
 use Rattle.algebra.specs.Writing.{Outcome, needs}
+use Rattle.fault.specs.Fault.{number_of}
+use Rattle.fault.specs.declared.Fault.{Fault}
 use Rattle.acb.specs.Grammar.{bytes_of_string, Ending}
 use Rattle.acb_judge.specs.Answer.{HeaderPlaces}
 use Rattle.acb_writing.specs.Writing.{units_within, sizes, string_size, size_within, size, text_fault, colour_fault, other_fault}
 use Rattle.algebra.specs.Table.{row_at}
 use Rattle.acb.specs.Row.{RecordRow, width, taken}
+
+-- a judgement's number, 0 where there is no fault
+abbrev pub told_fault : Result Unit Fault → ℕ
+told_fault (Ok u) = 0
+told_fault (Err f) = number_of f
 
 -- the length that writing needs, or the refusal, apart from the inks
 abbrev pub needed_apart : List ℕ → HeaderPlaces → Ending → List RecordRow → Outcome

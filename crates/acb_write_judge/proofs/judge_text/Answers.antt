@@ -1,7 +1,7 @@
 use Rattle.acb_write_judge.proofs.Judging.{text_in, text-cut}
 use native.Mathlib.Omega.{arith}
 use Rattle.acb_judge.specs.Answer.{told_text}
-use Rattle.acb_write_judge.proofs.text_fault.Goals as goal
+use Rattle.acb_write_judge.proofs.judge_text.Goals as goal
 
 pub returns-then-string-eq0 : goal.returns-then-string-eq0
 returns-then-string-eq0 c = let a = c.args in text_in a.text.now (told_text a.string) (omega arith)
