@@ -5,8 +5,12 @@ use mathlib.Core.List.{List, []}
 use mathlib.Core.Bool.{Bool, true, false}
 use mathlib.Core.Logic.{◌⊎◌, inl, inr}
 use lib.Dec.{ltb}
-use lib.ListN.{length, get_or}
-use borrow.Author.Tests.{ltb-true, ltb-false}
+use lib.ListN.{length, get_or, take}
+use lib.Seq.{get_or-take, length-take-le}
+use borrow.Author.Tests.{ltb-true, ltb-false, lt-ltb}
+use Rattle.std.specs.List.Sorted.{IsPartitionedBy, IsPartitionPoint}
+use Rattle.std.proofs.lemmas.List.{get_or_default}
+use Rattle.algebra.specs.Reader.{pick}
 use native.Mathlib.Omega.{arith}
 use Rattle.algebra.specs.Table.{accepted, refused}
 use Rattle.order.specs.Order.{Order, less, same, greater, is_same_order, compare}
@@ -17,8 +21,8 @@ use Rattle.acb_order.specs.Names.{compare_names}
 use Rattle.acb_order.specs.Index.{Shown, shown_from, shown_at, by_name, index_of}
 use Rattle.acb_order.specs.Search.{begins, lowest}
 use Rattle.acb_order.proofs.Names.{names-total}
-use Rattle.acb_order.proofs.Index.{right-rising, at-shown, shown-at, lowest-is, lowest-none}
-use Rattle.acb_find.specs.scaffold.Marks.{is_greater, at_entry, Bracket}
+use Rattle.acb_order.proofs.Index.{begins-right, right-rising, at-shown, shown-at, lowest-is, lowest-none}
+use Rattle.acb_find.specs.scaffold.Marks.{is_greater, is_after, at_entry, Bracket}
 
 -- ---- names that rise
 
@@ -59,9 +63,6 @@ module _ (ns : List (List ℕ)) (t : List ℕ) (m : ℕ) (e : m ≡ length (show
   upto : (i j : ℕ) → i < j → j < m → Upto (get_or ns (get_or t i 0) []) (get_or ns (get_or t j 0) [])
   upto i j h l = rising-names (shown_at ns (get_or t i 0)) (shown_at ns (get_or t j 0)) (right-rising ns t m e b i j h l)
 
-  pub bracket-start : Bracket ns t m us 0 m
-  bracket-start = record { below = omega arith; within = omega arith; before = λ i h. absurd (omega arith); from = λ i h l. absurd (omega arith) }
-
   same-or-less : (i k : ℕ) → i ≤ k → (i ≡ k) ⊎ (i < k)
   same-or-less i k h = go (ltb i k) refl
     where
@@ -69,25 +70,46 @@ module _ (ns : List (List ℕ)) (t : List ℕ) (m : ℕ) (e : m ≡ length (show
       go true q = inr (ltb-true i k q)
       go false q = inl (omega (arith, ltb-false i k q))
 
-  module _ (lo hi : ℕ) (r : Bracket ns t m us lo hi) (k : ℕ) (a : lo ≤ k) (c : k < hi) where
-    pub bracket-up : at_entry ns t us k ≡ greater → Bracket ns t m us (k + 1) hi
-    bracket-up g = let w = r.within in record { below = omega arith; within = w; before = λ i h. go i (same-or-less i k (omega arith)); from = r.from }
-      where
-        go : (i : ℕ) → (i ≡ k) ⊎ (i < k) → at_entry ns t us i ≡ greater
-        go i (inl q) = ap (at_entry ns t us) q ∙ g
-        go i (inr q) = greater-down us (get_or ns (get_or t k 0) []) (get_or ns (get_or t i 0) []) g (upto i k q (omega (arith, r.within)))
+  greater-true : (o : Order) → is_greater o ≡ true → o ≡ greater
+  greater-true less q = let z : ◌≡◌ {A = ℕ} 0 1 = cc in absurd (omega arith)
+  greater-true same q = let z : ◌≡◌ {A = ℕ} 0 1 = cc in absurd (omega arith)
+  greater-true greater q = refl
 
-    pub bracket-down : is_greater (at_entry ns t us k) ≡ false → Bracket ns t m us lo k
-    bracket-down g = let w = r.within in record { below = a; within = omega arith; before = r.before; from = λ i h l. go i l (same-or-less k i h) }
+  module _ (count : ℕ) (all : length ns ≡ count) where
+    -- the test of the binary search at entry j
+    entry-test : (j d : ℕ) → j < m → is_after ns count us (get_or (take m t) j d) ≡ is_greater (at_entry ns t us j)
+    entry-test j d h =
+        let r = begins-right ns t m e b in
+        let x = (r.listed j h).0 in
+        let rm = r.room in
+        let z : get_or (take m t) j d ≡ get_or t j 0 = get_or-take m t j d h ∙ get_or_default t j d 0 (omega arith) in
+        ap (is_after ns count us) z ∙ ap (λ (y : Bool). is_greater (pick y (at_entry ns t us j) less)) (lt-ltb (get_or t j 0) count (omega (arith, x, all)))
+
+    count-is : length (take m t) ≡ m
+    count-is = let r = begins-right ns t m e b in length-take-le m t r.room
+
+    pub partitioned : IsPartitionedBy (is_after ns count us) (take m t)
+    partitioned i j d h l p = entry-test i d (omega (arith, count-is)) ∙ go (same-or-less i j h)
       where
-        go : (i : ℕ) → i < m → (k ≡ i) ⊎ (k < i) → is_greater (at_entry ns t us i) ≡ false
-        go i l (inl q) = ap (λ (z : ℕ). is_greater (at_entry ns t us z)) (sym q) ∙ g
-        go i l (inr q) = greater-not us (get_or ns (get_or t k 0) []) (get_or ns (get_or t i 0) []) g (upto k i q l)
+        at_j : is_greater (at_entry ns t us j) ≡ true
+        at_j = sym (entry-test j d (omega (arith, count-is))) ∙ p
+
+        go : (i ≡ j) ⊎ (i < j) → is_greater (at_entry ns t us i) ≡ true
+        go (inl q) = ap (λ (z : ℕ). is_greater (at_entry ns t us z)) q ∙ at_j
+        go (inr q) = ap is_greater (greater-down us (get_or ns (get_or t j 0) []) (get_or ns (get_or t i 0) []) (greater-true _ at_j) (upto i j q (omega (arith, count-is))))
+
+    -- where the binary search ends
+    pub bracket-point : (k : ℕ) → k ≤ length (take m t) → IsPartitionPoint (λ y. is_after ns count us y ≡ true) (λ y. is_after ns count us y ≡ false) (take m t) k → Bracket ns t m us k
+    bracket-point k h p = record {
+      within = omega (arith, count-is);
+      before = λ i a. greater-true _ (sym (entry-test i 0 (omega (arith, count-is))) ∙ p.0 i 0 (omega arith) a);
+      from = λ i a c. sym (entry-test i 0 c) ∙ p.1 i 0 a (omega (arith, count-is));
+    }
 
   greater-differs : (o : Order) → o ≡ greater → is_same_order o ≡ false
   greater-differs o q = ap is_same_order q
 
-  module _ (k : ℕ) (r : Bracket ns t m us k k) where
+  module _ (k : ℕ) (r : Bracket ns t m us k) where
     -- an entry of that name, if any, is the first of them
     pub bracket-found : k < m → at_entry ns t us k ≡ same → lowest us (shown_from 0 ns) ≡ accepted (get_or t k 0)
     bracket-found h g = lowest-is us 0 ns (shown_at ns (get_or t k 0)) (at-shown ns t m e b k h) (ap is_same_order g) (λ c i z. go c z (shown-at ns t m e b c i))

@@ -4,10 +4,11 @@ use mathlib.Core.Path.{◌≡◌, refl, sym, ap, ap₂, ◌∙◌, subst}
 use mathlib.Core.List.{List, []}
 use mathlib.Core.Bool.{Bool, true, false}
 use mathlib.Core.Logic.{◌⊎◌, inl, inr}
-use lib.Dec.{eqb, leb}
+use lib.Dec.{eqb, leb, ltb}
+use Rattle.std.specs.Prelude.{Option, Some, None}
 use lib.ListN.{length, get_or, set, length-set}
 use lib.Seq.{get_or-set_same, get_or-set_other}
-use borrow.Author.Tests.{eqb-true, eqb-false, eq-eqb, ne_eqb, leb-true, leb-false}
+use borrow.Author.Tests.{eqb-true, eqb-false, eq-eqb, ne_eqb, leb-true, leb-false, ltb-true, ltb-false, lt-ltb}
 use native.Mathlib.Omega.{arith}
 use native.Mathlib.Numerals.{add-one}
 use native.Mathlib.Nat.{mul_comm, mul-suc, mul-le-mul_left, mul-le-mul_right, div-add-mod'}
@@ -16,12 +17,18 @@ use Rattle.algebra.specs.Reader.{Res, refuse, pick}
 use Rattle.algebra.specs.Table.{refused}
 use Rattle.algebra.specs.Text.{is_empty}
 use Rattle.acb.specs.Reading.{acb, Contents}
-use Rattle.order.specs.Order.{less, is_less}
+use Rattle.std.specs.declared.cmp.Ordering.{Ordering}
+use Rattle.std.specs.declared.cmp.Ordering.TheVariants.{Less, Equal, Greater}
+use Rattle.std.specs.Ordering.{is_lt, nat_cmp, ordering_then}
+use Rattle.order.specs.Order.{Order, less, is_less, or_else}
+use Rattle.acb_order.specs.Names.{compare_names}
+use Rattle.acb_names.specs.Answer.{told}
+use Rattle.acb_names.proofs.Units.{told_compare}
 use Rattle.order.proofs.Lists.{is-less}
 use Rattle.order.proofs.Heaps.{same_or}
 use Rattle.acb_order.specs.Index.{shown_from, shown_at, by_name, index_of, names_of}
 use Rattle.acb_order.specs.Search.{begins, lowest, searched}
-use Rattle.acb_order.specs.Places.{units_at}
+use Rattle.acb_order.specs.Places.{units_at, name_at}
 use Rattle.acb_order.specs.scaffold.Places.{place_order, record_place, Opened, names_read, names_in}
 use Rattle.acb_order.proofs.Index.{right-begins, begins-right}
 use Rattle.acb_order.proofs.Files.{known, names-count, order_is}
@@ -108,12 +115,41 @@ picked x u v e = sym (rw (eq-eqb x 0 e))
 pub unpicked : {A : Type 0} (x : ℕ) (u v : A) → (x ≡ 0 → ⊥) → v ≡ pick (eqb x 0) u v
 unpicked x u v e = sym (rw (ne_eqb x 0 e))
 
-pub one-most : (x : ℕ) → pick (eqb x 0) 0 1 ≤ 1
-one-most x = go (eqb x 0)
+-- the place of a record, where there is one
+abbrev held : Option ℕ → ℕ
+held (Some x) = x
+held None = 0
+
+pub some-place : (i count x y : ℕ) → Some x ≡ pick (ltb i count) (Some y) None → (i < count) × (x ≡ y)
+some-place i count x y e = go (ltb i count) refl e
   where
-    go : (b : Bool) → pick b 0 1 ≤ 1
-    go true = omega arith
-    go false = omega arith
+    go : (b : Bool) → ltb i count ≡ b → Some x ≡ pick b (Some y) None → (i < count) × (x ≡ y)
+    go true h q = (ltb-true i count h, ap held q)
+    go false h q = let z : ◌≡◌ {A = ℕ} 0 1 = cc in absurd (omega arith)
+
+pub no-place : (i count y : ℕ) → None ≡ pick (ltb i count) (Some y) None → count ≤ i
+no-place i count y e = go (ltb i count) refl e
+  where
+    go : (b : Bool) → ltb i count ≡ b → None ≡ pick b (Some y) None → count ≤ i
+    go true h q = let z : ◌≡◌ {A = ℕ} 0 1 = cc in absurd (omega arith)
+    go false h q = ltb-false i count h
+
+pub in-book : (i count : ℕ) (o : Order) → i < count → pick (ltb i count) o less ≡ o
+in-book i count o h = ap (λ (b : Bool). pick b o less) (lt-ltb i count h)
+
+-- two places as the library compares them
+less-told : (o p r : Ordering) (t : Bool) → r ≡ ordering_then o p → t ≡ is_lt r → t ≡ is_less (or_else (told o) (told p))
+less-told o p r t e f = f ∙ ap is_lt e ∙ go o p
+  where
+    go : (o p : Ordering) → is_lt (ordering_then o p) ≡ is_less (or_else (told o) (told p))
+    go Less p = refl
+    go Equal Less = refl
+    go Equal Equal = refl
+    go Equal Greater = refl
+    go Greater p = refl
+
+pub both-places : (s : List ℕ) (x y : ℕ) (o p r : Ordering) (t : Bool) → told o ≡ compare_names (name_at s x) (name_at s y) → p ≡ nat_cmp x y → r ≡ ordering_then o p → t ≡ is_lt r → t ≡ is_less (place_order s x y)
+both-places s x y o p r t d e f g = less-told o p r t f g ∙ ap is_less (ap₂ or_else d (told_compare x y p e))
 
 -- ---- marks
 
@@ -160,33 +196,20 @@ pub record Marking (s : List ℕ) (n p d i j due : ℕ) (marks : List ℕ) : Typ
   pub marked : MarkedTo s n p d j marks
   pub room : length marks ≡ 4096
 
-pub marking-turn : (s : List ℕ) (n p count d i j due at : ℕ) (marks ks : List ℕ) (j' due' : ℕ) → Spaced count d → i < count → at ≡ record_place n s p i → Marking s n p d i j due marks
-    → ks ≡ pick (eqb due 0) (set marks j at) marks → j' ≡ j + (1 - pick (eqb due 0) 0 1) → due' ≡ pick (eqb due 0) (d - 1) (due - 1) → Marking s n p d (i + 1) j' due' ks
-marking-turn s n p count d i j due at marks ks j' due' sp h e m a b c = go (eqb due 0) refl a b c
-  where
-    some : 0 < d
-    some = sp.some
+module _ (s : List ℕ) (n p count d i j due at : ℕ) (marks : List ℕ) (sp : Spaced count d) (h : i < count) (m : Marking s n p d i j due marks) where
+  pub marking-put : due ≡ 0 → at ≡ record_place n s p i → Marking s n p d (i + 1) (j + 1) (d - 1) (set marks j at)
+  marking-put z e =
+      let some = sp.some in
+      let dj : d * j ≡ i = omega (arith, m.ahead) in
+      record {
+        ahead = omega (arith, times-next d j i dj);
+        soon = omega arith;
+        marked = marked_turn s n p d j i at marks (omega (arith, m.room, mark-room count d i j sp h dj)) dj e m.marked;
+        room = length-set marks j at ∙ m.room;
+      }
 
-    go : (t : Bool) → eqb due 0 ≡ t → ks ≡ pick t (set marks j at) marks → j' ≡ j + (1 - pick t 0 1) → due' ≡ pick t (d - 1) (due - 1) → Marking s n p d (i + 1) j' due' ks
-    go true q x y z =
-        let due0 = eqb-true due 0 q in
-        let dj : d * j ≡ i = omega (arith, m.ahead) in
-        let jj : j' ≡ j + 1 = omega arith in
-        record {
-          ahead = ap (λ (k : ℕ). d * k) jj ∙ omega (arith, times-next d j i dj);
-          soon = omega arith;
-          marked = subst (λ (k : ℕ). MarkedTo s n p d k ks) (sym jj) (subst (MarkedTo s n p d (j + 1)) (sym x) (marked_turn s n p d j i at marks (omega (arith, m.room, mark-room count d i j sp h dj)) dj e m.marked));
-          room = ap length x ∙ length-set marks j at ∙ m.room;
-        }
-    go false q x y z =
-        let ne = eqb-false due 0 q in
-        let jj : j' ≡ j = omega arith in
-        record {
-          ahead = ap (λ (k : ℕ). d * k) jj ∙ omega (arith, m.ahead);
-          soon = omega (arith, m.soon);
-          marked = subst (λ (k : ℕ). MarkedTo s n p d k ks) (sym jj) (subst (MarkedTo s n p d j) (sym x) m.marked);
-          room = ap length x ∙ m.room;
-        }
+  pub marking-skip : (due ≡ 0 → ⊥) → Marking s n p d (i + 1) j (due - 1) marks
+  marking-skip ne = record { ahead = omega (arith, m.ahead); soon = omega (arith, m.soon); marked = m.marked; room = m.room }
 
 -- the mark before a record
 pub mark-before : (d i : ℕ) → 0 < d → d * (i / d) ≤ i

@@ -1,9 +1,10 @@
 -- What each answer of the code says.
-use Rattle.std.specs.Prelude.{ℕ}
+use Rattle.std.specs.Prelude.{ℕ, Result, Ok, Err}
 use Rattle.algebra.specs.Table.{Verdict, accepted, refused}
-use Rattle.acb_find.specs.declared.Found.{Found}
-use Rattle.acb_find.specs.declared.Found.TheVariants as vf
+use Rattle.fault.specs.Fault.{number_of}
+use Rattle.fault.specs.declared.Refusal.{Refusal}
 
-abbrev pub told : Found → Verdict ℕ
-told (vf.Is i) = accepted i
-told (vf.Refused x p) = refused x p 0 0
+-- a number, or the refusal
+abbrev pub told : Result ℕ Refusal → Verdict ℕ
+told (Ok n) = accepted n
+told (Err e) = refused (number_of e.0) e.1 0 0
