@@ -1,4 +1,3 @@
-use Prim.Native.Nat.{◌-◌, ◌≤◌}
 use mathlib.Core.Path.{◌≡◌}
 use mathlib.Core.List.{map}
 use lib.ListN.{length, drop}
@@ -7,7 +6,4 @@ use Rattle.tray.specs.scaffold.Parts.{inked}
 use Rattle.tray.proofs.back.fill_cmyk.Given as goal
 
 abbrev pub invariant-loop-i : goal.invariant-loop-i
-invariant-loop-i l = (l.i ≤ length l.bits) × (length l.out ≡ length l.initial.out) × (sets l.initial.out 0 (map inked l.bits) ≡ sets l.out l.i (drop l.i (map inked l.bits)))
-
-abbrev pub decreases-loop-i : goal.decreases-loop-i
-decreases-loop-i l = length l.bits - l.i
+invariant-loop-i l = (length l.out ≡ length l.initial.out) × (sets l.initial.out 0 (map inked l.bits) ≡ sets l.out l.i (drop l.i (map inked l.bits)))

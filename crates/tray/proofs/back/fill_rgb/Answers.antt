@@ -1,15 +1,14 @@
 use mathlib.Core.Path.{refl, sym}
-use native.Mathlib.Omega.{arith}
 use Rattle.conversion.specs.Scale.{sample_of_bits}
 use Rattle.tray.proofs.Laws.{fill-turn, fill_end}
 use borrow.Author.Rules.{rules}
 use Rattle.tray.proofs.back.fill_rgb.Goals as goal
 
 pub loop-i-init : goal.loop-i-init
-loop-i-init c = (omega arith, refl, refl)
+loop-i-init c = (refl, refl)
 
 pub loop-i-preserved : goal.loop-i-preserved
-loop-i-preserved c = let l = c.loop-i in (omega arith, search rules, fill-turn (sample_of_bits 65535) c.args.bits.now _ l.out l.i l.invariant.2 _ c.loop-i-test.true c.rgb_sample.ensures)
+loop-i-preserved c = let l = c.loop-i in (search rules, fill-turn (sample_of_bits 65535) c.args.bits.now _ l.out l.i l.invariant.1 _ c.loop-i-test.true c.rgb_sample.ensures)
 
 pub returns : goal.returns
-returns c = sym (fill_end (sample_of_bits 65535) c.args.bits.now _ c.loop-i.out c.loop-i.i c.loop-i.invariant.2 c.loop-i-test.false)
+returns c = sym (fill_end (sample_of_bits 65535) c.args.bits.now _ c.loop-i.out c.loop-i.i c.loop-i.invariant.1 c.loop-i-test.false)

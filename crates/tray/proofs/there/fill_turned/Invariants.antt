@@ -1,4 +1,3 @@
-use Prim.Native.Nat.{◌-◌, ◌≤◌}
 use mathlib.Core.Path.{◌≡◌}
 use mathlib.Core.List.{map}
 use lib.ListN.{length, drop}
@@ -7,7 +6,4 @@ use Rattle.tray.specs.scaffold.Parts.{turned}
 use Rattle.tray.proofs.there.fill_turned.Given as goal
 
 abbrev pub invariant-loop-i : goal.invariant-loop-i
-invariant-loop-i l = (l.i ≤ length l.samples) × (length l.out ≡ length l.initial.out) × (sets l.initial.out 0 (map turned l.samples) ≡ sets l.out l.i (drop l.i (map turned l.samples)))
-
-abbrev pub decreases-loop-i : goal.decreases-loop-i
-decreases-loop-i l = length l.samples - l.i
+invariant-loop-i l = (length l.out ≡ length l.initial.out) × (sets l.initial.out 0 (map turned l.samples) ≡ sets l.out l.i (drop l.i (map turned l.samples)))
