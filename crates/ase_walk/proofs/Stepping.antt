@@ -17,9 +17,14 @@ use Rattle.ase_read.specs.scaffold.Raw.{loaded}
 use Rattle.ase_read.proofs.Blocks.{Sound, blocked}
 use Rattle.walk.specs.Walk as w
 use Rattle.walk.proofs.Calls.{step-over, step-elsewhere, from-turn}
-use Rattle.ase_walk.specs.Walking.{block_from, block_walk, is_a_colour, walk, first_place, lent_of, starts, refusal, start_of}
+use Rattle.ase_walk.specs.Walking.{block_from, block_walk, is_a_colour, walk, first_place, lent_of, Started, starts, refusal, start_of}
 use Rattle.ase_walk.specs.scaffold.Walking.{Stands}
-use Rattle.ase_walk.specs.Answer.{record_call, call_and_place}
+use Rattle.std.specs.Prelude.{Result}
+use Rattle.std.specs.Result.{IsErrAnd}
+use Rattle.std.proofs.lemmas.Result.{err_from_is_err_and}
+use Rattle.fault.specs.Fault.{number_of}
+use Rattle.fault.specs.declared.Refusal.{Refusal}
+use Rattle.ase_walk.specs.Answer.{record_call, call_and_place, told_start}
 use Rattle.ase_walk.specs.scaffold.Answer.{passes}
 use Rattle.ase_walk.proofs.Blocks.{walk-moves}
 use Rattle.ase_walk.proofs.Walked.{past-refused}
@@ -104,6 +109,10 @@ first-is s h = sym (ap (λ (b : Bool). pick b 12 (length s)) (le-leb 12 (length 
 pub first-none : (s : List ℕ) → length s < 12 → length s ≡ first_place s
 unfolding first_place
 first-none s h = sym (ap (λ (b : Bool). pick b 12 (length s)) (lt-leb 12 (length s) h))
+
+-- what is told where a `?` hands a refusal on
+pub start-exit : (r : Result ℕ Refusal) (e : Refusal) {m : Started} → IsErrAnd r (λ y. y ≡ e) → refusal (number_of e.0) e.1 ≡ m → told_start r ≡ m
+start-exit r e h rest = let p = err_from_is_err_and r h in rw (p.1, p.2) rest
 
 module _ (s : List ℕ) (m : Res (List Entry)) where
   pub start-refused : {x p : ℕ} → refused x p 0 0 ≡ verdict report m → refusal x p ≡ start_of m s

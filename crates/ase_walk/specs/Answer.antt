@@ -1,39 +1,33 @@
 -- What each answer of the code says.
-use Rattle.std.specs.Prelude.{ℕ}
+use Rattle.std.specs.Prelude.{ℕ, Result, Ok, Err, Option, Some, None}
+use Rattle.fault.specs.Fault.{number_of}
+use Rattle.fault.specs.declared.Refusal.{Refusal}
 use Rattle.ase.specs.Reading.{Entry}
-use Rattle.colour.specs.Models.{traits_of}
-use Rattle.colour.specs.Channels.{bits_of, model_in}
-use Rattle.colour.specs.Inks.{ink_number}
-use Rattle.ase.specs.Row.{RecordRow, group_start_row, group_end_row, colour_row, given_of}
+use Rattle.ase.specs.Row.{RecordRow, given_of}
+use Rattle.ase_read.specs.Answer.{shown_colour, shown}
+use Rattle.ase_read.specs.declared.NamedColour.{NamedColour}
+use Rattle.ase_read.specs.declared.Record.{Record}
 use Rattle.walk.specs.Walk.{Call, gives, over, refused}
 use Rattle.ase_walk.specs.Walking.{Started, starts, refusal, called, following}
-use Rattle.ase_walk.specs.declared.Block.{Block}
-use Rattle.ase_walk.specs.declared.Block.TheVariants as vb
 use Rattle.ase_walk.specs.declared.BlockStep.{BlockStep}
-use Rattle.ase_walk.specs.declared.NextColour.{NextColour as Answer}
-use Rattle.ase_walk.specs.declared.NextColour.TheVariants as vg
 use Rattle.ase_walk.specs.declared.ColourStep.{ColourStep}
 use Rattle.ase_walk.specs.declared.Walker.{Walker}
 use Rattle.ase_walk.specs.declared.WalkerStep.{WalkerStep}
-use Rattle.ase_walk.specs.declared.WalkStart.{WalkStart}
-use Rattle.ase_walk.specs.declared.WalkStart.TheVariants as vs
 
 -- a block with its name by place and number of units; done; or a refusal's number and place
-abbrev pub told_block : Block → Call RecordRow
-told_block (vb.GroupStart p u) = gives (group_start_row p u)
-told_block vb.GroupEnd = gives group_end_row
-told_block (vb.Colour p u c k) = gives (colour_row p u (traits_of (model_in c)).tag (bits_of c) (ink_number k))
-told_block vb.Done = over
-told_block (vb.Refused x p) = refused x p
+abbrev pub told_block : Result (Option Record) Refusal → Call RecordRow
+told_block (Ok (Some r)) = gives (shown r)
+told_block (Ok None) = over
+told_block (Err e) = refused (number_of e.0) e.1
 
 abbrev pub told_block_step : BlockStep → Call RecordRow × ℕ
 told_block_step r = (told_block r.block, r.next)
 
--- what it gives: the same of a colour
-abbrev pub told_next_colour : Answer → Call RecordRow
-told_next_colour (vg.Colour p u c k) = gives (colour_row p u (traits_of (model_in c)).tag (bits_of c) (ink_number k))
-told_next_colour vg.Done = over
-told_next_colour (vg.Refused x p) = refused x p
+-- the same of a colour
+abbrev pub told_next_colour : Result (Option NamedColour) Refusal → Call RecordRow
+told_next_colour (Ok (Some c)) = gives (shown_colour c)
+told_next_colour (Ok None) = over
+told_next_colour (Err e) = refused (number_of e.0) e.1
 
 abbrev pub told_colour_step : ColourStep → Call RecordRow × ℕ
 told_colour_step r = (told_next_colour r.given, r.next)
@@ -56,6 +50,6 @@ told_turn t = (told_colour_step t.step, t.walker)
 abbrev pub walker_call : Walker → (Call RecordRow × ℕ) × Walker
 walker_call w = (call_and_place (called w), following w)
 
-abbrev pub told_start : WalkStart → Started
-told_start (vs.At p) = starts p
-told_start (vs.Refused x p) = refusal x p
+abbrev pub told_start : Result ℕ Refusal → Started
+told_start (Ok p) = starts p
+told_start (Err e) = refusal (number_of e.0) e.1

@@ -2,226 +2,106 @@
 // walker above them.
 #![tactic(auto)]
 
-ghost use Rattle.std.specs.Prelude.{◌≡◌, false, ◌∷◌, [], ◌+◌, ◌-◌, ◌^◌, ◌≤◌, ◌<◌, eqb, length};
-ghost use Rattle.algebra.specs.Reader.{pick, refuse};
+ghost use Rattle.std.specs.Prelude.{◌≡◌, ◌+◌, ◌≤◌, length};
 ghost use Rattle.ase.specs.Reading.{ase};
-ghost use Rattle.ase.specs.Row.{colour_row};
-ghost use Rattle.ase_read.specs.scaffold.Answer.{IsColour};
+ghost use Rattle.ase_read.specs.Answer.{shown};
 ghost use Rattle.walk.specs.Walk.{gives, answered};
 ghost use Rattle.ase_walk.specs.Walking.{block_from, block_walk, walk, first_place, lent_of, start_of};
 ghost use Rattle.ase_walk.specs.scaffold.Walking.{Stands};
-ghost use Rattle.ase_walk.specs.Answer.{told_block, told_block_step, told_next_colour, told_colour_step, call_and_place, told_turn, walker_call, told_start};
-ghost use Rattle.ase_walk.specs.scaffold.Answer.{passes};
+ghost use Rattle.ase_walk.specs.Answer.{told_block, told_block_step, told_colour_step, call_and_place, told_turn, walker_call, told_start};
+ghost use Rattle.ase_walk.specs.scaffold.Answer.{Given};
 
 use ase::{GROUP_END, GROUP_START};
-use ase_judge::{Answer, Passed};
-use colour::{Channels, Ink, Made};
+use ase_read::{NamedColour, Record};
+use colour::Channels;
+use fault::{Fault, Refusal};
 
-// What a call of the block step gives: a group start with its name's place and number of units, a
-// group end, or a colour with its name, its channels and its ink; done; or a refusal.
-#[derive(Clone, Copy)]
-pub enum Block {
-    GroupStart {
-        place: usize,
-        units: u32,
-    },
-    GroupEnd,
-    Colour {
-        place: usize,
-        units: u32,
-        colour: Channels,
-        ink: Ink,
-    },
-    Done,
-    Refused {
-        number: u32,
-        place: usize,
-    },
-}
-
-// A call's answer, and the place of the next call.
+/// What a call of the block step answers, a block, done, or a refusal; and the place of the next call.
 #[derive(Clone, Copy)]
 pub struct BlockStep {
-    pub block: Block,
+    pub block: Result<Option<Record>, Refusal>,
     pub next: usize,
 }
 
-// What a call of the colour step gives: a colour with its name's place and number of units, its
-// channels and its ink; done; or a refusal.
-#[derive(Clone, Copy)]
-pub enum NextColour {
-    Colour {
-        place: usize,
-        units: u32,
-        colour: Channels,
-        ink: Ink,
-    },
-    Done,
-    Refused {
-        number: u32,
-        place: usize,
-    },
-}
-
-// A call's answer, and the place of the next call.
+/// What a call of the colour step answers, a colour, done, or a refusal; and the place of the next
+/// call.
 #[derive(Clone, Copy)]
 pub struct ColourStep {
-    pub given: NextColour,
+    pub given: Result<Option<NamedColour>, Refusal>,
     pub next: usize,
 }
 
-// Where a walk of a file starts, or the file's refusal.
-#[derive(Clone, Copy)]
-pub enum WalkStart {
-    At(usize),
-    Refused { number: u32, place: usize },
-}
+// Nothing stands there that the layout allows.
+const LOST: Refusal = Refusal(Fault::OutOfRange, 0);
 
 // ---- a block
 
-// The place of the name of the block at `at`; 0 where the block has no name.
-fn place_of(count: u16, at: usize) -> usize
-    requires { at + 8 < 2 ^ 64 }
-    ensures { result ≡ pick (eqb count 0) 0 (at + 8) }
-{
-    if count == 0 {
-        return 0;
-    }
-    at + 8
-}
-
-// The units of a name without its closing zero.
-fn units_of(count: u16) -> u32
-    ensures { result ≡ count - 1 }
-{
-    if count == 0 {
-        return 0;
-    }
-    (count - 1) as u32
-}
-
-// A colour by its tag and the bits of its channels, which are judged.
-fn coloured(place: usize, units: u32, tag: u32, a: u32, b: u32, c: u32, d: u32, ink: u16) -> Block
-    requires { IsColour tag a b c d × (ink ≤ 2) }
-    ensures { told_block result ≡ gives (colour_row place units tag (a ∷ b ∷ c ∷ d ∷ []) ink) }
-{
-    match Channels::from_tag(tag, a, b, c, d) {
-        Made::Is(colour) => Block::Colour {
-            place,
-            units,
-            colour,
-            ink: ase_read::ink_of(ink as u32),
-        },
-        Made::Refused(number) => Block::Refused { number, place: 0 },
-    }
-}
-
 // The block from `at` to `end`, which is judged. All is loaded from the file up to its end, so that
 // what a shorter payload does not have is 0.
-fn block_of(file: &[u8], at: usize, end: usize) -> Block
+fn block_of(file: &[u8], at: usize, end: usize) -> Record
     requires { (at + 6 ≤ end) × (end ≤ length file.now) × Stands file.now at end }
-    ensures { (told_block result, end) ≡ call_and_place (answered (length file.now) (block_from file.now at)) }
+    ensures { (gives (shown result), end) ≡ call_and_place (answered (length file.now) (block_from file.now at)) }
 {
     let part = &file[..end];
-    let kind = fields::u16_or_zero(part, at);
-    let count = fields::u16_or_zero(part, at + 6);
-    let model = at + 8 + 2 * (count as usize);
-    let tag = fields::u32_or_zero(part, model);
-    let a = fields::u32_or_zero(part, model + 4);
-    let b = fields::u32_or_zero(part, model + 8);
-    let c = fields::u32_or_zero(part, model + 12);
-    let d = fields::u32_or_zero(part, model + 16);
-    let last = fields::u16_or_zero(part, part.len() - 2);
-    let place = place_of(count, at);
-    let units = units_of(count);
+    let kind = fields::number_or_zero::<u16>(part, at);
+    let count = fields::number_or_zero::<u16>(part, at + 6);
+    let model = at + 8 + 2 * count as usize;
+    let tag = fields::number_or_zero::<u32>(part, model);
+    let a = fields::number_or_zero::<u32>(part, model + 4);
+    let b = fields::number_or_zero::<u32>(part, model + 8);
+    let c = fields::number_or_zero::<u32>(part, model + 12);
+    let d = fields::number_or_zero::<u32>(part, model + 16);
+    let last = fields::number_or_zero::<u16>(part, part.len() - 2);
+    let place = ase_read::name_place(count, at);
+    let units = count.saturating_sub(1) as u32;
     match kind {
-        GROUP_START => Block::GroupStart { place, units },
-        GROUP_END => Block::GroupEnd,
-        _ => coloured(place, units, tag, a, b, c, d, last),
+        GROUP_START => Record::GroupStart { place, units },
+        GROUP_END => Record::GroupEnd,
+        _ => Record::Colour(NamedColour {
+            place,
+            units,
+            colour: Channels::from_tag(tag, a, b, c, d).unwrap(),
+            ink: ase_read::ink_of(last as u32),
+        }),
     }
 }
 
-// One call from any place of any file that gives blocks. It costs no more than the bytes that it
-// passes; where nothing stands that the layout allows, the walk is left past the end, so that it is
-// refused ever after.
+/// One call from any place of any file that gives blocks. It costs no more than the bytes that it
+/// passes; where nothing stands that the layout allows, the walk is left past the end, so that it is
+/// refused ever after.
 pub fn block_at(file: &[u8], at: usize) -> BlockStep
     ensures { told_block_step result ≡ call_and_place (block_walk file.now at) }
 {
     if at == file.len() {
         return BlockStep {
-            block: Block::Done,
+            block: Ok(None),
             next: at,
         };
     }
     match ase_judge::block_at(file, at, 1) {
-        Passed::Refused {
-            number: _,
-            place: _,
-        } => {
-            let block = Block::Refused {
-                number: 5,
-                place: 0,
-            };
-            BlockStep {
-                block,
-                next: file.len() + 1,
-            }
-        }
-        Passed::Next {
-            next,
-            depth: _,
-            colours: _,
-        } => {
-            let block = block_of(file, at, next);
-            BlockStep { block, next }
-        }
+        Ok(passed) => BlockStep {
+            block: Ok(Some(block_of(file, at, passed.next))),
+            next: passed.next,
+        },
+        Err(_) => BlockStep {
+            block: Err(LOST),
+            next: file.len() + 1,
+        },
     }
 }
 
 // ---- a colour
 
-// Whether a block starts or ends a group, so that the colour step passes over it.
-fn is_group(block: Block) -> bool
-    ensures { result ≡ passes (told_block block) }
+// What the colour step answers where the block step answered so; none where it passes over a group.
+fn given_of(block: Result<Option<Record>, Refusal>) -> Option<Result<Option<NamedColour>, Refusal>>
+    ensures { Given result (told_block block) }
 {
     match block {
-        Block::GroupStart { place: _, units: _ } => true,
-        Block::GroupEnd => true,
-        Block::Colour {
-            place: _,
-            units: _,
-            colour: _,
-            ink: _,
-        } => false,
-        Block::Done => false,
-        Block::Refused {
-            number: _,
-            place: _,
-        } => false,
-    }
-}
-
-// What the block step gave, where it is no group.
-fn given_of(block: Block) -> NextColour
-    requires { passes (told_block block) ≡ false }
-    ensures { told_next_colour result ≡ told_block block }
-{
-    match block {
-        Block::GroupStart { place: _, units: _ } => NextColour::Done,
-        Block::GroupEnd => NextColour::Done,
-        Block::Colour {
-            place,
-            units,
-            colour,
-            ink,
-        } => NextColour::Colour {
-            place,
-            units,
-            colour,
-            ink,
-        },
-        Block::Done => NextColour::Done,
-        Block::Refused { number, place } => NextColour::Refused { number, place },
+        Ok(Some(Record::Colour(colour))) => Some(Ok(Some(colour))),
+        Ok(Some(Record::GroupStart { .. })) => None,
+        Ok(Some(Record::GroupEnd)) => None,
+        Ok(None) => Some(Ok(None)),
+        Err(e) => Some(Err(e)),
     }
 }
 
@@ -233,41 +113,39 @@ fn ended_at(file: &[u8], at: usize) -> ColourStep
     let end = file.len();
     if at == end {
         return ColourStep {
-            given: NextColour::Done,
+            given: Ok(None),
             next: at,
         };
     }
-    let given = NextColour::Refused {
-        number: 5,
-        place: 0,
-    };
     ColourStep {
-        given,
+        given: Err(LOST),
         next: end + 1,
     }
 }
 
-// One call from any place of any file that gives colours, and passes over groups.
+/// One call from any place of any file that gives colours, and passes over groups.
 pub fn step_at(file: &[u8], at: usize) -> ColourStep
     ensures { told_colour_step result ≡ call_and_place (walk file.now at) }
 {
     let mut p = at;
     while p < file.len() {
         let step = block_at(file, p);
-        let next = step.next;
-        let block = step.block;
-        if !is_group(block) {
-            let given = given_of(block);
-            return ColourStep { given, next };
+        match given_of(step.block) {
+            Some(given) => {
+                return ColourStep {
+                    given,
+                    next: step.next,
+                };
+            }
+            None => p = step.next,
         }
-        p = next;
     }
     ended_at(file, p)
 }
 
 // ---- the start
 
-// Where a walk of an accepted file starts.
+/// Where a walk of an accepted file starts.
 pub fn first_at(file: &[u8]) -> usize
     ensures { result ≡ first_place file.now }
 {
@@ -278,17 +156,12 @@ pub fn first_at(file: &[u8]) -> usize
     n
 }
 
-// Where a walk starts, which it does only on an accepted file, or the file's refusal.
-pub fn start_at(file: &[u8]) -> WalkStart
+/// Where a walk starts, which it does only on an accepted file.
+pub fn start_at(file: &[u8]) -> Result<usize, Refusal>
     ensures { told_start result ≡ start_of (ase file.now) file.now }
 {
-    match ase_judge::judge(file) {
-        Answer::Refused { number, place } => WalkStart::Refused { number, place },
-        Answer::Accepted {
-            blocks: _,
-            colours: _,
-        } => WalkStart::At(first_at(file)),
-    }
+    ase_judge::judge(file)?;
+    Ok(first_at(file))
 }
 
 // An accepted file, or no bytes where it is refused.
@@ -296,28 +169,22 @@ fn lent(file: &[u8]) -> &[u8]
     ensures { result.now ≡ lent_of (ase file.now) file.now }
 {
     match ase_judge::judge(file) {
-        Answer::Refused {
-            number: _,
-            place: _,
-        } => &file[..0],
-        Answer::Accepted {
-            blocks: _,
-            colours: _,
-        } => file,
+        Ok(_) => file,
+        Err(_) => &file[..0],
     }
 }
 
 // ---- the walker
 
-// A walker: the lent file, and the place of the next block.
+/// A walker: the lent file, and the place of the next block.
 #[derive(Clone, Copy)]
 pub struct Walker<'a> {
     pub file: &'a [u8],
     pub at: usize,
 }
 
-// A walker over an accepted file; over no bytes where it is refused, so that it is done. The
-// refusal is `start_at`'s.
+/// A walker over an accepted file; over no bytes where it is refused, so that it is done. The
+/// refusal is `start_at`'s.
 pub fn start<'a>(file: &'a [u8]) -> Walker<'a>
     ensures { (result.file.now ≡ lent_of (ase file.now) file.now) × (result.at ≡ first_place (lent_of (ase file.now) file.now)) }
 {
@@ -326,14 +193,14 @@ pub fn start<'a>(file: &'a [u8]) -> Walker<'a>
     Walker { file: part, at }
 }
 
-// What a call of `next` hands back: what it gave, and the walker that follows.
+/// What a call of `next` hands back: what it gave, and the walker that follows.
 #[derive(Clone, Copy)]
 pub struct WalkerStep<'a> {
     pub step: ColourStep,
     pub walker: Walker<'a>,
 }
 
-// One call: the colour, and the walker that follows.
+/// One call: the colour, and the walker that follows.
 pub fn next<'a>(w: Walker<'a>) -> WalkerStep<'a>
     ensures { told_turn result ≡ walker_call w.entry }
 {

@@ -1,13 +1,9 @@
-use mathlib.Core.Path.{sym, ap, ◌∙◌}
 use Rattle.ase.specs.Reading.{ase}
-use Rattle.ase_judge.specs.Answer.{told}
 use Rattle.ase_walk.proofs.Stepping.{lent-refused, lent_is}
 use Rattle.ase_walk.proofs.lent.Goals as goal
 
-pub returns-in-Refused : goal.returns-in-Refused
-returns-in-Refused c =
-    let s = c.args.file.now in lent-refused s (ase s) (sym (ap told c.in-Refused.is) ∙ c.judge.ensures)
+pub returns-in-Ok : goal.returns-in-Ok
+returns-in-Ok c = let s = c.args.file.now in lent_is s (ase s) c.in-Ok.ensures
 
-pub returns-in-Accepted : goal.returns-in-Accepted
-returns-in-Accepted c =
-    let s = c.args.file.now in lent_is s (ase s) (sym (ap told c.in-Accepted.is) ∙ c.judge.ensures)
+pub returns-in-Err : goal.returns-in-Err
+returns-in-Err c = let s = c.args.file.now in lent-refused s (ase s) c.in-Err.ensures
