@@ -143,7 +143,7 @@ leafed-in s k (ok rs q) d r e = leafed-at s rs k r (rows-leafed s rs q d) e
 leafed-in s k (refuse x p y f) d r e = let z : ◌≡◌ {A = ℕ} 0 1 = cc in absurd (omega arith)
 
 module _ (s : List ℕ) (k : ℕ) where
-  pub typed_no : (x p : ℕ) → values.refused x p ≡ extent_of (row_in k (descriptor s)) → vt.Refused x p ≡ typed_of s (row_in k (descriptor s))
+  pub typed_no : (x p : ℕ) → values.refused x p ≡ extent_of (row_in k (descriptor s)) → refuse x p 0 0 ≡ typed_of s (row_in k (descriptor s))
   typed_no x p e = sym (ap (typed_of s) (extent-no (row_in k (descriptor s)) x p e))
 
   module _ (t v n : ℕ) (e : values.is t v n ≡ extent_of (row_in k (descriptor s))) where
@@ -156,7 +156,7 @@ module _ (s : List ℕ) (k : ℕ) where
     pub row-value-small : v ≤ limit
     row-value-small = omega (arith, part_small s k t v n e)
 
-    pub typed-is : typed_in s t v ≡ typed_of s (row_in k (descriptor s))
+    pub typed-is : ok (typed_in s t v) 0 ≡ typed_of s (row_in k (descriptor s))
     typed-is =
         let x = extent-is (row_in k (descriptor s)) t v n e in
-        ap (λ (a : ℕ). typed_in s a v) x.2 ∙ ap (λ (a : ℕ). typed_in s x.0.kind a) x.3 ∙ sym (ap (typed_of s) x.1)
+        ap (λ (a : ℕ). ok (typed_in s a v) 0) x.2 ∙ ap (λ (a : ℕ). ok (typed_in s x.0.kind a) 0) x.3 ∙ sym (ap (typed_of s) x.1)

@@ -4,6 +4,7 @@ use Rattle.std.specs.Float.{binary64}
 use Rattle.std.specs.Float.Ieee.{of_bits}
 use Rattle.algebra.specs.Chars.{chars}
 use Rattle.algebra.specs.Numbers.{be}
+use Rattle.algebra.specs.Reader.{Res, ok, refuse}
 use Rattle.algebra.specs.Refusal.{one_of}
 use Rattle.descriptor_read.specs.declared.Typed.{Typed}
 use Rattle.descriptor_read.specs.declared.Typed.TheVariants as vt
@@ -22,3 +23,8 @@ pub data Says : ℕ → List ℕ → Typed → Type 0 where
   double : (n : ℕ) → n < 256 ^ 8 → Says (chars "doub") (be 8 n) (vt.Double (of_bits binary64 n))
   unit_double : (u n : ℕ) → u < 256 ^ 4 → n < 256 ^ 8 → Says (chars "UntF") (be 4 u ++ be 8 n) (vt.UnitDouble u (of_bits binary64 n))
   other : {kind : ℕ} {b : List ℕ} → one_of typed kind ≡ false → Says kind b vt.Other
+
+-- the same of an answer, which is then no refusal
+abbrev pub Answers : ℕ → List ℕ → Res Typed → Type 0
+Answers kind b (ok t q) = Says kind b t
+Answers kind b (refuse x p r f) = ⊥

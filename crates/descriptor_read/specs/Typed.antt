@@ -1,10 +1,12 @@
 -- The value of a row by its kind.
-use Rattle.std.specs.Prelude.{ℕ, ◌+◌, List, eqb}
+use Rattle.std.specs.Prelude.{ℕ, ◌+◌, List, Result, eqb}
 use Rattle.std.specs.Float.{binary64}
 use Rattle.std.specs.Float.Ieee.{of_bits}
 use Rattle.algebra.specs.Chars.{chars}
 use Rattle.algebra.specs.Numbers.{num}
-use Rattle.algebra.specs.Reader.{pick}
+use Rattle.algebra.specs.Reader.{Res, ok, refuse, pick}
+use Rattle.fault.specs.Answer.{told}
+use Rattle.fault.specs.declared.Refusal.{Refusal}
 use Rattle.descriptor_read.specs.Values.{RowAnswer, found, missing}
 use Rattle.descriptor_read.specs.declared.Typed.{Typed}
 use Rattle.descriptor_read.specs.declared.Typed.TheVariants as vt
@@ -18,6 +20,10 @@ typed_in s t v =
     (pick (eqb t (chars "doub")) (vt.Double (of_bits binary64 (num 8 s v)))
     (pick (eqb t (chars "UntF")) (vt.UnitDouble (num 4 s v) (of_bits binary64 (num 8 s (v + 4)))) vt.Other))))
 
-abbrev pub typed_of : List ℕ → RowAnswer → Typed
-typed_of s (found r) = typed_in s r.kind r.value
-typed_of s (missing x p) = vt.Refused x p
+abbrev pub typed_of : List ℕ → RowAnswer → Res Typed
+typed_of s (found r) = ok (typed_in s r.kind r.value) 0
+typed_of s (missing x p) = refuse x p 0 0
+
+-- the code's answer
+abbrev pub told_typed : Result Typed Refusal → Res Typed
+told_typed r = told (λ t. ok t 0) r

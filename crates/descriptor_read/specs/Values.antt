@@ -1,10 +1,11 @@
 -- A row by its number, and its value.
-use Rattle.std.specs.Prelude.{ℕ, zero, suc, ◌+◌, ◌-◌, List, [], ◌∷◌}
+use Rattle.std.specs.Prelude.{ℕ, zero, suc, ◌+◌, ◌-◌, List, [], ◌∷◌, Result, Ok, Err}
 use Rattle.algebra.specs.Reader.{Res, ok, refuse}
 use Rattle.algebra.specs.Store.{part}
 use Rattle.descriptor.specs.Reading.{Row}
-use Rattle.descriptor_read.specs.declared.ValueAt.{ValueAt}
-use Rattle.descriptor_read.specs.declared.ValueAt.TheVariants as vv
+use Rattle.fault.specs.Fault.{number_of}
+use Rattle.fault.specs.declared.Refusal.{Refusal}
+use Rattle.descriptor_read.specs.declared.Span.{Span}
 
 -- a row, or a refusal's number and place
 pub data RowAnswer : Type 0 where
@@ -37,9 +38,9 @@ abbrev pub place_of : RowAnswer → Place
 place_of (found r) = span r.value (value_size r)
 place_of (missing x p) = refusal x p
 
-abbrev pub told_value : ValueAt → Place
-told_value (vv.Is v n) = span v n
-told_value (vv.Refused x p) = refusal x p
+abbrev pub told_value : Result Span Refusal → Place
+told_value (Ok w) = span w.first w.length
+told_value (Err e) = refusal (number_of e.0) e.1
 
 -- the bytes of a value; none where there is no row
 abbrev pub value_in : List ℕ → RowAnswer → List ℕ

@@ -17,24 +17,23 @@ ghost use Rattle.descriptor_judge.specs.Answer.{told};
 ghost use Rattle.descriptor_read.specs.Values.{row_in, place_of, told_value, value_in};
 ghost use Rattle.descriptor_read.specs.scaffold.Values.{extent_of, told_extent};
 ghost use Rattle.descriptor_read.specs.scaffold.Extents.{Accepted, extent_in, met_by};
-ghost use Rattle.descriptor_read.specs.Typed.{typed_in, typed_of};
+ghost use Rattle.descriptor_read.specs.Typed.{told_typed, typed_in, typed_of};
 
 use descriptor::{BOOL, COMP, DOUBLE, LONG, UNIT_DOUBLE};
 use descriptor_columns::Level;
-use descriptor_judge::Answer;
 use descriptor_raw::RawHead;
-use fields::Number8;
+use fault::{Fault, Refusal};
 
-// Where a row's value lies: its first byte and its length; or a refusal.
-#[derive(Drop)]
-pub enum ValueAt {
-    Is { first: usize, length: usize },
-    Refused { number: u32, place: usize },
+/// Where a row's value lies: its first byte and its length.
+#[derive(Clone, Copy, Debug, PartialEq, Eq)]
+pub struct Span {
+    pub first: usize,
+    pub length: usize,
 }
 
-// A row's value by its kind: a `bool`; the bits of a `long` and of a `comp`; a `doub`; the unit and the
-// double of an `UntF`. Rows of other kinds have none. Or a refusal.
-#[derive(Drop)]
+/// A row's value by its kind: a `bool`; the bits of a `long` and of a `comp`; a `doub`; the unit and the
+/// double of an `UntF`. Rows of other kinds have none.
+#[derive(Clone, Copy)]
 pub enum Typed {
     Bool(bool),
     Long(u32),
@@ -42,18 +41,18 @@ pub enum Typed {
     Double(f64),
     UnitDouble(u32, f64),
     Other,
-    Refused { number: u32, place: usize },
 }
 
-// A row's kind, and its value's first byte and length; or a refusal.
-#[derive(Drop)]
-enum Extent {
-    Is(u32, usize, usize),
-    Refused(u32, usize),
+// A row's kind, and its value's first byte and length.
+#[derive(Clone, Copy)]
+struct Extent {
+    kind: u32,
+    first: usize,
+    length: usize,
 }
 
 // The row that is asked for, once it is met: its depth, its kind, and where its value begins.
-#[derive(Drop)]
+#[derive(Clone, Copy)]
 struct Met {
     depth: usize,
     kind: u32,
@@ -80,7 +79,7 @@ fn met_by(met: Met, k: usize, row: usize, depth: usize, head: RawHead) -> Met
 }
 
 // The kind of a row of an accepted file, and where its value lies; 12 where there is no such row.
-fn extent_in(file: &[u8], row: usize) -> Extent
+fn extent_in(file: &[u8], row: usize) -> Result<Extent, Refusal>
     requires { Accepted file.now }
     ensures { told_extent result ≡ extent_in row (file_heads file.now) }
 {
@@ -112,10 +111,14 @@ fn extent_in(file: &[u8], row: usize) -> Extent
     loop {
         if left == 0 {
             if d == met.depth {
-                return Extent::Is(met.kind, met.value, at - met.value);
+                return Ok(Extent {
+                    kind: met.kind,
+                    first: met.value,
+                    length: at - met.value,
+                });
             }
             if d == 0 {
-                return Extent::Refused(12, 0);
+                return Err(Refusal(Fault::NoRecord, 0));
             }
             d -= 1;
             let level = saved[d];
@@ -128,7 +131,11 @@ fn extent_in(file: &[u8], row: usize) -> Extent
         let head = descriptor_raw::head_at(file, what, objects, at);
         if head.count == 0 {
             if k == row {
-                return Extent::Is(head.kind, head.value, head.end - head.value);
+                return Ok(Extent {
+                    kind: head.kind,
+                    first: head.value,
+                    length: head.end - head.value,
+                });
             }
             at = head.end;
             k += 1;
@@ -152,34 +159,33 @@ fn extent_in(file: &[u8], row: usize) -> Extent
 }
 
 // The kind of a row, and where its value lies.
-fn extent_at(file: &[u8], row: usize) -> Extent
+fn extent_at(file: &[u8], row: usize) -> Result<Extent, Refusal>
     ensures { told_extent result ≡ extent_of (row_in row (descriptor file.now)) }
 {
-    match descriptor_judge::judge(file) {
-        Answer::Refused { number, place } => Extent::Refused(number, place),
-        Answer::Accepted { rows: _ } => extent_in(file, row),
-    }
+    let _rows = descriptor_judge::judge(file)?;
+    extent_in(file, row)
 }
 
-// Where the value of a row lies; 12 where the file has no such row.
-pub fn value_at(file: &[u8], row: usize) -> ValueAt
+/// Where the value of a row lies; 12 where the file has no such row.
+pub fn value_at(file: &[u8], row: usize) -> Result<Span, Refusal>
     ensures { told_value result ≡ place_of (row_in row (descriptor file.now)) }
 {
-    match extent_at(file, row) {
-        Extent::Refused(number, place) => ValueAt::Refused { number, place },
-        Extent::Is(_, first, length) => ValueAt::Is { first, length },
-    }
+    let extent = extent_at(file, row)?;
+    Ok(Span {
+        first: extent.first,
+        length: extent.length,
+    })
 }
 
-// The value of a row, as a part of the file; empty where `value_at` refuses.
+/// The value of a row, as a part of the file; empty where `value_at` refuses.
 pub fn value_part(file: &[u8], row: usize) -> &[u8]
     ensures { result.now ≡ value_in file.now (row_in row (descriptor file.now)) }
 {
     match extent_at(file, row) {
-        Extent::Refused(_, _) => &file[..0],
-        Extent::Is(_, first, length) => {
-            let end = first + length;
-            &file[first..end]
+        Err(_) => &file[..0],
+        Ok(extent) => {
+            let end = extent.first + extent.length;
+            &file[extent.first..end]
         }
     }
 }
@@ -188,10 +194,7 @@ pub fn value_part(file: &[u8], row: usize) -> &[u8]
 fn is_one(file: &[u8], at: usize) -> bool
     ensures { result ≡ eqb (or_zero (field 1 file.now at)) 1 }
 {
-    match fields::u8_at(file, at) {
-        Number8::Is(b, _) => b == 1,
-        Number8::Short => false,
-    }
+    fields::number_or_zero::<u8>(file, at) == 1
 }
 
 // The double whose bits stand at `at`.
@@ -199,7 +202,7 @@ fn double_of(file: &[u8], at: usize) -> f64
     requires { (8 ≤ length file.now - at) × (finite (of_bits binary64 (num 8 file.now at)) ≡ true) }
     ensures { result ≡ of_bits binary64 (num 8 file.now at) }
 {
-    let bits = fields::u64_or_zero(file, at);
+    let bits = fields::number_or_zero::<u64>(file, at);
     f64::from_bits(bits)
 }
 
@@ -210,23 +213,21 @@ fn typed_of(file: &[u8], kind: u32, value: usize) -> Typed
 {
     match kind {
         BOOL => Typed::Bool(is_one(file, value)),
-        LONG => Typed::Long(fields::u32_or_zero(file, value)),
-        COMP => Typed::Comp(fields::u64_or_zero(file, value)),
+        LONG => Typed::Long(fields::number_or_zero::<u32>(file, value)),
+        COMP => Typed::Comp(fields::number_or_zero::<u64>(file, value)),
         DOUBLE => Typed::Double(double_of(file, value)),
         UNIT_DOUBLE => {
-            let unit = fields::u32_or_zero(file, value);
+            let unit = fields::number_or_zero::<u32>(file, value);
             Typed::UnitDouble(unit, double_of(file, value + 4))
         }
         _ => Typed::Other,
     }
 }
 
-// The value of a row by its kind; 12 where the file has no such row.
-pub fn typed_at(file: &[u8], row: usize) -> Typed
-    ensures { result ≡ typed_of file.now (row_in row (descriptor file.now)) }
+/// The value of a row by its kind; 12 where the file has no such row.
+pub fn typed_at(file: &[u8], row: usize) -> Result<Typed, Refusal>
+    ensures { told_typed result ≡ typed_of file.now (row_in row (descriptor file.now)) }
 {
-    match extent_at(file, row) {
-        Extent::Refused(number, place) => Typed::Refused { number, place },
-        Extent::Is(kind, value, _) => typed_of(file, kind, value),
-    }
+    let extent = extent_at(file, row)?;
+    Ok(typed_of(file, extent.kind, extent.first))
 }

@@ -1,24 +1,15 @@
 use mathlib.Core.Path.{sym, ap, ◌∙◌}
-use Rattle.descriptor_judge.specs.Answer.{told}
-use Rattle.descriptor_read.specs.scaffold.Values.{extent_of}
+use Rattle.descriptor_judge.proofs.Whole.{handed}
+use Rattle.descriptor_read.specs.scaffold.Values.{told_extent, extent_of}
 use Rattle.descriptor_read.proofs.Values.{row-refused}
 use Rattle.descriptor_read.proofs.Extents.{judged, extents-are}
 use Rattle.descriptor_read.proofs.extent_at.Goals as goal
 
--- src/lib.rt:151:41
+pub returns-in_err-_rows : goal.returns-in_err-_rows
+returns-in_err-_rows c = handed told_extent _ _ c.from_residual.ensures.1 (sym (ap extent_of (row-refused c.args.file.now c.args.row _ _ c.in_err-_rows.ensures)))
+
 pub extent_in-requires : goal.extent_in-requires
-extent_in-requires c =
-    let a = c.args in
-    judged a.file.now _ (sym (ap told c.in-Accepted.is) ∙ c.judge.ensures)
+extent_in-requires c = judged c.args.file.now _ c.in_ok-_rows.ensures
 
--- src/lib.rt:146:1
-pub returns-in-Refused : goal.returns-in-Refused
-returns-in-Refused c =
-    let a = c.args in
-    sym (ap extent_of (row-refused a.file.now a.row _ _ (sym (ap told c.in-Refused.is) ∙ c.judge.ensures)))
-
--- src/lib.rt:146:1
-pub returns-in-Accepted : goal.returns-in-Accepted
-returns-in-Accepted c =
-    let a = c.args in
-    c.extent_in.ensures ∙ extents-are a.file.now (judged a.file.now _ (sym (ap told c.in-Accepted.is) ∙ c.judge.ensures)) a.row
+pub returns : goal.returns
+returns c = let a = c.args in c.extent_in.ensures ∙ extents-are a.file.now (judged a.file.now _ c.in_ok-_rows.ensures) a.row

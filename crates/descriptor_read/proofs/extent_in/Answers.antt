@@ -5,7 +5,6 @@ use Rattle.descriptor_read.specs.scaffold.Extents.{extent_in}
 use Rattle.descriptor_read.proofs.Extents as E
 use Rattle.descriptor_read.proofs.extent_in.Goals as goal
 
--- src/lib.rt:112:5
 pub loop-left-init : goal.loop-left-init
 loop-left-init c =
     let a = c.args in
@@ -13,7 +12,6 @@ loop-left-init c =
     let u = c.root_head-head.ensures in
     E.start s c.requires a.row _ refl _ u c.met_by-met.ensures
 
--- src/lib.rt:115:56
 pub overflow_sub-result : goal.overflow_sub-result
 overflow_sub-result c =
     let a = c.args in
@@ -24,7 +22,6 @@ overflow_sub-result c =
     let f = E.facts s a.row x l o.invariant in
     (E.turn-found s a.row x l o.invariant c.if-left-eq0.true c.if-d-met.true).0
 
--- src/lib.rt:115:17
 pub returns-then-d-met : goal.returns-then-d-met
 returns-then-d-met c =
     let a = c.args in
@@ -35,7 +32,6 @@ returns-then-d-met c =
     let f = E.facts s a.row x l o.invariant in
     (E.turn-found s a.row x l o.invariant c.if-left-eq0.true c.if-d-met.true).1
 
--- src/lib.rt:118:17
 pub returns-then-d-eq0 : goal.returns-then-d-eq0
 returns-then-d-eq0 c =
     let a = c.args in
@@ -46,7 +42,6 @@ returns-then-d-eq0 c =
     let f = E.facts s a.row x l o.invariant in
     E.turn-none s a.row x l o.invariant c.if-left-eq0.true c.if-d-met.false c.if-d-eq0.true
 
--- src/lib.rt:121:25
 pub offset_bounds-saved-d : goal.offset_bounds-saved-d
 offset_bounds-saved-d c =
     let a = c.args in
@@ -57,7 +52,6 @@ offset_bounds-saved-d c =
     let f = E.facts s a.row x l o.invariant in
     omega (arith, f.3)
 
--- src/lib.rt:121:25
 pub bounds-saved-d : goal.bounds-saved-d
 bounds-saved-d c =
     let a = c.args in
@@ -68,7 +62,6 @@ bounds-saved-d c =
     let f = E.facts s a.row x l o.invariant in
     omega (arith, f.3)
 
--- src/lib.rt:112:5
 pub loop-left-smaller-then-left-eq0 : goal.loop-left-smaller-then-left-eq0
 loop-left-smaller-then-left-eq0 c =
     let a = c.args in
@@ -80,7 +73,6 @@ loop-left-smaller-then-left-eq0 c =
     let z : (o.d ≡ 0 → ⊥) = c.if-d-eq0.false in
     omega (arith, z)
 
--- src/lib.rt:112:5
 pub loop-left-preserved-then-left-eq0 : goal.loop-left-preserved-then-left-eq0
 loop-left-preserved-then-left-eq0 c =
     let a = c.args in
@@ -91,7 +83,6 @@ loop-left-preserved-then-left-eq0 c =
     let f = E.facts s a.row x l o.invariant in
     E.turn-close s a.row x l o.invariant c.if-left-eq0.true c.if-d-met.false c.if-d-eq0.false
 
--- src/lib.rt:131:58
 pub overflow_sub-result-then-k-row : goal.overflow_sub-result-then-k-row
 overflow_sub-result-then-k-row c =
     let a = c.args in
@@ -102,7 +93,6 @@ overflow_sub-result-then-k-row c =
     let f = E.facts s a.row x l o.invariant in
     (E.leaf-found s a.row x l o.invariant _ c.if-left-eq0.false c.head_at-head.ensures c.if-head-eq0.true c.if-k-row.true).0
 
--- src/lib.rt:131:17
 pub returns-then-k-row : goal.returns-then-k-row
 returns-then-k-row c =
     let a = c.args in
@@ -113,7 +103,6 @@ returns-then-k-row c =
     let f = E.facts s a.row x l o.invariant in
     (E.leaf-found s a.row x l o.invariant _ c.if-left-eq0.false c.head_at-head.ensures c.if-head-eq0.true c.if-k-row.true).1
 
--- src/lib.rt:134:13
 pub overflow_add-k : goal.overflow_add-k
 overflow_add-k c =
     let a = c.args in
@@ -124,7 +113,6 @@ overflow_add-k c =
     let f = E.facts s a.row x l o.invariant in
     omega (arith, f.0, f.2)
 
--- src/lib.rt:112:5
 pub loop-left-smaller-then-head-eq0 : goal.loop-left-smaller-then-head-eq0
 loop-left-smaller-then-head-eq0 c =
     let a = c.args in
@@ -136,7 +124,6 @@ loop-left-smaller-then-head-eq0 c =
     let w = E.seen s a.row x l o.invariant _ c.if-left-eq0.false c.head_at-head.ensures in
     omega (arith, w.1, w.2, f.4)
 
--- src/lib.rt:112:5
 pub loop-left-preserved-then-head-eq0 : goal.loop-left-preserved-then-head-eq0
 loop-left-preserved-then-head-eq0 c =
     let a = c.args in
@@ -147,7 +134,6 @@ loop-left-preserved-then-head-eq0 c =
     let f = E.facts s a.row x l o.invariant in
     E.turn-leaf s a.row x l o.invariant _ c.if-left-eq0.false c.head_at-head.ensures c.if-head-eq0.true c.if-k-row.false
 
--- src/lib.rt:137:9
 pub offset_bounds-saved-d-in-loop-left : goal.offset_bounds-saved-d-in-loop-left
 offset_bounds-saved-d-in-loop-left c =
     let a = c.args in
@@ -158,7 +144,6 @@ offset_bounds-saved-d-in-loop-left c =
     let f = E.facts s a.row x l o.invariant in
     omega (arith, f.3)
 
--- src/lib.rt:137:9
 pub bounds-saved-d-in-loop-left : goal.bounds-saved-d-in-loop-left
 bounds-saved-d-in-loop-left c =
     let a = c.args in
@@ -169,7 +154,6 @@ bounds-saved-d-in-loop-left c =
     let f = E.facts s a.row x l o.invariant in
     omega (arith, f.3)
 
--- src/lib.rt:144:9
 pub overflow_add-d : goal.overflow_add-d
 overflow_add-d c =
     let a = c.args in
@@ -180,7 +164,6 @@ overflow_add-d c =
     let f = E.facts s a.row x l o.invariant in
     omega (arith, f.3)
 
--- src/lib.rt:150:9
 pub overflow_add-k-in-loop-left : goal.overflow_add-k-in-loop-left
 overflow_add-k-in-loop-left c =
     let a = c.args in
@@ -191,7 +174,6 @@ overflow_add-k-in-loop-left c =
     let f = E.facts s a.row x l o.invariant in
     omega (arith, f.0, f.2)
 
--- src/lib.rt:112:5
 pub loop-left-smaller : goal.loop-left-smaller
 loop-left-smaller c =
     let a = c.args in
@@ -203,7 +185,6 @@ loop-left-smaller c =
     let w = E.seen s a.row x l o.invariant _ c.if-left-eq0.false c.head_at-head.ensures in
     omega (arith, w.1, w.2, f.4)
 
--- src/lib.rt:112:5
 pub loop-left-preserved : goal.loop-left-preserved
 loop-left-preserved c =
     let a = c.args in

@@ -4,13 +4,11 @@ use borrow.Author.Tests.{eq-eqb, ne_eqb}
 use Rattle.descriptor_read.specs.scaffold.Extents.{met_by}
 use Rattle.descriptor_read.proofs.met_by.Goals as goal
 
--- src/lib.rt:73:9
 pub returns-then-k-row : goal.returns-then-k-row
 returns-then-k-row c =
     let a = c.args in
     sym (ap (λ (b : Bool). met_by a.met b a.depth a.head) (eq-eqb a.k a.row c.if-k-row.true))
 
--- src/lib.rt:69:1
 pub returns : goal.returns
 returns c =
     let a = c.args in

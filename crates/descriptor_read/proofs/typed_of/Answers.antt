@@ -21,12 +21,12 @@ returns-in-1651470188 c =
 pub returns-in-1819242087 : goal.returns-in-1819242087
 returns-in-1819242087 c =
     let a = c.args in
-    typed_long a.file.now a.kind a.value c.requires.0 c.in-1819242087.is _ c.u32_or_zero.ensures
+    typed_long a.file.now a.kind a.value c.requires.0 c.in-1819242087.is _ c.number_or_zero.ensures
 
 pub returns-in-1668246896 : goal.returns-in-1668246896
 returns-in-1668246896 c =
     let a = c.args in
-    typed-comp a.file.now a.kind a.value c.requires.0 c.in-1668246896.is _ c.u64_or_zero.ensures
+    typed-comp a.file.now a.kind a.value c.requires.0 c.in-1668246896.is _ c.number_or_zero-in-1668246896.ensures
 
 pub returns-in-1685026146 : goal.returns-in-1685026146
 returns-in-1685026146 c =
@@ -36,7 +36,7 @@ returns-in-1685026146 c =
 pub returns-in-1433302086 : goal.returns-in-1433302086
 returns-in-1433302086 c =
     let a = c.args in
-    typed-unit a.file.now a.kind a.value c.requires.0 c.in-1433302086.is _ c.u32_or_zero-unit.ensures _ c.double_of-in-1433302086.ensures
+    typed-unit a.file.now a.kind a.value c.requires.0 c.in-1433302086.is _ c.number_or_zero-unit.ensures _ c.double_of-in-1433302086.ensures
 
 pub returns-in_default : goal.returns-in_default
 returns-in_default c =

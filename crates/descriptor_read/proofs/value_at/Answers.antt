@@ -1,14 +1,10 @@
+use Rattle.descriptor_judge.proofs.Whole.{handed}
+use Rattle.descriptor_read.specs.Values.{told_value}
 use Rattle.descriptor_read.proofs.Values.{place-no, place_is}
-use Rattle.descriptor_read.specs.scaffold.Values.{told_extent}
-use mathlib.Core.Path.{sym, ap, ◌∙◌}
 use Rattle.descriptor_read.proofs.value_at.Goals as goal
 
-pub returns-in-Refused : goal.returns-in-Refused
-returns-in-Refused c =
-    let a = c.args in
-    place-no a.file.now a.row _ _ (sym (ap told_extent c.in-Refused.is) ∙ c.extent_at.ensures)
+pub returns-in_err-extent : goal.returns-in_err-extent
+returns-in_err-extent c = handed told_value _ _ c.from_residual.ensures.1 (place-no c.args.file.now c.args.row _ _ c.in_err-extent.ensures)
 
-pub returns-in-Is : goal.returns-in-Is
-returns-in-Is c =
-    let a = c.args in
-    place_is a.file.now a.row _ _ _ (sym (ap told_extent c.in-Is.is) ∙ c.extent_at.ensures)
+pub returns : goal.returns
+returns c = place_is c.args.file.now c.args.row _ _ _ c.in_ok-extent.ensures

@@ -9,24 +9,24 @@ use Rattle.descriptor_read.proofs.value_part.Goals as goal
 pub overflow_add-end : goal.overflow_add-end
 overflow_add-end c =
     let a = c.args in
-    let w = part_small a.file.now a.row _ _ _ (sym (ap told_extent c.in-Is.is) ∙ c.extent_at.ensures) in
+    let w = part_small a.file.now a.row _ _ _ (sym (ap told_extent c.in-Ok.is) ∙ c.extent_at.ensures) in
     omega arith
 
-pub slice_bounds-result-end-in-Is : goal.slice_bounds-result-end-in-Is
-slice_bounds-result-end-in-Is c =
+pub slice_bounds-result-end-in-Ok : goal.slice_bounds-result-end-in-Ok
+slice_bounds-result-end-in-Ok c =
     let a = c.args in
-    part-inside a.file.now a.row _ _ _ (sym (ap told_extent c.in-Is.is) ∙ c.extent_at.ensures)
+    part-inside a.file.now a.row _ _ _ (sym (ap told_extent c.in-Ok.is) ∙ c.extent_at.ensures)
 
-pub returns-in-Refused : goal.returns-in-Refused
-returns-in-Refused c =
+pub returns-in-Err : goal.returns-in-Err
+returns-in-Err c =
     let a = c.args in
-    sym (part_no a.file.now a.row _ _ (sym (ap told_extent c.in-Refused.is) ∙ c.extent_at.ensures))
+    sym (part_no a.file.now a.row _ _ (sym (ap told_extent c.in-Err.is) ∙ c.extent_at.ensures))
 
-pub returns-in-Is : goal.returns-in-Is
-returns-in-Is c =
+pub returns-in-Ok : goal.returns-in-Ok
+returns-in-Ok c =
     let a = c.args in
     let s = a.file.now in
-    let v = c.in-Is.first in
-    let n = c.in-Is.length in
+    let v = c.in-Ok.extent.first in
+    let n = c.in-Ok.extent.length in
     let e : v + n - v ≡ n = omega arith in
-    ap (λ k. take k (drop v s)) e ∙ part-is s a.row _ _ _ (sym (ap told_extent c.in-Is.is) ∙ c.extent_at.ensures)
+    ap (λ k. take k (drop v s)) e ∙ part-is s a.row _ _ _ (sym (ap told_extent c.in-Ok.is) ∙ c.extent_at.ensures)
