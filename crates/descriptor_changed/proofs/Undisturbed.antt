@@ -145,7 +145,7 @@ module _ {s u : List ℕ} {rs us : List Row} {r : Row} (c : OneNumber s u rs us 
 
   type-same : (j : ℕ) (a : RowAnswer) → row_at j rs ≡ a → Elsewhere r a → typed_of u a ≡ typed_of s a
   type-same j (found q) f other =
-      typed-same s u q.kind q.value (λ h k a b. bytes_same j f other k a (omega (arith, b, single (length s) rs (singles s rs (length s) c.first) j f h)))
+      ap (λ t. ok t 0) (typed-same s u q.kind q.value (λ h k a b. bytes_same j f other k a (omega (arith, b, single (length s) rs (singles s rs (length s) c.first) j f h))))
   type-same j (missing x p) f other = refl
 
   row-of : (j : ℕ) → row_in j (descriptor s) ≡ row_at j rs

@@ -1,10 +1,10 @@
 -- Whether a table begins with the rows of a file.
-use Rattle.std.specs.Prelude.{ℕ, Bool, true, false, List, [], ◌∷◌, eqb, length}
+use Rattle.std.specs.Prelude.{ℕ, Bool, true, false, List, [], ◌∷◌, Option, Some, None, Result, Ok, Err, eqb, length}
 use Rattle.algebra.specs.Reader.{Res, ok, refuse, pick}
 use Rattle.descriptor.specs.Reading.{Row}
 use Rattle.descriptor_columns.specs.Columns.{Columns, columns_of}
-use Rattle.descriptor_check.specs.declared.Checked.{Checked}
-use Rattle.descriptor_check.specs.declared.Checked.TheVariants as vc
+use Rattle.fault.specs.Fault.{number_of}
+use Rattle.fault.specs.declared.Refusal.{Refusal}
 
 -- the run begins with the column: it has every number of it, in its place; what follows counts for nothing
 unfoldable pub begins : (column run : List ℕ) → Bool
@@ -23,10 +23,10 @@ pub data Check : Type 0 where
   differs : Check
   refused : ℕ → ℕ → Check
 
-abbrev pub told : Checked → Check
-told (vc.Same n) = same n
-told vc.Differs = differs
-told (vc.Refused x p) = refused x p
+abbrev pub told : Result (Option ℕ) Refusal → Check
+told (Ok (Some n)) = same n
+told (Ok None) = differs
+told (Err e) = refused (number_of e.0) e.1
 
 abbrev pub checked : Res (List Row) → (first length next depth kind : List ℕ) → Check
 checked (ok rs q) a b n d e = pick (begins_all (columns_of rs) a b n d e) (same (length rs)) differs

@@ -12,16 +12,7 @@ ghost use Rattle.descriptor_check.specs.Check.{told, checked};
 ghost use Rattle.descriptor_check.specs.scaffold.Decided.{Decides};
 
 use descriptor_columns::Level;
-use descriptor_judge::Answer;
-
-// The file has so many rows and the table begins with them; the file is accepted and the table does
-// not begin with its rows; the file is refused.
-#[derive(Drop)]
-pub enum Checked {
-    Same { rows: usize },
-    Differs,
-    Refused { number: u32, place: usize },
-}
+use fault::Refusal;
 
 // ---- comparisons
 
@@ -38,10 +29,10 @@ fn same_head(
     requires { (row < length first.now) × (row < length depth.now) × (row < length kind.now) }
     ensures { Decides result ((get_or first.now row 0 ≡ at) × (get_or depth.now row 0 ≡ level) × (get_or kind.now row 0 ≡ tag)) }
 {
-    if fields::wide(first[row]) != at {
+    if first[row] as usize != at {
         return false;
     }
-    if fields::wide(depth[row]) != level {
+    if depth[row] as usize != level {
         return false;
     }
     if kind[row] != tag {
@@ -55,10 +46,10 @@ fn same_end(size: &[u32], next: &[u32], row: usize, bytes: usize, sibling: usize
     requires { (row < length size.now) × (row < length next.now) }
     ensures { Decides result ((get_or size.now row 0 ≡ bytes) × (get_or next.now row 0 ≡ sibling)) }
 {
-    if fields::wide(size[row]) != bytes {
+    if size[row] as usize != bytes {
         return false;
     }
-    if fields::wide(next[row]) != sibling {
+    if next[row] as usize != sibling {
         return false;
     }
     true
@@ -191,8 +182,8 @@ fn compare_all(
 
 // ---- the call
 
-// Whether a table begins with the rows of a file, and how many they are; or the file's refusal. A run
-// that is shorter than the rows does not begin with them.
+/// How many rows a file has, where a table begins with them, and none where it does not; or the file's
+/// refusal. A run that is shorter than the rows does not begin with them.
 pub fn check(
     file: &[u8],
     first: &[u32],
@@ -200,19 +191,15 @@ pub fn check(
     next: &[u32],
     depth: &[u32],
     kind: &[u32],
-) -> Checked
+) -> Result<Option<usize>, Refusal>
     ensures { told result ≡ checked (descriptor file.now) first.now size.now next.now depth.now kind.now }
 {
-    match descriptor_judge::judge(file) {
-        Answer::Refused { number, place } => Checked::Refused { number, place },
-        Answer::Accepted { rows } => {
-            if descriptor_columns::is_room(first, size, next, depth, kind, rows) {
-                if compare_all(file, first, size, next, depth, kind, rows) {
-                    return Checked::Same { rows };
-                }
-                return Checked::Differs;
-            }
-            Checked::Differs
-        }
+    let rows = descriptor_judge::judge(file)?;
+    if !descriptor_columns::is_room(first, size, next, depth, kind, rows) {
+        return Ok(None);
     }
+    if compare_all(file, first, size, next, depth, kind, rows) {
+        return Ok(Some(rows));
+    }
+    Ok(None)
 }

@@ -18,7 +18,7 @@ use Rattle.descriptor_judge.specs.Answer.{Verdict, accepted, refused, verdict, t
 use Rattle.descriptor_judge.specs.scaffold.Answer.{closing}
 
 -- what is said of a refusal that a `?` hands on
-pub handed : {A B : Type 0} (says : Result A Refusal → B) (r : Result A Refusal) (e : Refusal) {m : B} → IsErrAnd r (λ y. y ≡ e) → says (Err e) ≡ m → says r ≡ m
+pub handed : {A B E : Type 0} (says : Result A E → B) (r : Result A E) (e : E) {m : B} → IsErrAnd r (λ y. y ≡ e) → says (Err e) ≡ m → says r ≡ m
 handed says r e h rest = let p = err_from_is_err_and r h in ap says (p.1 ∙ ap Err p.2) ∙ rest
 
 pub too_long : (s : List ℕ) → limit < length s → descriptor s ≡ refuse 1 0 0 0

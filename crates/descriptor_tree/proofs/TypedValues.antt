@@ -15,7 +15,7 @@ use Rattle.descriptor.specs.Reading.{Row, descriptor}
 use Rattle.descriptor_read.specs.declared.Typed.TheVariants as vt
 use Rattle.descriptor_read.specs.Values.{row_at, row_in}
 use Rattle.descriptor_read.specs.Typed.{typed_in, typed_of}
-use Rattle.descriptor_read.specs.Kinds.{Says}
+use Rattle.descriptor_read.specs.Kinds.{Says, Answers}
 use Rattle.descriptor_tree.specs.Grammar.{Leaf, Form}
 use Rattle.descriptor_tree.specs.Tree.{Members, none, one, Descriptor, count, head, bytes, rows, member_values, root_head, file_rows, row_count, file_values, Place, Item, Member, Allowed, File}
 use Rattle.descriptor_tree.proofs.Whole.{file-inv}
@@ -111,15 +111,15 @@ module _ (s : List ℕ) (octets : Bytes s) where
   unfolding file_rows file_values typed_in
   file-says t a = ((λ v h. Says.other refl), forest-says t.pairs Place.pairs 1 a 1 0 1 (length (root_head t)))
 
-  says_at : (rs : List Row) (vs : List (List ℕ)) → Paired (Lies s) rs vs → Paired Spoken rs vs → (i : ℕ) → i < length rs → (d : Row) → Says (get_or rs i d).kind (get_or vs i []) (typed_of s (row_at i rs))
+  says_at : (rs : List Row) (vs : List (List ℕ)) → Paired (Lies s) rs vs → Paired Spoken rs vs → (i : ℕ) → i < length rs → (d : Row) → Answers (get_or rs i d).kind (get_or vs i []) (typed_of s (row_at i rs))
   says_at [] vs h g i l d = absurd (omega arith)
   says_at (r ∷ rs) [] h g i l d = absurd h
   says_at (r ∷ rs) (v ∷ vs) h g zero l d = g.0 r.value h.0.0
   says_at (r ∷ rs) (v ∷ vs) h g (suc i) l d = says_at rs vs h.1 g.1 i (omega arith) d
 
 -- the typed value of row i of a file is what the tree's kind and value say
-pub typed-promised : {t : Descriptor} {s : List ℕ} → File t s → (i : ℕ) → i < row_count t → (d : Row) → Says (get_or (file_rows t) i d).kind (get_or (file_values t) i []) (typed_of s (row_in i (descriptor s)))
+pub typed-promised : {t : Descriptor} {s : List ℕ} → File t s → (i : ℕ) → i < row_count t → (d : Row) → Answers (get_or (file_rows t) i d).kind (get_or (file_values t) i []) (typed_of s (row_in i (descriptor s)))
 typed-promised {t} {s} f i h d =
     let g = file-inv f in
-    subst (λ (m : Res (List Row)). Says (get_or (file_rows t) i d).kind (get_or (file_values t) i []) (typed_of s (row_in i m))) (sym (allowed-reads f))
+    subst (λ (m : Res (List Row)). Answers (get_or (file_rows t) i d).kind (get_or (file_values t) i []) (typed_of s (row_in i m))) (sym (allowed-reads f))
     (says_at s g.octets (file_rows t) (file_values t) (file-values t s g.is) (file-says s g.octets t g.allowed) i h d)

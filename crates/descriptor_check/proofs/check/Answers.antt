@@ -1,17 +1,17 @@
 use Rattle.descriptor_check.proofs.Checking as K
 use Rattle.descriptor_columns.proofs.Room as M
 use Rattle.descriptor_columns.proofs.Reading as R
-use Rattle.descriptor_judge.specs.Answer as J
+use Rattle.descriptor_judge.proofs.Whole.{handed}
+use Rattle.descriptor_check.specs.Check.{told}
 use mathlib.Core.List.{[], ◌∷◌}
-use mathlib.Core.Path.{sym, ap, ◌∙◌}
+use mathlib.Core.Path.{sym, ◌∙◌}
 use Rattle.descriptor_check.proofs.check.Goals as goal
 
--- src/lib.rt:202:20
 pub compare_all-requires : goal.compare_all-requires
 compare_all-requires c =
     let a = c.args in
-    let v = sym (ap J.told c.in-Accepted.is) ∙ c.judge.ensures in
-    let f = sym c.if-is_room.true ∙ c.is_room.ensures in
+    let v = c.in_ok-rows.ensures in
+    let f = sym c.if-not-is_room.false ∙ c.is_room.ensures in
     let f1 = M.room-inv _ a.first.now (a.size.now ∷ a.next.now ∷ a.depth.now ∷ a.kind.now ∷ []) f in
     let f2 = M.room-inv _ a.size.now (a.next.now ∷ a.depth.now ∷ a.kind.now ∷ []) f1.1 in
     let f3 = M.room-inv _ a.next.now (a.depth.now ∷ a.kind.now ∷ []) f2.1 in
@@ -19,12 +19,11 @@ compare_all-requires c =
     let f5 = M.room-inv _ a.kind.now [] f4.1 in
     (R.accepts a.file.now _ v, f1.0, f2.0, f3.0, f4.0, f5.0)
 
--- src/lib.rt:203:21
 pub returns-then-compare_all : goal.returns-then-compare_all
 returns-then-compare_all c =
     let a = c.args in
-    let v = sym (ap J.told c.in-Accepted.is) ∙ c.judge.ensures in
-    let f = sym c.if-is_room.true ∙ c.is_room.ensures in
+    let v = c.in_ok-rows.ensures in
+    let f = sym c.if-not-is_room.false ∙ c.is_room.ensures in
     let f1 = M.room-inv _ a.first.now (a.size.now ∷ a.next.now ∷ a.depth.now ∷ a.kind.now ∷ []) f in
     let f2 = M.room-inv _ a.size.now (a.next.now ∷ a.depth.now ∷ a.kind.now ∷ []) f1.1 in
     let f3 = M.room-inv _ a.next.now (a.depth.now ∷ a.kind.now ∷ []) f2.1 in
@@ -32,12 +31,11 @@ returns-then-compare_all c =
     let f5 = M.room-inv _ a.kind.now [] f4.1 in
     K.stays a.file.now a.first.now a.size.now a.next.now a.depth.now a.kind.now _ v f f1.0 f2.0 f3.0 f4.0 f5.0 (c.compare_all.ensures.yes c.if-compare_all.true)
 
--- src/lib.rt:205:17
-pub returns-then-is_room : goal.returns-then-is_room
-returns-then-is_room c =
+pub returns : goal.returns
+returns c =
     let a = c.args in
-    let v = sym (ap J.told c.in-Accepted.is) ∙ c.judge.ensures in
-    let f = sym c.if-is_room.true ∙ c.is_room.ensures in
+    let v = c.in_ok-rows.ensures in
+    let f = sym c.if-not-is_room.false ∙ c.is_room.ensures in
     let f1 = M.room-inv _ a.first.now (a.size.now ∷ a.next.now ∷ a.depth.now ∷ a.kind.now ∷ []) f in
     let f2 = M.room-inv _ a.size.now (a.next.now ∷ a.depth.now ∷ a.kind.now ∷ []) f1.1 in
     let f3 = M.room-inv _ a.next.now (a.depth.now ∷ a.kind.now ∷ []) f2.1 in
@@ -45,15 +43,13 @@ returns-then-is_room c =
     let f5 = M.room-inv _ a.kind.now [] f4.1 in
     K.changes a.file.now a.first.now a.size.now a.next.now a.depth.now a.kind.now _ v f f1.0 f2.0 f3.0 f4.0 f5.0 (c.compare_all.ensures.no c.if-compare_all.false)
 
--- src/lib.rt:188:1
-pub returns-in-Refused : goal.returns-in-Refused
-returns-in-Refused c =
+pub returns-in_err-rows : goal.returns-in_err-rows
+returns-in_err-rows c =
     let a = c.args in
-    K.refuses a.file.now a.first.now a.size.now a.next.now a.depth.now a.kind.now _ _ (sym (ap J.told c.in-Refused.is) ∙ c.judge.ensures)
+    handed told _ _ c.from_residual.ensures.1 (K.refuses a.file.now a.first.now a.size.now a.next.now a.depth.now a.kind.now _ _ c.in_err-rows.ensures)
 
--- src/lib.rt:188:1
-pub returns-else-is_room : goal.returns-else-is_room
-returns-else-is_room c =
+pub returns-then-not-is_room : goal.returns-then-not-is_room
+returns-then-not-is_room c =
     let a = c.args in
-    let v = sym (ap J.told c.in-Accepted.is) ∙ c.judge.ensures in
-    K.short a.file.now a.first.now a.size.now a.next.now a.depth.now a.kind.now _ v (sym c.if-is_room.false ∙ c.is_room.ensures)
+    let v = c.in_ok-rows.ensures in
+    K.short a.file.now a.first.now a.size.now a.next.now a.depth.now a.kind.now _ v (sym c.if-not-is_room.true ∙ c.is_room.ensures)

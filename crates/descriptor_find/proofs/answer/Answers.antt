@@ -4,27 +4,23 @@ use Rattle.descriptor.specs.Reading.{descriptor}
 use mathlib.Core.Path.{sym, ap, ◌∙◌}
 use Rattle.descriptor_find.proofs.answer.Goals as goal
 
--- src/lib.rt:165:17
 pub returns-then-answers-count : goal.returns-then-answers-count
 returns-then-answers-count c =
     let a = c.args in
     let k = sym (ap told_count c.in-Keys.is) ∙ c.count_keys.ensures in
     K.keys-room a.file.now (rows_in (descriptor a.file.now)) a.keys.now a.answers.now _ k c.if-answers-count.true
 
--- src/lib.rt:170:13
 pub answer_all-requires : goal.answer_all-requires
 answer_all-requires c =
     let a = c.args in
     let k = sym (ap told_count c.in-Keys.is) ∙ c.count_keys.ensures in
     (c.requires, K.keys-fit a.file.now (rows_in (descriptor a.file.now)) a.keys.now a.answers.now _ k c.if-answers-count.false)
 
--- src/lib.rt:150:1
 pub returns-in-Refused : goal.returns-in-Refused
 returns-in-Refused c =
     let a = c.args in
     K.keys-refused a.file.now (rows_in (descriptor a.file.now)) a.keys.now a.answers.now _ _ (sym (ap told_count c.in-Refused.is) ∙ c.count_keys.ensures)
 
--- src/lib.rt:150:1
 pub returns-else-answers-count : goal.returns-else-answers-count
 returns-else-answers-count c =
     let a = c.args in

@@ -8,13 +8,11 @@ use lib.ListN.{set}
 use mathlib.Core.Path.{ap}
 use Rattle.descriptor_find.proofs.answer_all.Goals as goal
 
--- src/lib.rt:137:5
 pub loop-at-init : goal.loop-at-init
 loop-at-init c =
     let a = c.args in
     λ g. K.fill_start a.keys.now a.answers.now (row_of a.file.now (rows_in (descriptor a.file.now))) g
 
--- src/lib.rt:140:62
 pub overflow_add-at : goal.overflow_add-at
 overflow_add-at c =
     let a = c.args in
@@ -23,7 +21,6 @@ overflow_add-at c =
     let n = K.fill-next a.keys.now a.answers.now o.answers (row_of a.file.now (rows_in (descriptor a.file.now))) p.1.ks o.at o.i (o.invariant p.1) c.loop-at-test.true _ _ c.u32_or_zero-tag.ensures c.body_size-size.ensures.0 in
     omega (arith, n.inside)
 
--- src/lib.rt:140:13
 pub row_of-row-requires : goal.row_of-row-requires
 row_of-row-requires c =
     let a = c.args in
@@ -32,7 +29,6 @@ row_of-row-requires c =
     let n = K.fill-next a.keys.now a.answers.now o.answers (row_of a.file.now (rows_in (descriptor a.file.now))) p.1.ks o.at o.i (o.invariant p.1) c.loop-at-test.true _ _ c.u32_or_zero-tag.ensures c.body_size-size.ensures.0 in
     (p.0, c.body_size-size.ensures.1, c.body_size-size.ensures.0, n.inside)
 
--- src/lib.rt:141:22
 pub overflow_cast-answers : goal.overflow_cast-answers
 overflow_cast-answers c =
     let a = c.args in
@@ -40,7 +36,6 @@ overflow_cast-answers c =
     let r = c.row_of-row.ensures.1 in
     omega (arith, m.2, r)
 
--- src/lib.rt:141:9
 pub offset_bounds-answers-i : goal.offset_bounds-answers-i
 offset_bounds-answers-i c =
     let a = c.args in
@@ -49,7 +44,6 @@ offset_bounds-answers-i c =
     let n = K.fill-next a.keys.now a.answers.now o.answers (row_of a.file.now (rows_in (descriptor a.file.now))) p.1.ks o.at o.i (o.invariant p.1) c.loop-at-test.true _ _ c.u32_or_zero-tag.ensures c.body_size-size.ensures.0 in
     omega (arith, n.room, (o.invariant p.1).size)
 
--- src/lib.rt:141:9
 pub bounds-answers-i : goal.bounds-answers-i
 bounds-answers-i c =
     let a = c.args in
@@ -58,7 +52,6 @@ bounds-answers-i c =
     let n = K.fill-next a.keys.now a.answers.now o.answers (row_of a.file.now (rows_in (descriptor a.file.now))) p.1.ks o.at o.i (o.invariant p.1) c.loop-at-test.true _ _ c.u32_or_zero-tag.ensures c.body_size-size.ensures.0 in
     n.room
 
--- src/lib.rt:142:14
 pub overflow_add-at-in-loop-at : goal.overflow_add-at-in-loop-at
 overflow_add-at-in-loop-at c =
     let a = c.args in
@@ -67,7 +60,6 @@ overflow_add-at-in-loop-at c =
     let n = K.fill-next a.keys.now a.answers.now o.answers (row_of a.file.now (rows_in (descriptor a.file.now))) p.1.ks o.at o.i (o.invariant p.1) c.loop-at-test.true _ _ c.u32_or_zero-tag.ensures c.body_size-size.ensures.0 in
     omega (arith, n.inside)
 
--- src/lib.rt:142:14
 pub overflow_add-at-in-loop-at-2 : goal.overflow_add-at-in-loop-at-2
 overflow_add-at-in-loop-at-2 c =
     let a = c.args in
@@ -76,7 +68,6 @@ overflow_add-at-in-loop-at-2 c =
     let n = K.fill-next a.keys.now a.answers.now o.answers (row_of a.file.now (rows_in (descriptor a.file.now))) p.1.ks o.at o.i (o.invariant p.1) c.loop-at-test.true _ _ c.u32_or_zero-tag.ensures c.body_size-size.ensures.0 in
     omega (arith, n.inside)
 
--- src/lib.rt:143:9
 pub overflow_add-i : goal.overflow_add-i
 overflow_add-i c =
     let a = c.args in
@@ -85,7 +76,6 @@ overflow_add-i c =
     let n = K.fill-next a.keys.now a.answers.now o.answers (row_of a.file.now (rows_in (descriptor a.file.now))) p.1.ks o.at o.i (o.invariant p.1) c.loop-at-test.true _ _ c.u32_or_zero-tag.ensures c.body_size-size.ensures.0 in
     omega (arith, n.room, (o.invariant p.1).size)
 
--- src/lib.rt:137:5
 pub loop-at-smaller : goal.loop-at-smaller
 loop-at-smaller c =
     let a = c.args in
@@ -94,14 +84,12 @@ loop-at-smaller c =
     let l = c.loop-at-test.true in
     omega (arith, l)
 
--- src/lib.rt:137:5
 pub loop-at-preserved : goal.loop-at-preserved
 loop-at-preserved c =
     let a = c.args in
     let o = c.loop-at in
     λ g. (K.fill-next a.keys.now a.answers.now o.answers (row_of a.file.now (rows_in (descriptor a.file.now))) g.ks o.at o.i (o.invariant g) c.loop-at-test.true _ _ c.u32_or_zero-tag.ensures c.body_size-size.ensures.0).next _ (ap (set o.answers o.i) c.row_of-row.ensures.0)
 
--- src/lib.rt:124:1
 pub shape_of-answers : goal.shape_of-answers
 shape_of-answers c =
     let a = c.args in
@@ -109,7 +97,6 @@ shape_of-answers c =
     let o = c.loop-at in
     (o.invariant p.1).size
 
--- src/lib.rt:124:1
 pub returns : goal.returns
 returns c =
     let a = c.args in

@@ -4,35 +4,29 @@ use native.Mathlib.Omega.{arith}
 use mathlib.Core.Path.{sym, ap, ◌∙◌}
 use Rattle.descriptor_find.proofs.count_keys.Goals as goal
 
--- src/lib.rt:46:5
 pub loop-at-init : goal.loop-at-init
 loop-at-init c =
     K.count-start c.args.keys.now
 
--- src/lib.rt:49:17
 pub returns-in-Refused : goal.returns-in-Refused
 returns-in-Refused c =
     K.count-refused c.args.keys.now c.loop-at.at c.loop-at.n _ _ c.loop-at.invariant c.loop-at-test.true (sym (ap told_field_end c.in-Refused.is) ∙ c.id_at.ensures)
 
--- src/lib.rt:53:17
 pub overflow_add-n : goal.overflow_add-n
 overflow_add-n c =
     let g = c.loop-at.invariant in
     omega (arith, g.few, g.inside)
 
--- src/lib.rt:46:5
 pub loop-at-smaller : goal.loop-at-smaller
 loop-at-smaller c =
     let x = K.count_next c.args.keys.now c.loop-at.at c.loop-at.n _ c.loop-at.invariant c.loop-at-test.true (sym (ap told_field_end c.in-Next.is) ∙ c.id_at.ensures) in
     let l = c.loop-at-test.true in
     omega (arith, x.1, l)
 
--- src/lib.rt:46:5
 pub loop-at-preserved : goal.loop-at-preserved
 loop-at-preserved c =
     (K.count_next c.args.keys.now c.loop-at.at c.loop-at.n _ c.loop-at.invariant c.loop-at-test.true (sym (ap told_field_end c.in-Next.is) ∙ c.id_at.ensures)).0
 
--- src/lib.rt:41:1
 pub returns : goal.returns
 returns c =
     K.count-end c.args.keys.now c.loop-at.at c.loop-at.n c.loop-at.invariant c.loop-at-test.false

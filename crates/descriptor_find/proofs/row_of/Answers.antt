@@ -6,13 +6,11 @@ use mathlib.Core.Path.{sym, ap, ◌∙◌, subst}
 use Prim.Native.Nat.{ℕ}
 use Rattle.descriptor_find.proofs.row_of.Goals as goal
 
--- src/lib.rt:114:5
 pub loop-j-init : goal.loop-j-init
 loop-j-init c =
     let a = c.args in
     λ t. C.walk_start a.file.now a.first.now a.next.now a.rows t (a.tag, nums 1 a.size a.keys.now a.body)
 
--- src/lib.rt:115:40
 pub offset_bounds-first-j : goal.offset_bounds-first-j
 offset_bounds-first-j c =
     let a = c.args in
@@ -23,7 +21,6 @@ offset_bounds-first-j c =
     let l = c.loop-j-test.true in
     omega (arith, l, m.2)
 
--- src/lib.rt:115:40
 pub bounds-first-j : goal.bounds-first-j
 bounds-first-j c =
     let a = c.args in
@@ -34,7 +31,6 @@ bounds-first-j c =
     let l = c.loop-j-test.true in
     omega (arith, l, m.0)
 
--- src/lib.rt:115:12
 pub same_key-requires : goal.same_key-requires
 same_key-requires c =
     let a = c.args in
@@ -44,7 +40,6 @@ same_key-requires c =
     let w = c.wide.ensures in
     (omega (arith, w.0, w.1), p.1, p.2, p.3)
 
--- src/lib.rt:116:13
 pub returns-then-same_key : goal.returns-then-same_key
 returns-then-same_key c =
     let a = c.args in
@@ -56,7 +51,6 @@ returns-then-same_key c =
     let e = c.same_key.ensures ∙ ap (λ (x : ℕ). has_key (key a.file.now x) (a.tag, nums 1 a.size a.keys.now a.body)) c.wide.ensures.0 in
     (C.walk-found a.file.now a.first.now a.next.now a.rows t (a.tag, nums 1 a.size a.keys.now a.body) o.j (o.invariant t) l _ e c.if-same_key.true, omega (arith, l))
 
--- src/lib.rt:118:26
 pub offset_bounds-next-j : goal.offset_bounds-next-j
 offset_bounds-next-j c =
     let a = c.args in
@@ -67,7 +61,6 @@ offset_bounds-next-j c =
     let l = c.loop-j-test.true in
     omega (arith, l, m.2)
 
--- src/lib.rt:118:26
 pub bounds-next-j : goal.bounds-next-j
 bounds-next-j c =
     let a = c.args in
@@ -78,7 +71,6 @@ bounds-next-j c =
     let l = c.loop-j-test.true in
     omega (arith, l, m.1)
 
--- src/lib.rt:114:5
 pub loop-j-smaller : goal.loop-j-smaller
 loop-j-smaller c =
     let a = c.args in
@@ -92,7 +84,6 @@ loop-j-smaller c =
     let w = c.wide-j.ensures.0 in
     omega (arith, l, n, w)
 
--- src/lib.rt:114:5
 pub loop-j-preserved : goal.loop-j-preserved
 loop-j-preserved c =
     let a = c.args in
@@ -101,7 +92,6 @@ loop-j-preserved c =
     let e = c.same_key.ensures ∙ ap (λ (x : ℕ). has_key (key a.file.now x) (a.tag, nums 1 a.size a.keys.now a.body)) c.wide.ensures.0 in
     λ t. subst (λ (x : ℕ). C.Walking a.file.now a.first.now a.next.now a.rows t (a.tag, nums 1 a.size a.keys.now a.body) x) (sym c.wide-j.ensures.0) (C.walk-on a.file.now a.first.now a.next.now a.rows t (a.tag, nums 1 a.size a.keys.now a.body) o.j (o.invariant t) l _ e c.if-same_key.false).1
 
--- src/lib.rt:100:1
 pub returns : goal.returns
 returns c =
     let a = c.args in

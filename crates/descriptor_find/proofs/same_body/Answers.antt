@@ -8,7 +8,6 @@ use mathlib.Core.Path.{sym, ap, ◌∙◌}
 use Prim.Native.Nat.{ℕ, ◌+◌, ◌-◌, ◌*◌, ◌/◌}
 use Rattle.descriptor_find.proofs.same_body.Goals as goal
 
--- src/lib.rt:100:9
 pub returns-then-same_words : goal.returns-then-same_words
 returns-then-same_words c =
     let a = c.args in
@@ -19,7 +18,6 @@ returns-then-same_words c =
     let t = K.words-first f k a.start a.body a.size w (omega arith) in
     c.same_bytes.ensures ∙ sym (t ∙ ap (λ (b : Bool). pick b rest false) (sym c.same_words.ensures ∙ c.if-same_words.true))
 
--- src/lib.rt:93:1
 pub returns : goal.returns
 returns c =
     let a = c.args in

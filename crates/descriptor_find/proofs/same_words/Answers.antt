@@ -9,31 +9,26 @@ use mathlib.Core.Path.{sym, ap, ◌∙◌}
 use Prim.Native.Nat.{◌+◌, ◌-◌, ◌*◌}
 use Rattle.descriptor_find.proofs.same_words.Goals as goal
 
--- src/lib.rt:67:5
 pub loop-i-init : goal.loop-i-init
 loop-i-init c =
     let a = c.args in
     K.words-start a.file.now a.keys.now a.start a.body a.words
 
--- src/lib.rt:68:18
 pub overflow_mul-at : goal.overflow_mul-at
 overflow_mul-at c =
     let p = c.requires in
     omega (arith, p.0, c.loop-i-test.true)
 
--- src/lib.rt:69:38
 pub overflow_add-start : goal.overflow_add-start
 overflow_add-start c =
     let p = c.requires in
     omega (arith, p.0, c.loop-i-test.true)
 
--- src/lib.rt:69:79
 pub overflow_add-body : goal.overflow_add-body
 overflow_add-body c =
     let p = c.requires in
     omega (arith, p.1, c.loop-i-test.true)
 
--- src/lib.rt:70:13
 pub returns-then-u64_or_zero : goal.returns-then-u64_or_zero
 returns-then-u64_or_zero c =
     let a = c.args in
@@ -47,19 +42,16 @@ returns-then-u64_or_zero c =
     let t = K.words-turn f k a.start a.body a.words (λ j. omega (arith, c.type_inv.file j)) (λ j. omega (arith, c.type_inv.keys j)) o.i l in
     sym (o.invariant ∙ t ∙ ap (λ (b : Bool). pick b (equal_bytes (nums 1 (8 * (a.words - (o.i + 1))) f (a.start + 8 * (o.i + 1))) (nums 1 (8 * (a.words - (o.i + 1))) k (a.body + 8 * (o.i + 1)))) false) (ne_eqb _ _ (λ z. c.if-u64_or_zero.true (x ∙ z ∙ sym y))))
 
--- src/lib.rt:72:9
 pub overflow_add-i : goal.overflow_add-i
 overflow_add-i c =
     let l = c.loop-i-test.true in
     omega (arith, l)
 
--- src/lib.rt:67:5
 pub loop-i-smaller : goal.loop-i-smaller
 loop-i-smaller c =
     let l = c.loop-i-test.true in
     omega (arith, l)
 
--- src/lib.rt:67:5
 pub loop-i-preserved : goal.loop-i-preserved
 loop-i-preserved c =
     let a = c.args in
@@ -73,7 +65,6 @@ loop-i-preserved c =
     let t = K.words-turn f k a.start a.body a.words (λ j. omega (arith, c.type_inv.file j)) (λ j. omega (arith, c.type_inv.keys j)) o.i l in
     o.invariant ∙ t ∙ ap (λ (b : Bool). pick b (equal_bytes (nums 1 (8 * (a.words - (o.i + 1))) f (a.start + 8 * (o.i + 1))) (nums 1 (8 * (a.words - (o.i + 1))) k (a.body + 8 * (o.i + 1)))) false) (eq-eqb _ _ (sym x ∙ c.if-u64_or_zero.false ∙ y))
 
--- src/lib.rt:62:1
 pub returns : goal.returns
 returns c =
     let a = c.args in

@@ -6,13 +6,11 @@ use Rattle.descriptor_list.proofs.Listed.{held}
 use borrow.Author.Rules.{rules}
 use Rattle.descriptor_list.proofs.put_accepted.Goals as goal
 
--- src/main.rt:115:33
 pub slice_bounds-parents-end : goal.slice_bounds-parents-end
 slice_bounds-parents-end c =
     let a = c.args in
     sym (length-take-le a.rows a.depth.now c.requires.2)
 
--- src/main.rt:103:1
 pub returns : goal.returns
 returns c =
     λ rs g.

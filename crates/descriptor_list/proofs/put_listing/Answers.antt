@@ -6,26 +6,22 @@ use Rattle.descriptor_list.proofs.Listed.{listed-refused, listed-accepted}
 use borrow.Author.Rules.{rules}
 use Rattle.descriptor_list.proofs.put_listing.Goals as goal
 
--- src/main.rt:128:9
 pub returns-then-file-gt-TAKEN : goal.returns-then-file-gt-TAKEN
 returns-then-file-gt-TAKEN c =
     let a = c.args in
     c.put_refusal.ensures ∙ ap (put_all (a.out.now, 0)) (taken-beyond 16384 a.file.now _ c.if-file-gt-TAKEN.true)
 
--- src/main.rt:137:38
 pub put_accepted-requires : goal.put_accepted-requires
 put_accepted-requires c =
     let a = c.args in
     (listed-accepted a.file.now c.read.ensures.1 (search rules) (search rules) (search rules) (search rules) (search rules) c.if-file-gt-TAKEN.false (sym (ap told c.in-Accepted.is) ∙ c.read.ensures.0)).2
 
--- src/main.rt:124:1
 pub returns-in-Refused : goal.returns-in-Refused
 returns-in-Refused c =
     let a = c.args in
     c.put_refusal-in-Refused.ensures
     ∙ ap (put_all (a.out.now, 0)) (listed-refused a.file.now c.read.ensures.1 (search rules) (search rules) (search rules) (search rules) (search rules) c.if-file-gt-TAKEN.false (sym (ap told c.in-Refused.is) ∙ c.read.ensures.0) ∙ taken-within 16384 a.file.now _ c.if-file-gt-TAKEN.false)
 
--- src/main.rt:124:1
 pub returns-in-Accepted : goal.returns-in-Accepted
 returns-in-Accepted c =
     let a = c.args in

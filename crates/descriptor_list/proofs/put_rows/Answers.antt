@@ -4,18 +4,15 @@ use borrow.Author.Rules.{rules}
 use Rattle.descriptor_list.proofs.Listed.{row-turn, rows_end}
 use Rattle.descriptor_list.proofs.put_rows.Goals as goal
 
--- src/main.rt:82:5
 pub loop-i-init : goal.loop-i-init
 loop-i-init c =
     (omega arith, refl, λ rs h. refl)
 
--- src/main.rt:82:5
 pub loop-i-preserved : goal.loop-i-preserved
 loop-i-preserved c =
     let l = c.loop-i in
     (omega arith, search rules, λ rs h. row-turn rs h _ (l.out, l.at) l.i c.loop-i-test.true (l.invariant.2 rs h) c.put_row-at.ensures)
 
--- src/main.rt:67:1
 pub returns : goal.returns
 returns c =
     λ rs h.
