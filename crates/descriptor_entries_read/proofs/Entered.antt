@@ -1,6 +1,6 @@
 -- The entries of a whole file in a run, and what the call answers. Assumes nothing.
 use Prim.Native.Nat.{ℕ, suc, ◌+◌, ◌*◌, ◌/◌, ◌≤◌, ◌<◌}
-use mathlib.Core.Path.{◌≡◌, sym, ap, ap₂, ◌∙◌, subst}
+use mathlib.Core.Path.{◌≡◌, refl, sym, ap, ap₂, ◌∙◌, subst}
 use mathlib.Core.List.{List, [], ◌∷◌, ◌++◌}
 use mathlib.Core.Bool.{Bool, true, false}
 use lib.Dec.{leb}
@@ -12,6 +12,11 @@ use native.Mathlib.Nat.{zero-add}
 use Rattle.algebra.specs.Numbers.{Bytes, joined}
 use Rattle.algebra.specs.Reader.{Res, ok, pick, until}
 use Rattle.algebra.proofs.Stores.{sets-append}
+use Rattle.std.specs.Prelude.{Result}
+use Rattle.std.specs.Result.{IsErrAnd}
+use Rattle.std.proofs.lemmas.Result.{err_from_is_err_and}
+use Rattle.fault.specs.Fault.{number_of}
+use Rattle.fault.specs.declared.Refusal.{Refusal}
 use Rattle.descriptor_judge.specs.Answer.{Verdict}
 use Rattle.descriptor_judge.specs.Answer as A
 use Rattle.descriptor_heads.specs.Heads.{Due, items, Head, Opened, Stack, over, next_head, settled, after, root_head}
@@ -28,6 +33,10 @@ use Rattle.descriptor_entries.specs.scaffold.Spans.{end_of}
 use Rattle.descriptor_entries_read.specs.scaffold.Filling.{Inside, head_with, waiting, behind, Begun, rest}
 use Rattle.descriptor_entries.proofs.Built.{root-read, object-is, taken-length}
 use Rattle.descriptor_entries_read.proofs.Turns.{entry_length, same-entry}
+
+-- what is told where a `?` hands a refusal on
+pub refused-exit : (r : Result ℕ Refusal) (e : Refusal) → IsErrAnd r (λ y. y ≡ e) → (run : List ℕ) → ◌≡◌ {A = Verdict × List ℕ} (A.told r, run) (A.refused (number_of e.0) e.1, run)
+refused-exit r e h run = let p = err_from_is_err_and r h in rw (p.1, p.2) refl
 
 module _ (s : List ℕ) where
   module _ (n : ℕ) (r : Rooted s n) where

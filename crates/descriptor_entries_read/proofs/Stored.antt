@@ -1,17 +1,22 @@
 -- What single stores leave. Assumes nothing.
 use Prim.Native.Nat.{ℕ, zero, suc, ◌+◌, ◌*◌, ◌≤◌}
 use mathlib.Core.Path.{◌≡◌, refl, sym, ap, ap₂, ◌∙◌, subst}
-use mathlib.Core.List.{List, ◌∷◌}
-use lib.ListN.{length, get_or, set, length-set}
+use mathlib.Core.List.{List, [], ◌∷◌, ◌++◌}
+use lib.ListN.{length, get_or, set, length-set, take, drop}
 use lib.Seq.{set_out}
 use native.Mathlib.Omega.{arith}
 use native.Mathlib.Nat.{add-zero}
+use borrow.Rule.Slice.PartMut.{put_mid}
+use lib.Seq.{sets, sets-eq}
+use Rattle.std.proofs.lemmas.Slice.{put_mid-paste}
 use Rattle.algebra.specs.Numbers.{num}
 use Rattle.algebra.specs.Reader.{field, or_zero}
 use Rattle.algebra.proofs.Laws.{field_in}
 use Rattle.descriptor_raw.specs.Raw.{due_of}
 use Rattle.descriptor_heads.specs.Heads.{Due, items, pairs, forms, columns}
 use Rattle.descriptor_entry.specs.Shapes.{Entry}
+use mathlib.Core.Bool.{true, false}
+use Rattle.descriptor_entry.specs.Entries.{keyed}
 use Rattle.descriptor_entry.specs.declared.Field.{Field}
 use Rattle.descriptor_entry.specs.declared.Field.TheVariants as f
 use Rattle.descriptor_entries.specs.Taken.{put, span, put_all, put_key}
@@ -34,6 +39,16 @@ byte-is s at = ap (λ (k : ℕ). get_or s k 0) (sym (add-zero at)) ∙ zero-time
 pub both_out : (e : Entry) (i a b : ℕ) → length e ≤ i → e ≡ set (set e i a) (i + 1) b
 both_out e i a b l = sym (set_out (set e i a) (i + 1) b (omega (arith, l, length-set e i a)) ∙ set_out e i a l)
 
+-- a row that is copied over a part of a run
+pub part-stored : (run row : List ℕ) (to k : ℕ) (new : List ℕ) → new ≡ row → k ≡ length row → to + length row ≤ length run → put_mid to k run new ≡ sets run to row
+part-stored run row to k new is n room =
+    subst (λ (m : ℕ). put_mid to m run new ≡ sets run to row) (sym n)
+    (put_mid-paste to (length row) run new row (length row) is refl refl ∙ ap (λ (l : List ℕ). take to run ++ l ++ drop (to + length row) run) (take-whole row) ∙ sym (sets-eq row run to room))
+  where
+    take-whole : (l : List ℕ) → take (length l) l ≡ l
+    take-whole [] = refl
+    take-whole (x ∷ l) = ap (λ (m : List ℕ). x ∷ m) (take-whole l)
+
 -- ---- a field by its variant
 
 module _ (s : List ℕ) (at : ℕ) (x y : Field) (same : x ≡ y) where
@@ -45,17 +60,17 @@ module _ (s : List ℕ) (at : ℕ) (x y : Field) (same : x ≡ y) where
 
 -- ---- a key
 
-pub due-keyed : (s : List ℕ) (at what : ℕ) (e : Entry) → (what ≡ 0 → ⊥) → (what ≡ 2 → ⊥) → (key_span s at (due_of what 0) ≡ span s at (f.Id 1)) × (put_key s at (due_of what 0) e ≡ put s at (f.Id 1) e)
-due-keyed s at zero e a b = absurd (a refl)
-due-keyed s at (suc zero) e a b = (refl, refl)
-due-keyed s at (suc (suc zero)) e a b = absurd (b refl)
-due-keyed s at (suc (suc (suc n))) e a b = (refl, refl)
+pub due-keyed : (s : List ℕ) (at what : ℕ) (e : Entry) → keyed (due_of what 0) ≡ true → (key_span s at (due_of what 0) ≡ span s at (f.Id 1)) × (put_key s at (due_of what 0) e ≡ put s at (f.Id 1) e)
+due-keyed s at zero e h = let z : ◌≡◌ {A = ℕ} 0 1 = cc in absurd (omega arith)
+due-keyed s at (suc zero) e h = (refl, refl)
+due-keyed s at (suc (suc zero)) e h = let z : ◌≡◌ {A = ℕ} 0 1 = cc in absurd (omega arith)
+due-keyed s at (suc (suc (suc n))) e h = (refl, refl)
 
-pub due-plain : (s : List ℕ) (at what : ℕ) (e : Entry) → what ≡ 0 → e ≡ put_key s at (due_of what 0) e
-due-plain s at what e z = ap (λ (w : ℕ). put_key s at (due_of w 0) e) (sym z)
-
-pub due-form : (s : List ℕ) (at what : ℕ) (e : Entry) → what ≡ 2 → e ≡ put_key s at (due_of what 0) e
-due-form s at what e z = ap (λ (w : ℕ). put_key s at (due_of w 0) e) (sym z)
+pub due-plain : (s : List ℕ) (at what : ℕ) (e : Entry) → keyed (due_of what 0) ≡ false → e ≡ put_key s at (due_of what 0) e
+due-plain s at zero e h = refl
+due-plain s at (suc zero) e h = let z : ◌≡◌ {A = ℕ} 0 1 = cc in absurd (omega arith)
+due-plain s at (suc (suc zero)) e h = refl
+due-plain s at (suc (suc (suc n))) e h = let z : ◌≡◌ {A = ℕ} 0 1 = cc in absurd (omega arith)
 
 pub key-length : (s : List ℕ) (at : ℕ) (c : Due) (e : Entry) → length (put_key s at c e) ≡ length e
 key-length s at items e = refl

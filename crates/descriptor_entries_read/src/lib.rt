@@ -20,15 +20,9 @@ ghost use Rattle.descriptor_entries_read.specs.scaffold.Filling.{Inside, head_wi
 
 use descriptor_columns::Level;
 use descriptor_entry::{Field, Shape, WIDTH};
-use descriptor_judge::Answer;
+use fault::{Fault, Refusal};
 
 // ---- one field, at a place of the file
-
-fn wide(x: u8) -> u32
-    ensures { result ≡ x }
-{
-    x as u32
-}
 
 // A number of an entry; one past its end is left out.
 fn put_at(entry: &mut [u32; 16], i: usize, v: u32)
@@ -45,7 +39,7 @@ fn put_word(file: &[u8], at: usize, entry: &mut [u32; 16], i: usize) -> usize
     requires { (length entry.old ≡ 16) × (at + 4 ≤ length file.now) }
     ensures { (entry.new ≡ set entry.old i (num 4 file.now at)) × (result ≡ at + 4) }
 {
-    put_at(entry, i, fields::u32_or_zero(file, at));
+    put_at(entry, i, fields::number_or_zero::<u32>(file, at));
     at + 4
 }
 
@@ -54,7 +48,7 @@ fn put_flag(file: &[u8], at: usize, entry: &mut [u32; 16]) -> usize
     requires { (length entry.old ≡ 16) × (at + 1 ≤ length file.now) }
     ensures { (entry.new ≡ set entry.old 13 (num 1 file.now at)) × (result ≡ at + 1) }
 {
-    put_at(entry, 13, wide(file[at]));
+    put_at(entry, 13, u32::from(file[at]));
     at + 1
 }
 
@@ -72,11 +66,10 @@ fn put_part(file: &[u8], at: usize, entry: &mut [u32; 16], i: usize) -> u32
     requires { (length entry.old ≡ 16) × (at + 4 ≤ length file.now) × (length file.now ≤ 16777216) }
     ensures { (entry.new ≡ set (set entry.old i (num 4 file.now at)) (i + 1) (at + 4)) × (result ≡ num 4 file.now at) }
 {
-    let n = fields::u32_or_zero(file, at);
+    let n = fields::number_or_zero::<u32>(file, at);
     if i < WIDTH {
         put_at(entry, i, n);
         put_at(entry, i + 1, (at + 4) as u32);
-        return n;
     }
     n
 }
@@ -95,9 +88,9 @@ fn put_field(file: &[u8], at: usize, field: Field, entry: &mut [u32; 16]) -> usi
         Field::Wide => put_wide(file, at, entry),
         Field::Double => put_wide(file, at, entry),
         Field::Id(i) => at + 4 + descriptor_entry_fields::id_length(put_part(file, at, entry, i)),
-        Field::Text(i) => at + 4 + 2 * fields::wide(put_part(file, at, entry, i)),
-        Field::Run(i) => at + 4 + fields::wide(put_part(file, at, entry, i)),
-        Field::Doubles(i) => at + 4 + 8 * fields::wide(put_part(file, at, entry, i)),
+        Field::Text(i) => at + 4 + 2 * put_part(file, at, entry, i) as usize,
+        Field::Run(i) => at + 4 + put_part(file, at, entry, i) as usize,
+        Field::Doubles(i) => at + 4 + 8 * put_part(file, at, entry, i) as usize,
     }
 }
 
@@ -108,14 +101,10 @@ fn put_fields(file: &[u8], at: usize, shape: Shape, entry: &mut [u32; 16])
     requires { (length entry.old ≡ 16) × (end_of file.now at (fields_of shape) ≤ length file.now) × (length file.now ≤ 16777216) }
     ensures { entry.new ≡ put_all file.now at (fields_of shape) entry.old }
 {
-    let first = shape.first;
-    let second = shape.second;
-    let third = shape.third;
-    let fourth = shape.fourth;
-    let p = put_field(file, at, first, entry);
-    let q = put_field(file, p, second, entry);
-    let r = put_field(file, q, third, entry);
-    put_field(file, r, fourth, entry);
+    let p = put_field(file, at, shape.first, entry);
+    let q = put_field(file, p, shape.second, entry);
+    let r = put_field(file, q, shape.third, entry);
+    put_field(file, r, shape.fourth, entry);
 }
 
 // The key, where the members that are due have one.
@@ -123,13 +112,9 @@ fn put_key(file: &[u8], at: usize, what: u32, entry: &mut [u32; 16])
     requires { (length entry.old ≡ 16) × (at + key_span file.now at (due_of what 0) ≤ length file.now) × (length file.now ≤ 16777216) }
     ensures { entry.new ≡ put_key file.now at (due_of what 0) entry.old }
 {
-    if what == 0 {
-        return;
+    if descriptor_entry_fields::is_keyed(what) {
+        put_field(file, at, Field::Id(1), entry);
     }
-    if what == 2 {
-        return;
-    }
-    put_field(file, at, Field::Id(1), entry);
 }
 
 // The entry of a head at a place, of a kind, whose value begins at `value`.
@@ -156,11 +141,7 @@ fn put_row(run: &mut [u32], to: usize, row: [u32; 16])
     requires { to + width ≤ length run.old }
     ensures { run.new ≡ sets run.old to row }
 {
-    let mut i: usize = 0;
-    while i < WIDTH {
-        run[to + i] = row[i];
-        i += 1;
-    }
+    run[to..to + WIDTH].copy_from_slice(&row);
 }
 
 // The entries of the rows behind the root's; the root's head ends at `start`.
@@ -218,32 +199,25 @@ fn fill(file: &[u8], run: &mut [u32], rows: usize, due: u32, arity: u32, count: 
     }
 }
 
-// The entries of a file, its own bytes being their text: how many rows it has, or the refusal, which
-// changes nothing; 11 where the run is shorter than 16 numbers a row. Past them it keeps its contents.
-pub fn entries(file: &[u8], run: &mut [u32]) -> Answer
+/// The entries of a file, its own bytes being their text: how many rows it has, or the refusal, which
+/// changes nothing; 11 where the run is shorter than 16 numbers a row. Past them it keeps its contents.
+pub fn entries(file: &[u8], run: &mut [u32]) -> Result<usize, Refusal>
     ensures { (told result, run.new) ≡ entered file.now run.old }
 {
-    match descriptor_judge::judge(file) {
-        Answer::Refused { number, place } => Answer::Refused { number, place },
-        Answer::Accepted { rows } => {
-            if run.len() / WIDTH < rows {
-                return Answer::Refused {
-                    number: 11,
-                    place: 0,
-                };
-            }
-            let root = descriptor_raw::root_head(file);
-            put_row(run, 0, entry_at(file, 0, 0, root.kind, root.value));
-            fill(
-                file,
-                run,
-                rows,
-                root.what,
-                root.objects,
-                root.count,
-                root.end,
-            );
-            Answer::Accepted { rows }
-        }
+    let rows = descriptor_judge::judge(file)?;
+    if run.len() / WIDTH < rows {
+        return Err(Refusal(Fault::NoRoom, 0));
     }
+    let root = descriptor_raw::root_head(file);
+    put_row(run, 0, entry_at(file, 0, 0, root.kind, root.value));
+    fill(
+        file,
+        run,
+        rows,
+        root.what,
+        root.objects,
+        root.count,
+        root.end,
+    );
+    Ok(rows)
 }

@@ -114,20 +114,17 @@ returns-in-Id c =
 pub returns-in-Text : goal.returns-in-Text
 returns-in-Text c =
     let a = c.args in
-    let z = c.wide.ensures.0 in
     let y = c.put_part-in-Text.ensures.1 in
-    put_as a.file.now a.at a.field (f.Text _) c.in-Text.is a.entry.now _ _ c.put_part-in-Text.ensures.0 (omega (arith, z, y))
+    put_as a.file.now a.at a.field (f.Text _) c.in-Text.is a.entry.now _ _ c.put_part-in-Text.ensures.0 (omega (arith, y))
 
 pub returns-in-Run : goal.returns-in-Run
 returns-in-Run c =
     let a = c.args in
-    let z = c.wide-in-Run.ensures.0 in
     let y = c.put_part-in-Run.ensures.1 in
-    put_as a.file.now a.at a.field (f.Run _) c.in-Run.is a.entry.now _ _ c.put_part-in-Run.ensures.0 (omega (arith, z, y))
+    put_as a.file.now a.at a.field (f.Run _) c.in-Run.is a.entry.now _ _ c.put_part-in-Run.ensures.0 (omega (arith, y))
 
 pub returns-in-Doubles : goal.returns-in-Doubles
 returns-in-Doubles c =
     let a = c.args in
-    let z = c.wide-in-Doubles.ensures.0 in
     let y = c.put_part-in-Doubles.ensures.1 in
-    put_as a.file.now a.at a.field (f.Doubles _) c.in-Doubles.is a.entry.now _ _ c.put_part-in-Doubles.ensures.0 (omega (arith, z, y))
+    put_as a.file.now a.at a.field (f.Doubles _) c.in-Doubles.is a.entry.now _ _ c.put_part-in-Doubles.ensures.0 (omega (arith, y))

@@ -16,11 +16,11 @@ pub returns-then-i-lt-WIDTH : goal.returns-then-i-lt-WIDTH
 returns-then-i-lt-WIDTH c =
     let a = c.args in
     let p = c.requires in
-    let n = c.u32_or_zero-n.ensures ∙ word-is a.file.now a.at p.1 in
+    let n = c.number_or_zero-n.ensures ∙ word-is a.file.now a.at p.1 in
     (c.put_at-then-i-lt-WIDTH.ensures ∙ ap (λ (e : List ℕ). set e (a.i + 1) (a.at + 4)) (c.put_at.ensures ∙ ap (set a.entry.now a.i) n), n)
 
-pub returns : goal.returns
-returns c =
+pub returns-else-i-lt-WIDTH : goal.returns-else-i-lt-WIDTH
+returns-else-i-lt-WIDTH c =
     let a = c.args in
     let p = c.requires in
-    (both_out a.entry.now a.i _ _ (omega (arith, c.if-i-lt-WIDTH.false, p.0)), c.u32_or_zero-n.ensures ∙ word-is a.file.now a.at p.1)
+    (both_out a.entry.now a.i _ _ (omega (arith, c.if-i-lt-WIDTH.false, p.0)), c.number_or_zero-n.ensures ∙ word-is a.file.now a.at p.1)

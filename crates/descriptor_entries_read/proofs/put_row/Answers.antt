@@ -1,30 +1,13 @@
-use borrow.Author.Rules.{rules}
-use Prim.Native.Nat.{◌+◌}
-use mathlib.Core.Path.{◌≡◌, refl, sym, ◌∙◌}
+use Prim.Native.Nat.{◌+◌, ◌-◌}
+use mathlib.Core.Path.{◌≡◌}
+use lib.ListN.{length}
 use native.Mathlib.Omega.{arith}
-use lib.ListN.{length, length-set}
-use Rattle.algebra.proofs.Stores.{copy_start, copy-turn, copy-end}
+use borrow.Author.Rules.{rules}
+use Rattle.descriptor_entries_read.proofs.Stored.{part-stored}
 use Rattle.descriptor_entries_read.proofs.put_row.Goals as goal
-
-pub loop-i-init : goal.loop-i-init
-loop-i-init c = (omega arith, copy_start _ c.args.row c.args.run.now c.args.to 0 refl, refl)
-
-pub loop-i-preserved : goal.loop-i-preserved
-loop-i-preserved c =
-    let l = c.loop-i in
-    let a = c.args in
-    let sixteen : length c.args.row ≡ 16 = search rules in (
-      omega arith,
-      copy-turn _ a.row l.run a.to l.i l.invariant.1 (omega (arith, sixteen)),
-      length-set l.run (a.to + l.i) _ ∙ l.invariant.2,
-    )
-
-pub shape_of-run : goal.shape_of-run
-shape_of-run c = c.loop-i.invariant.2
 
 pub returns : goal.returns
 returns c =
-    let l = c.loop-i in
     let a = c.args in
-    let sixteen : length c.args.row ≡ 16 = search rules in
-    sym (copy-end _ a.row l.run a.to l.i l.invariant.1 (omega (arith, sixteen, c.loop-i-test.false)))
+    let sixteen : length a.row ≡ 16 = search rules in
+    part-stored a.run.now a.row a.to (a.to + 16 - a.to) _ c.copy_from_slice.ensures.after (omega (arith, sixteen)) (omega (arith, sixteen, c.requires))

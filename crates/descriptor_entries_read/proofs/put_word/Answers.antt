@@ -7,4 +7,4 @@ pub returns : goal.returns
 returns c =
     let a = c.args in
     let p = c.requires in
-    (c.put_at.ensures ∙ ap (set a.entry.now a.i) (c.u32_or_zero.ensures ∙ word-is a.file.now a.at p.1), refl)
+    (c.put_at.ensures ∙ ap (set a.entry.now a.i) (c.number_or_zero.ensures ∙ word-is a.file.now a.at p.1), refl)
