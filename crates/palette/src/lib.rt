@@ -169,26 +169,14 @@ fn aco_step(view: View, file: &[u8], at: usize) -> PaletteStep
 {
     let step = aco_walk::step_at(file, at);
     let next = step.next;
-    let given = step.given;
-    match given {
-        aco_walk::NextColour::Colour {
-            place,
-            units,
-            ink: _,
-        } => {
-            let numbers = numbers_of(view, step.colour);
-            PaletteStep {
-                numbers,
-                place,
-                units,
-                next,
-            }
-        }
-        aco_walk::NextColour::Done => none(next),
-        aco_walk::NextColour::Refused {
-            number: _,
-            place: _,
-        } => none(next),
+    match step.given {
+        Ok(Some(swatch)) => PaletteStep {
+            numbers: numbers_of(view, swatch.colour),
+            place: swatch.name.first,
+            units: swatch.name.units,
+            next,
+        },
+        _ => none(next),
     }
 }
 
@@ -197,27 +185,14 @@ fn ase_step(file: &[u8], at: usize) -> PaletteStep
 {
     let step = ase_walk::step_at(file, at);
     let next = step.next;
-    let given = step.given;
-    match given {
-        ase_walk::NextColour::Colour {
-            place,
-            units,
-            colour,
-            ink: _,
-        } => {
-            let numbers = channels_of(colour);
-            PaletteStep {
-                numbers,
-                place,
-                units,
-                next,
-            }
-        }
-        ase_walk::NextColour::Done => none(next),
-        ase_walk::NextColour::Refused {
-            number: _,
-            place: _,
-        } => none(next),
+    match step.given {
+        Ok(Some(given)) => PaletteStep {
+            numbers: channels_of(given.colour),
+            place: given.place,
+            units: given.units,
+            next,
+        },
+        _ => none(next),
     }
 }
 
