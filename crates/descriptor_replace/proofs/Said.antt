@@ -27,6 +27,7 @@ use Rattle.descriptor_heads.specs.Changed.{OneOf, here, later}
 use Rattle.descriptor_read.specs.Values.{RowAnswer, found, missing, row_at, row_in, value_size, value_in}
 use Rattle.descriptor_read.specs.Typed.{typed_in, typed_of}
 use Rattle.descriptor_read.specs.Kinds.{Says, typed}
+use Rattle.descriptor_read.specs.declared.Typed.{Typed}
 use Rattle.descriptor_read.specs.declared.Typed.TheVariants as vt
 use Rattle.descriptor_read.proofs.ByBytes.{typed-said}
 use Rattle.descriptor_read.proofs.Typing as T'
@@ -93,10 +94,10 @@ taken false n e = absurd (omega (arith, e))
 
 -- where nothing is refused, the row's value in the new file is the one given
 pub typed-given : (s : List ℕ) (i : ℕ) (v : Replacement) → Fits v → row_fault (row_in i (descriptor s)) v ≡ 0
-    → typed_of (new_file s (row_in i (descriptor s)) v) (row_in i (descriptor (new_file s (row_in i (descriptor s)) v))) ≡ typed_by v
+    → typed_of (new_file s (row_in i (descriptor s)) v) (row_in i (descriptor (new_file s (row_in i (descriptor s)) v))) ≡ ok (typed_by v) 0
 typed-given s i v f h = go (row_in i (descriptor s)) refl h
   where
-    go : (a : RowAnswer) → row_in i (descriptor s) ≡ a → row_fault a v ≡ 0 → typed_of (new_file s (row_in i (descriptor s)) v) (row_in i (descriptor (new_file s (row_in i (descriptor s)) v))) ≡ typed_by v
+    go : (a : RowAnswer) → row_in i (descriptor s) ≡ a → row_fault a v ≡ 0 → typed_of (new_file s (row_in i (descriptor s)) v) (row_in i (descriptor (new_file s (row_in i (descriptor s)) v))) ≡ ok (typed_by v) 0
     go (found r) e h =
         let t = row-of i (descriptor s) r e in
         let k = taken (is_kind r.kind v) (fault_of v) h in
@@ -104,7 +105,7 @@ typed-given s i v f h = go (row_in i (descriptor s)) refl h
         let new : List ℕ = new_file s (found r) v in
         let row : row_in i (descriptor new) ≡ found r = ap (row_in i) (replaced-accepted s t.rs t.q t.is r o v k.0 f k.1) ∙ t.at in
         ap (λ (a : RowAnswer). typed_of (new_file s a v) (row_in i (descriptor (new_file s a v)))) e ∙ ap (typed_of new) row
-        ∙ typed-said new r.value (says r.kind v k.0 f k.1) (stands s t.rs t.q t.is r o v k.0)
+        ∙ ap (λ (y : Typed). ok y 0) (typed-said new r.value (says r.kind v k.0 f k.1) (stands s t.rs t.q t.is r o v k.0))
     go (missing x p) e h = absurd (none_in s i (descriptor s) refl x p e h)
 
 -- ---- a row's own value
@@ -127,7 +128,7 @@ double-kept n l e = to_bits-of_bits binary64 n l (subst (λ (t : Bool). T (not t
 module _ (s : List ℕ) (b : Bytes s) where
   -- what a value of this kind says, given back, is taken, and its bytes stand there
   abbrev Own : ℕ → Type 0
-  Own t = (v : ℕ) → Leafed s t v → (is_kind t (as_given (typed_in s t v)) ≡ true) × (fault_of (as_given (typed_in s t v)) ≡ 0) × At s v (bytes_of (as_given (typed_in s t v)))
+  Own t = (v : ℕ) → Leafed s t v → (is_kind t (as_given (ok (typed_in s t v) 0)) ≡ true) × (fault_of (as_given (ok (typed_in s t v) 0)) ≡ 0) × At s v (bytes_of (as_given (ok (typed_in s t v) 0)))
 
   bool-own : Own (chars "bool")
   unfolding typed_in sort_of flag
@@ -204,7 +205,7 @@ module _ (s : List ℕ) (b : Bytes s) where
   own_same i r e h =
       let t = row-of i (descriptor s) r e in
       let o = found-one t.rs i t.at in
-      let v : Replacement = as_given (typed_in s r.kind r.value) in
+      let v : Replacement = as_given (ok (typed_in s r.kind r.value) 0) in
       let k = own r.kind h r.value (leafed t.rs (rows-leafed s t.rs t.q t.is) o) in
       let n : value_size r ≡ length (bytes_of v) = omega (arith, size s t.rs t.q t.is r o v k.0) in
       let bytes : bytes_of v ≡ value_in s (found r) = sym (ap (λ (m : ℕ). part s r.value m) n ∙ at_take s r.value (bytes_of v) k.2) in (

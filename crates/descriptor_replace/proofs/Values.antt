@@ -20,6 +20,9 @@ use Rattle.algebra.proofs.Storing.{as-sets, peel-be, length-kept}
 use Rattle.descriptor.specs.Reading.{is_unit}
 use Rattle.descriptor_heads.specs.Changed.{scalars}
 use Rattle.descriptor_changed.proofs.Singles.{width_of}
+use Rattle.fault.specs.Fault.{number_of}
+use Rattle.fault.specs.declared.Fault.{Fault}
+use Rattle.fault.specs.declared.Fault.TheVariants as vf
 use Rattle.descriptor_replace.specs.Replace.{is_kind, fault_of, bytes_of}
 use Rattle.descriptor_replace.specs.declared.Replacement.{Replacement}
 use Rattle.descriptor_replace.specs.declared.Replacement.TheVariants as vr
@@ -57,6 +60,23 @@ pub long-fits : (v : Replacement) (n : ℕ) → v ≡ vr.Long n → fault_of v �
 long-fits v n e f = most 4294967295 n (ap fault_of (sym e) ∙ f)
 
 -- ---- stores
+
+-- no fault has the number 0
+pub numbered : (f : Fault) → number_of f ≡ 0 → ⊥
+numbered vf.TooLong e = omega arith
+numbered vf.Short e = omega arith
+numbered vf.WrongTag e = omega arith
+numbered vf.Unknown e = omega arith
+numbered vf.OutOfRange e = omega arith
+numbered vf.LeftOver e = omega arith
+numbered vf.ListsDiffer e = omega arith
+numbered vf.BadlyClosed e = omega arith
+numbered vf.Unbalanced e = omega arith
+numbered vf.TooDeep e = omega arith
+numbered vf.NoRoom e = omega arith
+numbered vf.NoRecord e = omega arith
+numbered vf.WrongLength e = omega arith
+numbered vf.NoCounterpart e = omega arith
 
 low : (v : ℕ) → be 4 (v % 4294967296) ≡ be 4 v
 unfolding be

@@ -2,7 +2,7 @@
 use Rattle.std.specs.Prelude.{◌^◌, ◌<◌, eqb}
 use Rattle.std.specs.Float.{binary64}
 use Rattle.std.specs.Float.Ieee.{of_bits, to_bits}
-use Rattle.algebra.specs.Reader.{pick}
+use Rattle.algebra.specs.Reader.{Res, ok, refuse, pick}
 use Rattle.descriptor_read.specs.declared.Typed.{Typed}
 use Rattle.descriptor_read.specs.declared.Typed.TheVariants as vt
 use Rattle.descriptor_replace.specs.declared.Replacement.{Replacement}
@@ -27,11 +27,11 @@ typed_by (vr.UnitDouble u n) = vt.UnitDouble u (of_bits binary64 n)
 typed_by vr.Other = vt.Other
 
 -- a row's value as a replacement: a `bool` by 0 or 1, a double by its bits; a row without one has none
-abbrev pub as_given : Typed → Replacement
-as_given (vt.Bool b) = vr.Bool (pick b 1 0)
-as_given (vt.Long n) = vr.Long n
-as_given (vt.Comp n) = vr.Comp n
-as_given (vt.Double x) = vr.Double (to_bits binary64 x)
-as_given (vt.UnitDouble u x) = vr.UnitDouble u (to_bits binary64 x)
-as_given vt.Other = vr.Other
-as_given (vt.Refused x p) = vr.Other
+abbrev pub as_given : Res Typed → Replacement
+as_given (ok (vt.Bool b) q) = vr.Bool (pick b 1 0)
+as_given (ok (vt.Long n) q) = vr.Long n
+as_given (ok (vt.Comp n) q) = vr.Comp n
+as_given (ok (vt.Double x) q) = vr.Double (to_bits binary64 x)
+as_given (ok (vt.UnitDouble u x) q) = vr.UnitDouble u (to_bits binary64 x)
+as_given (ok vt.Other q) = vr.Other
+as_given (refuse x p r f) = vr.Other

@@ -9,19 +9,20 @@ ghost use Rattle.std.specs.Prelude.{◌≡◌, ◌+◌, ◌≤◌, ◌<◌, leng
 ghost use Rattle.std.proofs.lemmas.List.Edits.{sets};
 ghost use Rattle.algebra.specs.Numbers.{be};
 ghost use Rattle.algebra.specs.Writing.{writes};
-ghost use Rattle.fields.specs.Answer.{told_written};
+ghost use Rattle.std.specs.Result.{MatchResult};
+ghost use Rattle.fault.specs.Fault.{number_of};
+ghost use Rattle.fault.specs.Answer.{told_written};
 ghost use Rattle.descriptor.specs.Reading.{descriptor};
 ghost use Rattle.descriptor_read.specs.Values.{row_in};
 ghost use Rattle.descriptor_replace.specs.Replace.{is_kind, fault_of, bytes_of, row_fault, fault, new_file};
 ghost use Rattle.descriptor_replace.specs.scaffold.Replacing.{Owned};
 
-use descriptor_check::Checked;
-use fields::Written;
+use fault::{Fault, Refusal};
 
-// A value of a kind: of `bool`, `long`, `comp` and `doub` its bits, of `UntF` a unit and the bits of a
-// double; or one of no kind that can be replaced. `bool` and `long` are as given, and judged in their
-// turn.
-#[derive(Clone, Copy)]
+/// A value of a kind: of `bool`, `long`, `comp` and `doub` its bits, of `UntF` a unit and the bits of a
+/// double; or one of no kind that can be replaced. `bool` and `long` are as given, and judged in their
+/// turn.
+#[derive(Clone, Copy, Debug, PartialEq, Eq)]
 pub enum Replacement {
     Bool(u64),
     Long(u64),
@@ -45,40 +46,40 @@ fn is_kind(kind: u32, value: Replacement) -> bool
     }
 }
 
-// What the reader would refuse it for, 0 for nothing.
-fn fault_of(value: Replacement) -> u32
-    ensures { result ≡ fault_of value }
+// Whether the reader would take it, or what it would refuse it for.
+fn judge(value: Replacement) -> Result<(), Fault>
+    ensures { MatchResult result (λ _. fault_of value ≡ 0) (λ f. number_of f ≡ fault_of value) }
 {
     match value {
         Replacement::Bool(b) => {
             if b <= 1 {
-                return 0;
+                return Ok(());
             }
-            5
+            Err(Fault::OutOfRange)
         }
         Replacement::Long(n) => {
             if n <= 4294967295 {
-                return 0;
+                return Ok(());
             }
-            5
+            Err(Fault::OutOfRange)
         }
-        Replacement::Comp(_) => 0,
+        Replacement::Comp(_) => Ok(()),
         Replacement::Double(n) => {
             if descriptor_fields::is_finite(n) {
-                return 0;
+                return Ok(());
             }
-            5
+            Err(Fault::OutOfRange)
         }
         Replacement::UnitDouble(unit, n) => {
             if descriptor_fields::is_unit(unit) {
                 if descriptor_fields::is_finite(n) {
-                    return 0;
+                    return Ok(());
                 }
-                return 5;
+                return Err(Fault::OutOfRange);
             }
-            4
+            Err(Fault::Unknown)
         }
-        Replacement::Other => 0,
+        Replacement::Other => Ok(()),
     }
 }
 
@@ -102,8 +103,8 @@ fn put_u64(out: &mut [u8], at: usize, v: u64)
     requires { at + 8 ≤ length out.old }
     ensures { out.new ≡ sets out.old at (be 8 v) }
 {
-    fields::put_u32(out, at, (v / 256 / 256 / 256 / 256) as u32);
-    fields::put_u32(out, at + 4, (v % 4294967296) as u32);
+    fields::put_number(out, at, (v / 256 / 256 / 256 / 256) as u32);
+    fields::put_number(out, at + 4, (v % 4294967296) as u32);
 }
 
 // The bytes of a value that is sound.
@@ -116,7 +117,7 @@ fn put_value(out: &mut [u8], at: usize, value: Replacement)
             out[at] = b as u8;
         }
         Replacement::Long(n) => {
-            fields::put_u32(out, at, n as u32);
+            fields::put_number(out, at, n as u32);
         }
         Replacement::Comp(n) => {
             put_u64(out, at, n);
@@ -125,7 +126,7 @@ fn put_value(out: &mut [u8], at: usize, value: Replacement)
             put_u64(out, at, n);
         }
         Replacement::UnitDouble(unit, n) => {
-            fields::put_u32(out, at, unit);
+            fields::put_number(out, at, unit);
             put_u64(out, at + 4, n);
         }
         Replacement::Other => {}
@@ -144,34 +145,31 @@ fn replace_row(
     row: usize,
     value: Replacement,
     out: &mut [u8],
-) -> Written
+) -> Result<usize, Fault>
     requires { Owned file.now first.now size.now kind.now rows }
     ensures { (told_written result, out.new) ≡ writes (row_fault (row_in row (descriptor file.now)) value) (length file.now) (new_file file.now (row_in row (descriptor file.now)) value) out.old }
 {
     if rows <= row {
-        return Written::Refused(12);
+        return Err(Fault::NoRecord);
     }
     if !is_kind(kind[row], value) {
-        return Written::Refused(14);
+        return Err(Fault::NoCounterpart);
     }
-    let x = fault_of(value);
-    if x != 0 {
-        return Written::Refused(x);
-    }
+    judge(value)?;
     let n = file.len();
     if out.len() < n {
-        return Written::Refused(11);
+        return Err(Fault::NoRoom);
     }
-    let at = fields::wide(first[row]) + fields::wide(size[row]) - size_of(value);
+    let at = first[row] as usize + size[row] as usize - size_of(value);
     fields::put_run(out, 0, file);
     put_value(out, at, value);
-    Written::Bytes(n)
+    Ok(n)
 }
 
-// Writes a file with the value of one row replaced, all other bytes as they are. Refused are the file
-// by its own, then a table that does not begin with its rows by 5, no such row by 12, a row of another
-// kind by 14, a value as the reader would by 4 or 5, and last too little room by 11; a refusal changes
-// nothing. Past the file the buffer keeps its contents.
+/// Writes a file with the value of one row replaced, all other bytes as they are. Refused are the file
+/// by its own, then a table that does not begin with its rows by 5, no such row by 12, a row of another
+/// kind by 14, a value as the reader would by 4 or 5, and last too little room by 11; a refusal changes
+/// nothing. Past the file the buffer keeps its contents.
 pub fn replace(
     file: &[u8],
     first: &[u32],
@@ -182,12 +180,12 @@ pub fn replace(
     row: usize,
     value: Replacement,
     out: &mut [u8],
-) -> Written
+) -> Result<usize, Fault>
     ensures { (told_written result, out.new) ≡ writes (fault (descriptor file.now) first.now size.now next.now depth.now kind.now row value) (length file.now) (new_file file.now (row_in row (descriptor file.now)) value) out.old }
 {
     match descriptor_check::check(file, first, size, next, depth, kind) {
-        Checked::Refused { number, place: _ } => Written::Refused(number),
-        Checked::Differs => Written::Refused(5),
-        Checked::Same { rows } => replace_row(file, first, size, kind, rows, row, value, out),
+        Ok(Some(rows)) => replace_row(file, first, size, kind, rows, row, value, out),
+        Ok(None) => Err(Fault::OutOfRange),
+        Err(Refusal(fault, _)) => Err(fault),
     }
 }

@@ -1,7 +1,6 @@
 use Rattle.descriptor_replace.proofs.Values as Q
 use Rattle.descriptor_replace.proofs.put_u64.Goals as goal
 
--- src/lib.rt:108:1
 pub returns : goal.returns
 returns c =
-    Q.put-8 c.args.v c.args.out.now _ _ c.args.at c.requires c.put_u32.ensures c.put_u32-2.ensures
+    Q.put-8 c.args.v c.args.out.now _ _ c.args.at c.requires c.put_number.ensures c.put_number-2.ensures
