@@ -1,5 +1,5 @@
 -- Binary search for a name in an index. Assumes nothing.
-use Prim.Native.Nat.{ℕ, ◌+◌, ◌≤◌, ◌<◌}
+use Prim.Native.Nat.{ℕ, ◌≤◌, ◌<◌}
 use mathlib.Core.Path.{◌≡◌, refl, sym, ap, ◌∙◌}
 use mathlib.Core.List.{List, []}
 use mathlib.Core.Bool.{Bool, true, false}
@@ -23,6 +23,11 @@ use Rattle.acb_order.specs.Search.{begins, lowest}
 use Rattle.acb_order.proofs.Names.{names-total}
 use Rattle.acb_order.proofs.Index.{begins-right, right-rising, at-shown, shown-at, lowest-is, lowest-none}
 use Rattle.acb_find.specs.scaffold.Marks.{is_greater, is_after, at_entry, Bracket}
+
+-- ---- a record of the book
+
+pub in-book : (i count : ℕ) (o : Order) → i < count → pick (ltb i count) o less ≡ o
+in-book i count o h = ap (λ (b : Bool). pick b o less) (lt-ltb i count h)
 
 -- ---- names that rise
 
@@ -57,6 +62,11 @@ greater-not us v w e h = go (compare_names us v) refl e
         eqs (inr l) = ap is_greater (ap (compare_names us) (sym l) ∙ q)
     go greater q k = let z : ◌≡◌ {A = ℕ} 0 1 = cc in absurd (omega arith)
 
+pub same_true : (o : Order) → is_same_order o ≡ true → o ≡ same
+same_true less y = let z : ◌≡◌ {A = ℕ} 0 1 = cc in absurd (omega arith)
+same_true same y = refl
+same_true greater y = let z : ◌≡◌ {A = ℕ} 0 1 = cc in absurd (omega arith)
+
 -- ---- lower bound
 
 module _ (ns : List (List ℕ)) (t : List ℕ) (m : ℕ) (e : m ≡ length (shown_from 0 ns)) (b : begins (index_of ns) t ≡ true) (us : List ℕ) where
@@ -76,14 +86,17 @@ module _ (ns : List (List ℕ)) (t : List ℕ) (m : ℕ) (e : m ≡ length (show
   greater-true greater q = refl
 
   module _ (count : ℕ) (all : length ns ≡ count) where
+    -- entry k is a record
+    pub entry-is : (k : ℕ) → k < m → pick (ltb (get_or t k 0) count) (at_entry ns t us k) less ≡ at_entry ns t us k
+    entry-is k h = let r = begins-right ns t m e b in in-book (get_or t k 0) count (at_entry ns t us k) (omega (arith, (r.listed k h).0, all))
+
     -- the test of the binary search at entry j
     entry-test : (j d : ℕ) → j < m → is_after ns count us (get_or (take m t) j d) ≡ is_greater (at_entry ns t us j)
     entry-test j d h =
         let r = begins-right ns t m e b in
-        let x = (r.listed j h).0 in
-        let rm = r.room in
+        let room = r.room in
         let z : get_or (take m t) j d ≡ get_or t j 0 = get_or-take m t j d h ∙ get_or_default t j d 0 (omega arith) in
-        ap (is_after ns count us) z ∙ ap (λ (y : Bool). is_greater (pick y (at_entry ns t us j) less)) (lt-ltb (get_or t j 0) count (omega (arith, x, all)))
+        ap (is_after ns count us) z ∙ ap is_greater (entry-is j h)
 
     count-is : length (take m t) ≡ m
     count-is = let r = begins-right ns t m e b in length-take-le m t r.room
@@ -120,11 +133,6 @@ module _ (ns : List (List ℕ)) (t : List ℕ) (m : ℕ) (e : m ≡ length (show
             up : by_name (shown_at ns (get_or t k 0)) (shown_at ns (get_or t i 0)) ≡ less → get_or t k 0 ≤ get_or t i 0
             up w = split (else-less (compare_names (get_or ns (get_or t k 0) []) (get_or ns (get_or t i 0) [])) (compare (get_or t k 0) (get_or t i 0)) w)
               where
-                same_true : (o : Order) → is_same_order o ≡ true → o ≡ same
-                same_true less y = let z : ◌≡◌ {A = ℕ} 0 1 = cc in absurd (omega arith)
-                same_true same y = refl
-                same_true greater y = let z : ◌≡◌ {A = ℕ} 0 1 = cc in absurd (omega arith)
-
                 at_i : at_entry ns t us i ≡ same
                 at_i = same_true (at_entry ns t us i) (ap (λ (d : Shown). is_same_order (compare_names us d.name)) (sym q) ∙ z)
 

@@ -2,13 +2,13 @@
 use Prim.Native.Nat.{ℕ, ◌+◌, ◌-◌, ◌*◌, ◌/◌, ◌≤◌, ◌<◌}
 use mathlib.Core.Path.{◌≡◌, refl, sym, ap, ap₂, ◌∙◌, subst}
 use mathlib.Core.List.{List, []}
-use mathlib.Core.Bool.{Bool, true, false}
+use mathlib.Core.Bool.{Bool, true, false, not}
 use mathlib.Core.Logic.{◌⊎◌, inl, inr}
 use lib.Dec.{eqb, leb, ltb}
 use Rattle.std.specs.Prelude.{Option, Some, None}
 use lib.ListN.{length, get_or, set, length-set}
 use lib.Seq.{get_or-set_same, get_or-set_other}
-use borrow.Author.Tests.{eqb-true, eqb-false, eq-eqb, ne_eqb, leb-true, leb-false, ltb-true, ltb-false, lt-ltb}
+use borrow.Author.Tests.{eq-eqb, ne_eqb, leb-true, leb-false, ltb-true, ltb-false}
 use native.Mathlib.Omega.{arith}
 use native.Mathlib.Numerals.{add-one}
 use native.Mathlib.Nat.{mul_comm, mul-suc, mul-le-mul_left, mul-le-mul_right, div-add-mod'}
@@ -19,8 +19,8 @@ use Rattle.algebra.specs.Text.{is_empty}
 use Rattle.acb.specs.Reading.{acb, Contents}
 use Rattle.std.specs.declared.cmp.Ordering.{Ordering}
 use Rattle.std.specs.declared.cmp.Ordering.TheVariants.{Less, Equal, Greater}
-use Rattle.std.specs.Ordering.{is_lt, nat_cmp, ordering_then}
-use Rattle.order.specs.Order.{Order, less, is_less, or_else}
+use Rattle.std.specs.Ordering.{is_lt, is_ne, nat_cmp, ordering_then}
+use Rattle.order.specs.Order.{Order, less, is_less, is_same_order, or_else}
 use Rattle.acb_order.specs.Names.{compare_names}
 use Rattle.acb_names.specs.Answer.{told}
 use Rattle.acb_names.proofs.Units.{told_compare}
@@ -134,8 +134,14 @@ no-place i count y e = go (ltb i count) refl e
     go true h q = let z : ◌≡◌ {A = ℕ} 0 1 = cc in absurd (omega arith)
     go false h q = ltb-false i count h
 
-pub in-book : (i count : ℕ) (o : Order) → i < count → pick (ltb i count) o less ≡ o
-in-book i count o h = ap (λ (b : Bool). pick b o less) (lt-ltb i count h)
+-- a name that is that of a record, or not
+pub same-told : (o : Ordering) (q : Order) (t : Bool) → told o ≡ q → t ≡ is_ne o → is_same_order q ≡ not t
+same-told o q t e f = ap is_same_order (sym e) ∙ go o ∙ ap not (sym f)
+  where
+    go : (o : Ordering) → is_same_order (told o) ≡ not (is_ne o)
+    go Less = refl
+    go Equal = refl
+    go Greater = refl
 
 -- two places as the library compares them
 less-told : (o p r : Ordering) (t : Bool) → r ≡ ordering_then o p → t ≡ is_lt r → t ≡ is_less (or_else (told o) (told p))

@@ -145,11 +145,10 @@ impl Guide<'_> {
             return Err(Refusal(Fault::NoRecord, 0));
         }
         let record = index[k];
-        match self.against(name, record) {
-            Ordering::Equal => Ok(record as usize),
-            Ordering::Less => Err(Refusal(Fault::NoRecord, 0)),
-            Ordering::Greater => Err(Refusal(Fault::NoRecord, 0)),
+        if self.against(name, record).is_ne() {
+            return Err(Refusal(Fault::NoRecord, 0));
         }
+        Ok(record as usize)
     }
 }
 
@@ -160,7 +159,9 @@ fn follows(file: &[u8], k: usize, last: u32, at: u32) -> bool
     if k == 0 {
         return true;
     }
-    acb_names::compare(file, last, at).then(last.cmp(&at)).is_lt()
+    acb_names::compare(file, last, at)
+        .then(last.cmp(&at))
+        .is_lt()
 }
 
 /// The lowest shown record of a name, by an index that must begin with that of the file.

@@ -2,7 +2,8 @@ use Rattle.std.proofs.Common.{ℕ, ◌∙◌, sym, ap}
 use Rattle.acb_order.specs.Names.{compare_names}
 use Rattle.acb_order.specs.Places.{name_at}
 use Rattle.acb_order.proofs.Files.{known}
-use Rattle.acb_find.proofs.Checking.{some-place, in-book}
+use Rattle.acb_find.proofs.Bracket.{in-book}
+use Rattle.acb_find.proofs.Checking.{some-place}
 use Rattle.acb_find.proofs.Guide.against.Goals as goal
 
 pub returns-in-Some : goal.returns-in-Some

@@ -1,5 +1,5 @@
-use Rattle.std.proofs.Common.{◌≡◌, ◌∙◌, sym, ap, subst, arith, ℕ, get_or}
-use Rattle.acb_find.proofs.Checking.{SoFar, so-far-start, too_few, all_right, no_record, dummy, disorder, so-far-turn, some-place, no-place}
+use Rattle.std.proofs.Common.{◌≡◌, ◌∙◌, sym, subst, arith, ℕ, get_or}
+use Rattle.acb_find.proofs.Checking.{SoFar, too_few, all_right, no_record, dummy, disorder, so-far-turn, some-place, no-place}
 use Rattle.acb_find.proofs.Guide.is_index.Goals as goal
 
 pub returns-then-index-shown : goal.returns-then-index-shown
