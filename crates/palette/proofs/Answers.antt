@@ -14,12 +14,14 @@ use Rattle.ase.specs.Reading.{Entry as AseEntry, group_start_read, group_end_rea
 use Rattle.ase_judge.specs.Answer.{colours as counted, report as reportAse}
 use Rattle.walk.specs.Walk.{Call}
 use Rattle.aco_walk.specs.Walking.{walk}
-use Rattle.aco_walk.specs.Answer.{told_next_colour, told_colour_step, call_and_place}
-use Rattle.aco_walk.specs.declared.NextColour.{NextColour}
+use Rattle.std.specs.Prelude.{Result, Option}
+use Rattle.fault.specs.declared.Refusal.{Refusal}
+use Rattle.aco_read.specs.declared.SwatchRecord.{SwatchRecord}
+use Rattle.ase_read.specs.declared.NamedColour.{NamedColour}
+use Rattle.aco_walk.specs.Answer.{told_given, told_colour_step, call_and_place}
 use Rattle.aco_walk.specs.declared.ColourStep.{ColourStep}
 use Rattle.aco.specs.Reading.{Entry}
 use Rattle.ase_walk.specs.Answer.{told_next_colour as toldNextAse, told_colour_step as toldAseStep, call_and_place as aseCall}
-use Rattle.ase_walk.specs.declared.NextColour.{NextColour as NextAse}
 use Rattle.ase_walk.specs.declared.ColourStep.{ColourStep as AseColourStep}
 use Rattle.palette.specs.Palette.{aco_colour, aco_colours, ase_colours, colours}
 use Rattle.palette.specs.PaletteStep.{view_of, aco_step, ase_step, step_of}
@@ -67,11 +69,11 @@ five-same t a b c d = λ i. t i ∷ a i ∷ b i ∷ c i ∷ d i ∷ []
 abbrev Stepped : Type 0
 Stepped = List ℕ × ℕ × ℕ × ℕ
 
-pub aco-given : (v : View) (r : ColourStep) (w : Call Entry × ℕ) {g : NextColour} {z : Stepped} → told_colour_step r ≡ call_and_place w → r.given ≡ g → z ≡ aco_step v (r.colour, told_next_colour g, r.next) → z ≡ aco_step v (call_and_place w)
-aco-given v r w e f h = h ∙ ap (λ (g : NextColour). aco_step v (r.colour, told_next_colour g, r.next)) (sym f) ∙ ap (aco_step v) e
+pub aco-given : (v : View) (r : ColourStep) (w : Call Entry × ℕ) {g : Result (Option SwatchRecord) Refusal} {z : Stepped} → told_colour_step r ≡ call_and_place w → r.given ≡ g → z ≡ aco_step v ((told_given g).0, (told_given g).1, r.next) → z ≡ aco_step v (call_and_place w)
+aco-given v r w e f h = h ∙ ap (λ (g : Result (Option SwatchRecord) Refusal). aco_step v ((told_given g).0, (told_given g).1, r.next)) (sym f) ∙ ap (aco_step v) e
 
-pub ase-given : (r : AseColourStep) (w : Call AseEntry × ℕ) {g : NextAse} {z : Stepped} → toldAseStep r ≡ aseCall w → r.given ≡ g → z ≡ ase_step (toldNextAse g, r.next) → z ≡ ase_step (aseCall w)
-ase-given r w e f h = h ∙ ap (λ (g : NextAse). ase_step (toldNextAse g, r.next)) (sym f) ∙ ap ase_step e
+pub ase-given : (r : AseColourStep) (w : Call AseEntry × ℕ) {g : Result (Option NamedColour) Refusal} {z : Stepped} → toldAseStep r ≡ aseCall w → r.given ≡ g → z ≡ ase_step (toldNextAse g, r.next) → z ≡ ase_step (aseCall w)
+ase-given r w e f h = h ∙ ap (λ (g : Result (Option NamedColour) Refusal). ase_step (toldNextAse g, r.next)) (sym f) ∙ ap ase_step e
 
 pub with-numbers : {l m : List ℕ} (p u q : ℕ) → l ≡ m → ◌≡◌ {A = Stepped} (l, p, u, q) (m, p, u, q)
 with-numbers p u q e = ap (λ (l : List ℕ). (l, p, u, q)) e

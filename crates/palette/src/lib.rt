@@ -33,7 +33,7 @@ pub enum View {
 }
 
 // A colour: its space and samples, or its model's tag and the bits of its channels.
-#[derive(Clone, Copy)]
+#[derive(Clone, Copy, Debug, PartialEq, Eq)]
 pub struct Numbers {
     pub tag: u32,
     pub number0: u32,

@@ -20,7 +20,7 @@ both false b e = absurd (true≢false (sym e))
 pub and-true : {a b : Bool} → a ≡ true → b ≡ true → a && b ≡ true
 and-true {a} {b} e f = ap₂ (λ (x y : Bool). x && y) e f
 
-pub five-tests : (a b c d e : Bool) → (((a && b) && c) && d) && e ≡ a && (b && (c && (d && (e && true))))
+pub five-tests : (a b c d e : Bool) → a && (b && (c && (d && e))) ≡ a && (b && (c && (d && (e && true))))
 five-tests false b c d e = refl
 five-tests true false c d e = refl
 five-tests true true false d e = refl

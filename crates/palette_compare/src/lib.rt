@@ -13,7 +13,7 @@ ghost use Rattle.palette_compare.specs.Answer.{told};
 ghost use Rattle.palette_compare.specs.scaffold.Parts.{kinds_in, kind_at, StoredTo, Positions};
 
 use aco_judge::Rejection;
-use palette::{Kind, Numbers, PaletteStep, first_at, judge, step_at, view_of};
+use palette::{Kind, PaletteStep, first_at, judge, step_at, view_of};
 use walk::name_part;
 
 /// How many positions the longer palette has, and how many of them differ.
@@ -40,16 +40,6 @@ const SECOND: u32 = 5;
 const WIDTH: usize = 2;
 
 // ---- two colours
-
-fn same_numbers(x: Numbers, y: Numbers) -> bool
-    ensures { result ≡ same_numbers (told_numbers x) (told_numbers y) }
-{
-    (x.tag == y.tag)
-        & (x.number0 == y.number0)
-        & (x.number1 == y.number1)
-        & (x.number2 == y.number2)
-        & (x.number3 == y.number3)
-}
 
 // 1 where two bytes differ.
 fn unequal(x: u8, y: u8) -> u8
@@ -95,7 +85,7 @@ fn kind_by(value: bool, name: bool) -> u32
 fn kind_at(first: &[u8], x: PaletteStep, second: &[u8], y: PaletteStep) -> u32
     ensures { result ≡ kind_at first.now x second.now y }
 {
-    let value = same_numbers(x.numbers, y.numbers);
+    let value = x.numbers == y.numbers;
     let name = name_part(first, x.place, x.units);
     let beside = name_part(second, y.place, y.units);
     kind_by(value, same_bytes(name, beside))
