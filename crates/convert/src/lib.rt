@@ -100,8 +100,8 @@ fn gray_in(bits: u32) -> Result<u16, Fault>
 }
 
 /// The sample of the channel with these bits, of the model with this tag.
-// Kept: a test for each tag. A model made of the tag would be asked for again, which a single
-// channel's speed shows.
+// Kept: a test for each tag. A model made of the tag is asked for again: one channel then took a third
+// longer, past the bar of docs/BENCHMARKS.md.
 pub fn to_sample(tag: u32, bits: u32) -> Result<u16, Fault>
     ensures { told result ≡ to_sample tag bits }
 {

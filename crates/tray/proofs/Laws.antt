@@ -7,12 +7,14 @@ use mathlib.Core.List.{List, [], ◌∷◌, ◌++◌, map}
 use native.Mathlib.Omega.{arith}
 use native.Mathlib.Numerals.{add-one}
 use native.Mathlib.Nat.{add-zero, zero-add}
-use borrow.Author.Tests.{le-leb, lt-leb, ltb-false}
+use borrow.Author.Tests.{le-leb, lt-leb, ltb-true, ltb-false}
 use lib.Bits.{bit_or, or_add_and, and_le_l, and_le_r}
 use lib.Dec.{ltb}
 use lib.ListN.{length, get_or, drop, set, drop_of_length-le}
 use lib.Seq.{sets, sets-eq, drop-cons}
-use Rattle.std.specs.Prelude.{Result}
+use Rattle.std.specs.Prelude.{Result, Option, Some, None}
+use Rattle.std.specs.Option.{MatchOption}
+use Rattle.std.specs.List.{AllWithin, HoldsAt}
 use Rattle.std.specs.Int.{from_bool}
 use Rattle.std.specs.Result.{IsErrAnd}
 use Rattle.std.proofs.lemmas.Result.{err_from_is_err_and}
@@ -21,7 +23,7 @@ use Rattle.fault.specs.declared.Refusal.{Refusal}
 use Rattle.tray.specs.Answer.{told}
 use Rattle.conversion.specs.Convert.{Converted, gives, refused, and_then}
 use Rattle.conversion.specs.Tray.{at_position, converted_in_order, lent}
-use Rattle.tray.specs.scaffold.Parts.{Passed, low, results, judged}
+use Rattle.tray.specs.scaffold.Parts.{Passed, First, low, results, judged}
 
 -- ---- all pass, or one is the first to fail
 
@@ -146,6 +148,19 @@ low-none v e = go (ltb 10000 v) refl e
     go : (b : Bool) → ltb 10000 v ≡ b → from_bool b ≡ 0 → low v ≡ true
     go true f e = absurd (omega arith)
     go false f e = le-leb v 10000 (ltb-false 10000 v f)
+
+pub above-low : (v : ℕ) → true ≡ ltb 10000 v → low v ≡ false
+above-low v e = lt-leb v 10000 (ltb-true 10000 v (sym e))
+
+pub below-low : (v : ℕ) → false ≡ ltb 10000 v → low v ≡ true
+below-low v e = le-leb v 10000 (ltb-false 10000 v (sym e))
+
+-- ---- what `position` finds
+pub first-found : (ok : ℕ → Bool) (xs : List ℕ) (r : Option ℕ)
+    → MatchOption r (AllWithin (λ v. ok v ≡ true) xs 0 (length xs)) (λ i. (i < length xs) × HoldsAt (λ v. ok v ≡ false) xs i × AllWithin (λ v. ok v ≡ true) xs 0 i)
+    → First ok xs r
+first-found ok xs None h = λ j l. h j 0 (omega arith) l
+first-found ok xs (Some i) h = (h.0, λ j l. h.2 j 0 (omega arith) l, h.1 0)
 
 -- ---- a refusal that is handed on
 pub told-exit : (r : Result Unit Refusal) (e : Refusal) → IsErrAnd r (λ y. y ≡ e) → told r ≡ refused (number_of e.0) e.1

@@ -11,8 +11,8 @@ use colour::{Model, is_channel};
 use convert::{gray_sample, rgb_sample, to_sample};
 use fault::{Fault, Refusal};
 
-// Whether all channels are from 0 to 1. It goes on where one is not, and joins numbers, so that
-// the loop is compiled to vectors.
+// Whether all channels are from 0 to 1.
+// Kept: a loop, as `all_low` is.
 fn all_unit(bits: &[u32]) -> bool
     ensures { result ≡ true → Passed unit bits.now (length bits.now) }
 {
@@ -30,12 +30,7 @@ fn first_outside(bits: &[u32]) -> Option<usize>
     if all_unit(bits) {
         return None;
     }
-    for i in 0..bits.len() {
-        if !is_channel(false, bits[i]) {
-            return Some(i);
-        }
-    }
-    None
+    bits.iter().position(|&channel| !is_channel(false, channel))
 }
 
 // Whether the model with this tag has a space.

@@ -10,8 +10,9 @@ use colour::{CMYK, GRAY, Model, RGB, bits_of};
 use convert::{quotient, to_channel};
 use fault::{Fault, Refusal};
 
-// Whether all samples are on the scale of gray. It goes on where one is not, so that the loop has
-// one way out and is compiled to vectors.
+// Whether all samples are on the scale of gray.
+// Kept: a loop that goes on where one is not, since one with a single way out is compiled to vectors;
+// and a mark as wide as the elements, of which a vector then holds as many.
 fn all_low(samples: &[u16]) -> bool
     ensures { result ≡ true → Passed low samples.now (length samples.now) }
 {
@@ -29,12 +30,7 @@ fn first_high(samples: &[u16]) -> Option<usize>
     if all_low(samples) {
         return None;
     }
-    for i in 0..samples.len() {
-        if samples[i] > Model::GRAY.full {
-            return Some(i);
-        }
-    }
-    None
+    samples.iter().position(|&sample| sample > Model::GRAY.full)
 }
 
 // By one sample, the first.

@@ -1,20 +1,14 @@
-use mathlib.Core.Path.{sym, ◌∙◌}
-use native.Mathlib.Omega.{arith}
+use Rattle.std.proofs.Common.{rules, tests}
+use Rattle.std.specs.Prelude.{◌≡◌, true, false}
+use Rattle.std.proofs.lemmas.Iterator.{YieldsList-from_slice, IsFirst-from_position}
+use Rattle.tray.proofs.Laws.{first-found}
 use Rattle.tray.specs.scaffold.Parts.{unit}
-use Rattle.tray.proofs.Laws.{passed-more}
 use Rattle.tray.proofs.back.first_outside.Goals as goal
 
 pub returns-then-all_unit : goal.returns-then-all_unit
 returns-then-all_unit c = c.all_unit.ensures c.if-all_unit.true
 
-pub loop-i-init : goal.loop-i-init
-loop-i-init c = (λ j h. absurd (omega arith))
-
-pub returns-then-not-is_channel : goal.returns-then-not-is_channel
-returns-then-not-is_channel c = (omega arith, c.loop-i.invariant, sym c.is_channel.ensures ∙ c.if-not-is_channel.true)
-
-pub loop-i-preserved : goal.loop-i-preserved
-loop-i-preserved c = (passed-more unit c.args.bits.now c.loop-i.i c.loop-i.invariant (sym c.is_channel.ensures ∙ c.if-not-is_channel.false))
-
 pub returns : goal.returns
-returns c = λ j h. c.loop-i.invariant j (omega arith)
+returns c =
+    first-found unit c.args.bits.now c.position.result
+    (IsFirst-from_position _ _ c.position.result (λ v. unit v ≡ false) (λ v. unit v ≡ true) c.position.ensures.ran (YieldsList-from_slice c.args.bits.now cc) (λ x q k. search (rules, tests)) (λ x q k. (search (rules, tests), search (rules, tests))))
