@@ -6,7 +6,7 @@ use Rattle.aco_items.proofs.Steps.{colours-left, colours-over, entries-left, ent
 use Rattle.aco_stream.proofs.next_of.Goals as goal
 
 pub overflow_cast-count : goal.overflow_cast-count
-overflow_cast-count c = omega (arith, c.requires.2 c.in-First.is)
+overflow_cast-count c = omega (arith, c.requires.1 c.in-First.is)
 
 pub returns-then-count-gt0 : goal.returns-then-count-gt0
 returns-then-count-gt0 c = let a = c.args in colours-left _ 0 c.if-count-gt0.true ∙ sym (ap (λ (g : Stage). next g a.from a.u) c.in-First.is)
