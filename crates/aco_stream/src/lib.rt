@@ -39,20 +39,9 @@ fn next_of(stage: Stage, from: usize, u: u32) -> Stage
     ensures { result ≡ next stage from u }
 {
     match stage {
-        Stage::First => {
-            let count = u as u16;
-            if 0 < count {
-                return Stage::Colour(count, 0);
-            }
-            Stage::Second(count)
-        }
+        Stage::First => aco_items::colours_of(u as u16, 0),
         Stage::Colour(count, index) => aco_items::colours_of(count, (index as usize) + 1),
-        Stage::Second(count) => {
-            if 0 < count {
-                return Stage::Entry(count, 0);
-            }
-            Stage::End(count)
-        }
+        Stage::Second(count) => aco_items::entries_of(count, 0),
         Stage::Entry(count, index) => Stage::Unit(count, index, (from + 10) as u32, u, false),
         Stage::Unit(count, index, place, left, zero) => aco_items::unit_of(
             count, index, place, left, zero, u,
