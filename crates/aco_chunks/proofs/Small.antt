@@ -1,6 +1,6 @@
 -- Numbers and places that an item gives are small. Assumes nothing.
 use Prim.Native.Nat.{ℕ, zero, suc, ◌+◌, ◌*◌, ◌-◌, ◌≤◌}
-use mathlib.Core.Path.{◌≡◌, refl, sym, ap, ◌∙◌}
+use mathlib.Core.Path.{◌≡◌, refl, sym, ap, ◌∙◌, subst}
 use mathlib.Core.List.{List}
 use lib.Dec.{leb, ltb, eqb}
 use mathlib.Core.Bool.{Bool, true, false}
@@ -9,7 +9,7 @@ use borrow.Author.Tests.{leb-true}
 use native.Mathlib.Omega.{arith}
 use Rattle.algebra.specs.Reader.{Res, ok, refuse, pick, unless, field, judged, each}
 use Rattle.algebra.specs.Numbers.{num}
-use Rattle.algebra.specs.Refusal.{among, Placed, ends}
+use Rattle.algebra.specs.Refusal.{Of, among, Placed, ends}
 use Rattle.algebra.proofs.Placed.{unless-numbered, differ-numbered, refusal-placed, placed-then, judged-placed, each_placed}
 use Rattle.aco.specs.Refusals.{refusals}
 use Rattle.aco.proofs.Placed.{colour-placed, heading-placed}
@@ -47,6 +47,27 @@ item-placed store (v.Entry n i) b e = (refusal-placed (entry_head-placed b i (lo
 item-placed store (v.Unit n i at m z) b e = field-placed b 2 e
 item-placed store (v.End n) b {p = p} e = let z : 0 ≡ p = cc in omega arith
 item-placed store (v.Fault x y r f) b {p = p} e = let z : 0 ≡ p = cc in omega arith
+
+-- and by a number that a file may have
+field-numbered : (s : List ℕ) (w : ℕ) {x p r f : ℕ} → field w s 0 ≡ refuse x p r f → Of refusals x
+unfolding field
+field-numbered s w e = go (leb w (length s - 0)) e
+  where
+    go : (b : Bool) → {x p r f : ℕ} → pick b (ok (num w s 0) (0 + w)) (refuse 2 0 0 0) ≡ refuse x p r f → Of refusals x
+    go true e = clash (sym e)
+    go false {x} e = let z : 2 ≡ x = cc in subst (Of refusals) z (among refl)
+
+excess-numbered : {x p r f : ℕ} → ◌≡◌ {A = Res ℕ} (refuse 6 0 0 0) (refuse x p r f) → Of refusals x
+excess-numbered {x} e = let z : 6 ≡ x = cc in subst (Of refusals) z (among refl)
+
+pub item-numbered : (store : List ℕ) (g : Stage) (b : List ℕ) {x p r f : ℕ} → item store g b 0 ≡ refuse x p r f → Of refusals x
+item-numbered store v.First b e = (refusal-placed {s = b} (heading-placed 1 first_count (λ n. unless-numbered (leb n most) (among refl)) 0 (omega arith)) e).0
+item-numbered store (v.Colour n i) b e = (refusal-placed (colour_item-placed b) e).0
+item-numbered store (v.Second n) b e = (refusal-placed {s = b} (heading-placed 2 (second_count n) (λ m. differ-numbered (eqb m n) _ _ (among refl)) 0 (omega arith)) e).0
+item-numbered store (v.Entry n i) b e = (refusal-placed (entry_head-placed b i (loaded store (10 * i))) e).0
+item-numbered store (v.Unit n i at m z) b e = field-numbered b 2 e
+item-numbered store (v.End n) b e = excess-numbered e
+item-numbered store (v.Fault x y r f) b e = excess-numbered e
 
 first-few : (b : List ℕ) {n q : ℕ} → heading 1 first_count b 0 ≡ ok n q → n ≤ most
 unfolding heading

@@ -141,14 +141,12 @@ pub fn colours_of(count: u16, index: usize) -> Stage
     Stage::Second(count)
 }
 
-// The record behind record `index`, or the end.
-fn entries_of(count: u16, index: u16) -> Stage
-    ensures { result ≡ entries count (index + 1) }
+/// Record `index` of `count`, or the end.
+pub fn entries_of(count: u16, index: usize) -> Stage
+    ensures { result ≡ entries count index }
 {
-    if index < count {
-        if 1 < count - index {
-            return Stage::Entry(count, index + 1);
-        }
+    if index < (count as usize) {
+        return Stage::Entry(count, index as u16);
     }
     Stage::End(count)
 }
@@ -162,7 +160,7 @@ pub fn unit_of(count: u16, index: u16, place: u32, left: u32, zero: bool, u: u32
             if zero {
                 return Stage::Fault(8, place as usize, 0, 0);
             }
-            return entries_of(count, index);
+            return entries_of(count, (index as usize) + 1);
         }
         return Stage::Fault(8, place as usize, 0, 0);
     }

@@ -21,7 +21,7 @@ use Rattle.aco_chunks.specs.Chunks.{FileVerdict, Progress, chunks, begin, answer
 use Rattle.aco_chunks.specs.Promise.{join, sound_colours, held}
 use Rattle.aco_stream.specs.Answer.{progress, usable, roomy, room, known, Starts, StartsBy, FeedsBy, Finishes, FinishesBy}
 use Rattle.aco_stream.specs.Promise.{Runs, Agrees}
-use Rattle.aco_stream.proofs.Calls.{is-roomy, known-near}
+use Rattle.aco_stream.proofs.Calls.{is-roomy, known-item}
 use Rattle.aco_chunks.proofs.Cutting.{any-cutting}
 use Rattle.aco_chunks.proofs.Small.{few-sound}
 
@@ -51,14 +51,9 @@ runs-keep (c ∷ cs) ns i s store₀ store t after h r =
 file-known : (s : List ℕ) → known (verdict report (aco s)) ≡ verdict report (aco s)
 file-known s = go (aco s) refl
   where
-    few : {x : ℕ} → Of refusals x → (0 < x) × (x ≤ 8)
-    few h = of-each (λ x. (0 < x) × (x ≤ 8)) refusals ((omega arith, omega arith), ((omega arith, omega arith), ((omega arith, omega arith), ((omega arith, omega arith), ((omega arith, omega arith), ((omega arith, omega arith), ((omega arith, omega arith), ((omega arith, omega arith), tt)))))))) h
-
     go : (m : Res Contents) → aco s ≡ m → known (verdict report m) ≡ verdict report m
     go (ok f q) e = refl
-    go (refuse x p r f) e =
-        let n = few (refused-placed s e).0 in
-        sym (known-near x p r f (λ z. omega (arith, n.0)) n.1)
+    go (refuse x p r f) e = sym (known-item x p r f (refused-placed s e).0)
 
 -- chunks cut anywhere, empty ones among them, and any store of at least 40,960 bytes
 pub calls-agree : (cs : List (List ℕ)) (store : List ℕ) → 40960 ≤ length store → (s : Stream) (n : ℕ) → Starts store s n → (ns : List ℕ) (t : Stream) (after : List ℕ) → Runs s store cs ns t after → (z : Stream) (w : FileVerdict) → Finishes t after z w → Agrees cs store n ns w after

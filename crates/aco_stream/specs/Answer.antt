@@ -1,19 +1,26 @@
 -- What each answer of the code says.
-use Rattle.std.specs.Prelude.{ℕ, ◌≡◌, Bool, true, false, leb, ltb, eqb, List, take, drop, length}
+use Rattle.std.specs.Prelude.{ℕ, ◌≡◌, Bool, true, false, leb, ltb, eqb, List, take, drop, length, Result, Ok, Err}
 use Rattle.aco_stream.specs.declared.Stream.{Stream}
 use Rattle.aco_chunks.specs.Chunks.{FileVerdict, Progress, size, chunk, begin, answer}
 use Rattle.algebra.specs.Reader.{pick}
 use Rattle.algebra.specs.Table.{accepted, refused}
-use Rattle.aco_stream.specs.declared.Answer.{Answer}
-use Rattle.aco_stream.specs.declared.Answer.TheVariants as va
+use Rattle.fault.specs.Fault.{number_of}
+use Rattle.fault.specs.declared.Fault.{Fault}
+use Rattle.aco_judge.specs.declared.Counts.{Counts}
+use Rattle.aco_items.specs.declared.Flaw.{Flaw}
 
 -- what a state and a store keep; places of the carried bytes past those that came count for nothing
 abbrev pub progress : Stream → List ℕ → Progress
 progress s store = record { stage = s.stage; total = s.total; carry = take s.got s.carry; store = store }
 
-abbrev pub told : Answer → FileVerdict
-told (va.Accepted n l) = accepted (n, l)
-told (va.Refused x p r f) = refused x p r f
+abbrev pub told : Result Counts Flaw → FileVerdict
+told (Ok c) = accepted (c.colours, c.lists)
+told (Err e) = refused (number_of e.fault) e.place e.rec e.field
+
+-- what a start or a chunk is answered: the refusal's number, 0 where it is taken
+abbrev pub told_fed : Result Unit Fault → ℕ
+told_fed (Ok u) = 0
+told_fed (Err f) = number_of f
 
 -- ---- the calls: for each stream and store, what is answered, what the stream becomes and what the store then holds
 

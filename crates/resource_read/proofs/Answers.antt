@@ -6,7 +6,7 @@ use mathlib.Core.Bool.{Bool, true, false}
 use lib.Dec.{leb, ltb}
 use lib.ListN.{length, get_or, take, drop}
 use lib.Seq.{sets, sets-eq}
-use borrow.Author.Tests.{le-leb, lt-leb, lt-ltb, le-ltb, leb-true, ltb-true}
+use borrow.Author.Tests.{le-leb, lt-leb, leb-true, ltb-true}
 use native.Mathlib.Omega.{arith}
 use Rattle.algebra.specs.Numbers.{joined}
 use Rattle.algebra.specs.Reader.{Res, ok, refuse, pick, limit}
@@ -21,7 +21,7 @@ use Rattle.resource.specs.Tiling.{size_of, Tiled}
 use Rattle.resource.specs.declared.Record.{Record}
 use Rattle.resource.proofs.Whole.{blocks_end}
 use Rattle.resource.proofs.Tiled.{tiled}
-use Rattle.resource_read.specs.Table.{entry_row, tabled, empty_record, record_in, name_of, payload_of, index_of, found_in}
+use Rattle.resource_read.specs.Table.{entry_row, tabled, empty_record, record_in, name_of, payload_of, found_in}
 use Rattle.resource_read.specs.scaffold.Parts.{rest, entries_of, Sound}
 
 -- ---- what the verdict tells of the reading

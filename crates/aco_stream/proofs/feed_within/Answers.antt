@@ -114,7 +114,7 @@ settle-stage-requires c =
     let r = room_after l.stage y.result.stage l.got i.3 p.stays in
     let m = size-most y.result.stage in
     let n : length (take (l.got + 1) (set l.carry l.got (get_or a.bytes.now l.at 0))) ≡ l.got + 1 = length-take-le (l.got + 1) (set l.carry l.got (get_or a.bytes.now l.at 0)) (omega (arith, length-set l.carry l.got (get_or a.bytes.now l.at 0), i.5, r, m)) in
-    (omega (arith, c.item_start-from.ensures, i.2, t, i.1), omega (arith, n, r, m))
+    (omega (arith, c.saturating_sub-from.ensures, i.2, t, i.1), omega (arith, n, r, m))
 
 pub loop-at-preserved-then-got-size_of : goal.loop-at-preserved-then-got-size_of
 loop-at-preserved-then-got-size_of c =
@@ -130,7 +130,7 @@ loop-at-preserved-then-got-size_of c =
     let w : y.result.at ≤ l.at = omega (arith, c.if-at-next.false) in
     let q = stood (chunk (G a.state.stage a.state.total (take a.state.got a.state.carry) a.store.now) a.bytes.now) (take l.got l.carry) i.6 g p w in
     let s = c.settle-stage in
-    let f = full-turn (chunk (G a.state.stage a.state.total (take a.state.got a.state.carry) a.store.now) a.bytes.now) y.result.stage a.state.total l.got l.carry y.new.store l.at a.bytes.now q i.2 (omega (arith, t, i.1)) (p.sound w) (omega (arith, i.5, r, m)) (omega (arith, c.if-got-size_of.true, c.size_of.ensures)) (omega (arith, c.item_start-from.ensures)) s.ensures.0 s.ensures.1 in (
+    let f = full-turn (chunk (G a.state.stage a.state.total (take a.state.got a.state.carry) a.store.now) a.bytes.now) y.result.stage a.state.total l.got l.carry y.new.store l.at a.bytes.now q i.2 (omega (arith, t, i.1)) (p.sound w) (omega (arith, i.5, r, m)) (omega (arith, c.if-got-size_of.true, c.size_of.ensures)) (omega (arith, c.saturating_sub-from.ensures)) s.ensures.0 s.ensures.1 in (
       omega (arith, i.1, t),
       i.1,
       i.2,

@@ -1,5 +1,8 @@
 -- Scaffolding: what the functions inside promise each other; no rule of the format.
-use Rattle.std.specs.Prelude.{ℕ, ◌≡◌, List, Bool, true, false, length}
+use Rattle.std.specs.Prelude.{ℕ, ◌≡◌, ◌<◌, ◌≤◌, List, Bool, true, false, length, Option, Some, None}
+use Rattle.algebra.specs.Reader.{pick}
+use Rattle.fault.specs.Fault.{number_of}
+use Rattle.fault.specs.declared.Fault.{Fault}
 use Rattle.algebra.specs.Table.{refused}
 use Rattle.aco_chunks.specs.declared.Stage.{Stage}
 use Rattle.aco_stream.specs.declared.Stream.{Stream}
@@ -8,6 +11,15 @@ use Rattle.aco_stream.specs.Answer.{progress, usable, roomy, ended, known}
 
 abbrev pub open_stream : Stage → ℕ → ℕ → List ℕ → Stream
 open_stream g total got carry = record { stage = g; total = total; got = got; carry = carry; ended = false }
+
+-- whether a call may go on: 5 for a stream that is not usable, then 11 for a store that is too short; else 0
+abbrev pub call_number : Stream → List ℕ → ℕ
+call_number s store = pick (usable s) (pick (roomy store) 0 11) 5
+
+-- the fault of a number that files have
+abbrev pub Known : Option Fault → ℕ → Type 0
+Known (Some f) n = (number_of f ≡ n) × (0 < n) × (n ≤ 8)
+Known None n = 0 < n → 8 < n
 
 abbrev pub FeedsInBy : Bool → Bool → Stream → List ℕ → List ℕ → Stream → ℕ → List ℕ → Type 0
 FeedsInBy true true s store bytes t number after = (number ≡ 0) × (usable t ≡ true) × (progress t after ≡ chunk (progress s store) bytes) × (length after ≡ length store)

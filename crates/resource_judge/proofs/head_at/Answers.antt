@@ -1,6 +1,6 @@
 use borrow.Author.Tests.{eq-eqb, ne_eqb}
 use mathlib.Core.Bool.{Bool}
-use mathlib.Core.Path.{sym, ap, ◌∙◌}
+use mathlib.Core.Path.{sym, ap}
 use Rattle.algebra.specs.Reader.{unless}
 use Rattle.algebra.proofs.Laws.{judged-short, judged-bad, judged-ok}
 use Rattle.algebra.proofs.Sequence.{step-no, step-on}

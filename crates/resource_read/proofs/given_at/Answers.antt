@@ -1,6 +1,6 @@
 use borrow.Author.Rules.{rules}
 use mathlib.Core.Path.{refl, ◌∙◌}
-use Rattle.resource_read.proofs.Trusted.{given-room, given-end, given_is}
+use Rattle.resource_read.proofs.Trusted.{given-room, given_is}
 use Rattle.resource_read.proofs.given_at.Goals as goal
 
 pub bounds-file-at : goal.bounds-file-at

@@ -1,6 +1,4 @@
 use native.Mathlib.Omega.{arith}
-use native.Mathlib.Nat.{zero-add}
-use mathlib.Core.Path.{sym}
 use Rattle.resource_read.proofs.Going.{turned, index-end, index-here, index-next, found-start}
 use Rattle.resource_read.proofs.index_of.Goals as goal
 

@@ -1,4 +1,4 @@
-use mathlib.Core.Path.{refl, sym}
+use mathlib.Core.Path.{refl}
 use native.Mathlib.Omega.{arith}
 use Rattle.resource_write_judge.proofs.Judging.{judged-exit, some-number, id-fault, letters-fault, name-fault, payload-fault}
 use Rattle.resource_write_judge.proofs.judge_record.Goals as goal

@@ -1,8 +1,8 @@
 use mathlib.Core.Path.{refl}
-use Rattle.algebra.proofs.Writing.{size_is, size-passes}
+use Rattle.algebra.proofs.Writing.{size_is}
 use Rattle.fault.proofs.Exit.{written-exit}
 use Rattle.resource_writing.specs.Writing.{given, sizes}
-use Rattle.resource_write_judge.proofs.Judging.{some-number, too_long, bad_record, all-fine, size-fault}
+use Rattle.resource_write_judge.proofs.Judging.{some-number, bad_record, all-fine, size-fault}
 use Rattle.resource_write_judge.proofs.write_length.Goals as goal
 
 pub returns-in_err-size : goal.returns-in_err-size
