@@ -22,10 +22,10 @@ use Rattle.walk.specs.Names.{name_part}
 use Rattle.walk.proofs.Calls.{step-read}
 use Rattle.walk.proofs.Turns.{given-all, given-start, given-none, given-next, given-over, given-refused}
 use Rattle.aco_walk.specs.Walking.{is_plain, first_place, named_entry, labelled, swatch_from, walk}
-use Rattle.aco_walk.specs.Answer.{told_next_colour, told_colour_step, call_and_place}
-use Rattle.colour.specs.declared.ink.Ink.{Ink}
-use Rattle.aco_walk.specs.declared.NextColour.{NextColour}
-use Rattle.aco_walk.specs.declared.NextColour.TheVariants as vg
+use Rattle.aco_walk.specs.Answer.{told_given, told_colour_step, call_and_place}
+use Rattle.std.specs.Prelude.{Result, Ok, Option, Some}
+use Rattle.fault.specs.declared.Refusal.{Refusal}
+use Rattle.aco_read.specs.declared.SwatchRecord.{SwatchRecord}
 use Rattle.aco_walk.specs.declared.ColourStep.{ColourStep as Answered}
 use Rattle.aco_walk.proofs.Walked.{colours-in-turn, given-name}
 use Rattle.listing.specs.Buffer.{Buffer, put_all}
@@ -44,8 +44,8 @@ abbrev Handed : Type 0
 Handed = Colour × Call (ℕ × ℕ × ℕ) × ℕ
 
 -- by the variant that the code found
-pub told_is : (r : Answered) (w : Call Entry × ℕ) {g : NextColour} → told_colour_step r ≡ call_and_place w → r.given ≡ g → call_and_place w ≡ (r.colour, told_next_colour g, r.next)
-told_is r w e f = sym e ∙ ap (λ (g : NextColour). (r.colour, told_next_colour g, r.next)) f
+pub told_is : (r : Answered) (w : Call Entry × ℕ) {g : Result (Option SwatchRecord) Refusal} → told_colour_step r ≡ call_and_place w → r.given ≡ g → call_and_place w ≡ ((told_given g).0, (told_given g).1, r.next)
+told_is r w e f = sym e ∙ ap (λ (g : Result (Option SwatchRecord) Refusal). ((told_given g).0, (told_given g).1, r.next)) f
 
 answer-is : {x y : Handed} → x ≡ y → x.1 ≡ y.1
 answer-is e = ap (λ (h : Handed). h.1) e
@@ -131,7 +131,7 @@ module _ (s : List ℕ) (bytes : Bytes s) where
           subst (λ (y : Entry). Spelt y.name) (ok-value t.3) (subst Spelt i.1.is (read i.0 (n + 4) i.1.some (omega (arith, i.1.inside, i.1.room, i.1.some))))
 
   -- the line of the record that a call gave
-  pub line-put : (o : Buffer) (i at : ℕ) (r : Answered) {place units : ℕ} {ink : Ink} {b : List ℕ} {p : Buffer} → told_colour_step r ≡ call_and_place (walk s at) → r.given ≡ vg.Colour place units ink → b ≡ name_part s place units → p ≡ put_all o (colour_line i r.colour b)
+  pub line-put : (o : Buffer) (i at : ℕ) (r : Answered) {v : SwatchRecord} {b : List ℕ} {p : Buffer} → told_colour_step r ≡ call_and_place (walk s at) → r.given ≡ Ok (Some v) → b ≡ name_part s v.name.first v.name.units → p ≡ put_all o (colour_line i v.colour b)
       → (e : Entry) × (walk s at ≡ (gives e, r.next)) × (p ≡ put_all o (line i e))
   line-put o i at r e f g h =
       let t = told-gives (walk s at) (told_is r (walk s at) e f) in

@@ -10,6 +10,3 @@ use Rattle.aco_list.proofs.put_colours.Given as goal
 
 abbrev pub invariant-loop-i : goal.invariant-loop-i
 invariant-loop-i l = (l.i ≤ l.colours) × (length l.out ≡ length l.initial.out) × (put_all (l.initial.out, l.n) (lines line 0 (given (walk l.file) l.colours (first_place l.file))) ≡ put_all (l.out, l.at) (lines line l.i (given (walk l.file) (l.colours - l.i) l.p)))
-
-abbrev pub decreases-loop-i : goal.decreases-loop-i
-decreases-loop-i l = l.colours - l.i

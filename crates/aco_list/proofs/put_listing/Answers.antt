@@ -1,6 +1,7 @@
 use mathlib.Core.Path.{sym, ap, ◌∙◌}
 use Rattle.aco.specs.Reading.{aco}
-use Rattle.aco_judge.specs.Answer.{told}
+use Rattle.aco_judge.specs.Answer.{rejected}
+use Rattle.aco_judge.specs.declared.Rejection.{Rejection}
 use Rattle.listing.specs.Buffer.{put_all}
 use Rattle.listing.proofs.Wording.{taken-beyond, taken-within}
 use Rattle.listing.proofs.Putting.{put_both}
@@ -12,18 +13,18 @@ returns-then-file-gt-TAKEN c =
     let a = c.args in
     c.put_refusal.ensures ∙ ap (put_all (a.out.now, 0)) (taken-beyond 65536 a.file.now _ c.if-file-gt-TAKEN.true)
 
-pub returns-in-Refused : goal.returns-in-Refused
-returns-in-Refused c =
+pub returns-in-Err-Refused : goal.returns-in-Err-Refused
+returns-in-Err-Refused c =
     let a = c.args in
-    c.put_refusal-in-Refused.ensures ∙ ap (put_all (a.out.now, 0)) (listed-refused (aco a.file.now) (sym (ap told c.in-Refused.is) ∙ c.judge.ensures) ∙ taken-within 65536 a.file.now _ c.if-file-gt-TAKEN.false)
+    c.put_refusal-in-Err-Refused.ensures ∙ ap (put_all (a.out.now, 0)) (listed-refused (aco a.file.now) (sym (ap (λ (e : Rejection). rejected e) c.in-Err-Refused.field-0-is) ∙ c.in-Err-Refused.ensures) ∙ taken-within 65536 a.file.now _ c.if-file-gt-TAKEN.false)
 
-pub returns-in-Differ : goal.returns-in-Differ
-returns-in-Differ c =
+pub returns-in-Err-Differ : goal.returns-in-Err-Differ
+returns-in-Err-Differ c =
     let a = c.args in
-    c.put_refusal-in-Differ.ensures ∙ ap (put_all (a.out.now, 0)) (listed-refused (aco a.file.now) (sym (ap told c.in-Differ.is) ∙ c.judge.ensures) ∙ taken-within 65536 a.file.now _ c.if-file-gt-TAKEN.false)
+    c.put_refusal-in-Err-Differ.ensures ∙ ap (put_all (a.out.now, 0)) (listed-refused (aco a.file.now) (sym (ap (λ (e : Rejection). rejected e) c.in-Err-Differ.field-0-is) ∙ c.in-Err-Differ.ensures) ∙ taken-within 65536 a.file.now _ c.if-file-gt-TAKEN.false)
 
-pub returns-in-Accepted : goal.returns-in-Accepted
-returns-in-Accepted c =
+pub returns-in-Ok : goal.returns-in-Ok
+returns-in-Ok c =
     let a = c.args in
     put_both _ _ _ (put_both _ _ _ c.put_heading-head.ensures c.put_colours-end.ensures) c.put_text.ensures
-    ∙ ap (put_all (a.out.now, 0)) (listed-accepted a.file.now (sym (ap told c.in-Accepted.is) ∙ c.judge.ensures) ∙ taken-within 65536 a.file.now _ c.if-file-gt-TAKEN.false)
+    ∙ ap (put_all (a.out.now, 0)) (listed-accepted a.file.now c.in-Ok.ensures ∙ taken-within 65536 a.file.now _ c.if-file-gt-TAKEN.false)
