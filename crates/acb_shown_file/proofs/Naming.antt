@@ -17,7 +17,7 @@ use Rattle.algebra.proofs.Places.{length-nums}
 use Rattle.algebra.proofs.Stores.{stored-in, stored-append, length-stored}
 use Rattle.acb.specs.Grammar.{Tag}
 use Rattle.acb.specs.Reading.{string, Entry, components_of, Header, opening, strings, numbers, header, closing, colour, Contents, book, acb}
-use Rattle.algebra.specs.Table.{accepted, refused, verdict, record_at}
+use Rattle.algebra.specs.Table.{Verdict, accepted, refused, verdict, record_at}
 use Rattle.algebra.proofs.Table.{refused-of}
 use Rattle.acb.specs.Row.{four}
 use Rattle.acb_judge.specs.Answer.{HeaderPlaces, text_place, header_places, Report, reported, report}
@@ -131,6 +131,10 @@ module _ (s : List ℕ) {h : HeaderPlaces} {n : ℕ} (o : Opened s h n) (i : ℕ
 
   pub entry_found : i < n → record_at entries_of blank i (acb s) ≡ accepted entry
   entry_found l = let c = o.count in ap (record_at entries_of blank i) o.is ∙ rw (lt-ltb i (length o.contents.entries) (omega arith))
+
+  -- it is no refusal
+  pub entry-there : i < n → (x p : ℕ) → refused x p 0 0 ≡ (read.record_places (record_at entries_of blank i (acb s))).name → ⊥
+  entry-there l x p e = let z = e ∙ ap (λ (v : Verdict Entry). (read.record_places v).name) (entry_found l) in cc
 
   -- ---- answers
 

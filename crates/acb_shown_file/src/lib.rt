@@ -2,7 +2,7 @@
 // table of records shows too.
 #![tactic(auto)]
 
-ghost use Rattle.std.specs.Prelude.{◌≡◌, ◌++◌, map, ◌+◌, ◌-◌, ◌*◌, ◌≤◌, min, length};
+ghost use Rattle.std.specs.Prelude.{◌≡◌, ◌++◌, map, ◌+◌, ◌-◌, ◌*◌, ◌≤◌, length};
 ghost use Rattle.std.proofs.lemmas.List.Edits.{sets};
 ghost use Rattle.algebra.specs.Store.{part};
 ghost use Rattle.acb.specs.Reading.{acb, components_of};
@@ -11,34 +11,27 @@ ghost use Rattle.algebra.specs.Table.{rows};
 ghost use Rattle.acb.specs.Row.{width, taken};
 ghost use Rattle.acb_read.specs.Walked.{walked};
 ghost use Rattle.acb_shown_values.specs.Pages.{sample_from, sample_of};
-ghost use Rattle.acb_shown_values.specs.Answer.{refused, told_page, page_of};
-ghost use Rattle.acb_shown_file.specs.View.{counted, refusal, values_of, no_values, shown_at, unnamed, dummies_in, page_at, full_length, full_name_at};
-ghost use Rattle.acb_shown_file.specs.Answer.{told_count, told_components};
+ghost use Rattle.acb_shown_values.specs.Answer.{told_page, page_of};
+ghost use Rattle.acb_shown_file.specs.View.{counted, values_of, shown_at, unnamed, dummies_in, page_at, full_length, full_name_at};
+ghost use Rattle.acb_shown_file.specs.Answer.{told_count, told_values, told_components};
 
 use acb::WIDTH;
-use acb_judge::{Answer, Text};
-use acb_shown_values::{Page, Records};
+use fault::{Fault, Refusal};
+use names::Name;
 
-// How many, or a refusal.
-#[derive(Drop)]
-pub enum Count {
-    Is(usize),
-    Refused { number: u32, place: usize },
-}
-
-// The shown components of a record, 0 in the place that its space does not use, and how many they
-// are. On a refusal they are zeros.
-#[derive(Drop)]
+/// The shown components of a record, 0 in the place that its space does not use, and how many they
+/// are.
+#[derive(Clone, Copy)]
 pub struct Components {
     pub values: [i16; 4],
-    pub count: Count,
+    pub count: usize,
 }
 
 // ---- components
 
 // The shown components of a record of a space.
 fn values(space: u16, bytes: [u8; 4]) -> Components
-    ensures { told_components result ≡ (values_of space bytes, counted (components_of space)) }
+    ensures { told_values result ≡ (values_of space bytes, counted (components_of space)) }
 {
     let a = acb_shown_values::shown_component(space, 0, bytes[0]);
     let b = acb_shown_values::shown_component(space, 1, bytes[1]);
@@ -48,152 +41,118 @@ fn values(space: u16, bytes: [u8; 4]) -> Components
         let d = acb_shown_values::shown_component(space, 3, bytes[3]);
         return Components {
             values: [a, b, c, d],
-            count: Count::Is(n),
+            count: n,
         };
     }
     Components {
         values: [a, b, c, 0],
-        count: Count::Is(n),
+        count: n,
     }
 }
 
-// Zeros beside a refusal.
-fn no_values(number: u32, place: usize) -> Components
-    ensures { told_components result ≡ (no_values, refusal number place) }
-{
-    Components {
-        values: [0; 4],
-        count: Count::Refused { number, place },
-    }
-}
-
-// The shown components of record i of a file.
-pub fn shown_at(file: &[u8], i: usize) -> Components
+/// The shown components of record i of a file.
+pub fn shown_at(file: &[u8], i: usize) -> Result<Components, Refusal>
     ensures { told_components result ≡ shown_at i (acb file.now) }
 {
-    match acb_judge::judge(file) {
-        Answer::Refused { number, place } => no_values(number, place),
-        Answer::Accepted {
-            header,
-            tag: _,
-            count,
-            first: _,
-        } => {
-            if count <= i {
-                return no_values(12, 0);
-            }
-            let swatch = acb_read::record_at(file, i);
-            let bytes = swatch.components;
-            values(header.space, bytes)
-        }
+    let book = acb_judge::judge(file)?;
+    if book.count <= i {
+        return Err(Refusal(Fault::NoRecord, 0));
     }
+    let swatch = acb_read::record_at(file, i)?;
+    Ok(values(book.header.space, swatch.components))
 }
 
 // ---- pages
 
-fn none() -> Page
-    ensures { told_page result ≡ refused 12 0 }
-{
-    Page::Refused {
-        number: 12,
-        place: 0,
-    }
-}
-
-// The sample among the records from i to before `end` of a book of a space, where record i stands at `at`.
-pub fn sample_at(file: &[u8], space: u16, at: usize, i: usize, end: usize, offset: usize) -> Page
+/// The sample among the records from i to before `end` of a book of a space, where record i stands at
+/// `at`.
+pub fn sample_at(
+    file: &[u8],
+    space: u16,
+    at: usize,
+    i: usize,
+    end: usize,
+    offset: usize,
+) -> Result<usize, Refusal>
     ensures { told_page result ≡ page_of (sample_from i offset (map unnamed (walked space file.now at (end - i)))) }
 {
-    let mut found = none();
+    let mut found = Err(Refusal(Fault::NoRecord, 0));
     let mut left = offset;
-    let mut k = i;
     let mut p = at;
-    while k < end {
+    for k in i..end {
         let step = acb_read::step_at(file, p, space);
         p = step.next;
-        let swatch = step.swatch;
-        let name = swatch.name;
-        let string = acb_read::text_place(name);
+        let string = acb_read::given(step.swatch).name;
         if string.units != 0 {
             if left == 0 {
-                return Page::Is(k);
+                return Ok(k);
             }
-            found = Page::Is(k);
+            found = Ok(k);
             left -= 1;
         }
-        k += 1;
     }
     found
 }
 
-// The record that a page of a file shows.
-pub fn page_at(file: &[u8], page: usize) -> Page
+/// The record that a page of a file shows.
+pub fn page_at(file: &[u8], page: usize) -> Result<usize, Refusal>
     ensures { told_page result ≡ page_at page (acb file.now) }
 {
-    match acb_judge::judge(file) {
-        Answer::Refused { number, place } => Page::Refused { number, place },
-        Answer::Accepted {
-            header,
-            tag: _,
-            count,
-            first,
-        } => match acb_shown_values::page_records(count, header.size, page) {
-            Records::Absent => none(),
-            Records::Are(i, end) => {
-                let at = acb_read::place_at(file, first, header.space, i);
-                sample_at(file, header.space, at, i, end, header.offset as usize)
-            }
-        },
-    }
+    let book = acb_judge::judge(file)?;
+    let header = book.header;
+    let Some((i, end)) = acb_shown_values::page_records(book.count, header.size, page) else {
+        return Err(Refusal(Fault::NoRecord, 0));
+    };
+    let at = acb_read::place_at(file, book.first, header.space, i);
+    sample_at(file, header.space, at, i, end, header.offset as usize)
 }
 
 // The sample among the records of a table from `first` to before `end`.
-fn sample_in(table: &[u32], first: usize, end: usize, offset: usize) -> Page
+fn sample_in(table: &[u32], first: usize, end: usize, offset: usize) -> Result<usize, Refusal>
     requires { width * end ≤ length table.now }
     ensures { told_page result ≡ page_of (sample_from first offset (map unnamed (rows width taken table.now (end - first) first))) }
 {
-    let mut found = none();
+    let mut found = Err(Refusal(Fault::NoRecord, 0));
     let mut left = offset;
-    let mut i = first;
-    while i < end {
+    for i in first..end {
         let given = acb_write_judge::record_at(table, i);
         if given.name.units != 0 {
             if left == 0 {
-                return Page::Is(i);
+                return Ok(i);
             }
-            found = Page::Is(i);
+            found = Ok(i);
             left -= 1;
         }
-        i += 1;
     }
     found
 }
 
-fn smaller(a: usize, b: usize) -> usize
-    ensures { result ≡ min a b }
-{
-    if a < b { a } else { b }
-}
-
-// The record that a page of `size` records shows, of the `count` records of a table; those past the
-// table's end are no records.
-pub fn page_in(table: &[u32], count: usize, size: u16, offset: u16, page: usize) -> Page
+/// The record that a page of `size` records shows, of the `count` records of a table; those past the
+/// table's end are no records.
+pub fn page_in(
+    table: &[u32],
+    count: usize,
+    size: u16,
+    offset: u16,
+    page: usize,
+) -> Result<usize, Refusal>
     ensures { told_page result ≡ page_of (sample_of size offset page (dummies_in table.now count)) }
 {
-    match acb_shown_values::page_records(smaller(count, table.len() / WIDTH), size, page) {
-        Records::Absent => none(),
-        Records::Are(first, end) => sample_in(table, first, end, offset as usize),
-    }
+    let n = count.min(table.len() / WIDTH);
+    let Some((first, end)) = acb_shown_values::page_records(n, size, page) else {
+        return Err(Refusal(Fault::NoRecord, 0));
+    };
+    sample_in(table, first, end, offset as usize)
 }
 
 // ---- full names
 
 // The shown text of a string that lies in the file.
-fn text_in(file: &[u8], text: Text) -> &[u8]
-    requires { text.place + 2 * text.units ≤ length file.now }
-    ensures { result.now ≡ shown_text (part file.now text.place (2 * text.units)) }
+fn text_in(file: &[u8], text: Name) -> &[u8]
+    requires { text.first + 2 * text.units ≤ length file.now }
+    ensures { result.now ≡ shown_text (part file.now text.first (2 * text.units)) }
 {
-    let start = text.place;
+    let start = text.first;
     let end = start + 2 * (text.units as usize);
     acb_shown_values::shown_text(&file[start..end])
 }
@@ -208,63 +167,36 @@ fn put_three(out: &mut [u8], a: &[u8], b: &[u8], c: &[u8])
     fields::put_run(out, a.len() + b.len(), c);
 }
 
-// The length in bytes of the full name of record i of a file: the prefix's text, the name, the
-// suffix's text.
-pub fn full_length(file: &[u8], i: usize) -> Count
+/// The length in bytes of the full name of record i of a file: the prefix's text, the name, the
+/// suffix's text.
+pub fn full_length(file: &[u8], i: usize) -> Result<usize, Refusal>
     ensures { told_count result ≡ full_length file.now i (acb file.now) }
 {
-    match acb_judge::judge(file) {
-        Answer::Refused { number, place } => Count::Refused { number, place },
-        Answer::Accepted {
-            header,
-            tag: _,
-            count,
-            first: _,
-        } => {
-            if count <= i {
-                return Count::Refused {
-                    number: 12,
-                    place: 0,
-                };
-            }
-            let prefix = text_in(file, header.prefix);
-            let name = acb_read::name_at(file, i);
-            let suffix = text_in(file, header.suffix);
-            Count::Is(prefix.len() + name.len() + suffix.len())
-        }
+    let book = acb_judge::judge(file)?;
+    if book.count <= i {
+        return Err(Refusal(Fault::NoRecord, 0));
     }
+    let prefix = text_in(file, book.header.prefix);
+    let name = acb_read::name_at(file, i);
+    let suffix = text_in(file, book.header.suffix);
+    Ok(prefix.len() + name.len() + suffix.len())
 }
 
-// Writes the full name of record i of a file from the start of `out`, and answers its length.
-pub fn full_name(file: &[u8], i: usize, out: &mut [u8]) -> Count
+/// Writes the full name of record i of a file from the start of `out`, and answers its length.
+pub fn full_name(file: &[u8], i: usize, out: &mut [u8]) -> Result<usize, Refusal>
     ensures { (told_count result, out.new) ≡ full_name_at file.now i (acb file.now) out.old }
 {
-    match acb_judge::judge(file) {
-        Answer::Refused { number, place } => Count::Refused { number, place },
-        Answer::Accepted {
-            header,
-            tag: _,
-            count,
-            first: _,
-        } => {
-            if count <= i {
-                return Count::Refused {
-                    number: 12,
-                    place: 0,
-                };
-            }
-            let prefix = text_in(file, header.prefix);
-            let name = acb_read::name_at(file, i);
-            let suffix = text_in(file, header.suffix);
-            let n = prefix.len() + name.len() + suffix.len();
-            if out.len() < n {
-                return Count::Refused {
-                    number: 11,
-                    place: 0,
-                };
-            }
-            put_three(out, prefix, name, suffix);
-            Count::Is(n)
-        }
+    let book = acb_judge::judge(file)?;
+    if book.count <= i {
+        return Err(Refusal(Fault::NoRecord, 0));
     }
+    let prefix = text_in(file, book.header.prefix);
+    let name = acb_read::name_at(file, i);
+    let suffix = text_in(file, book.header.suffix);
+    let n = prefix.len() + name.len() + suffix.len();
+    if out.len() < n {
+        return Err(Refusal(Fault::NoRoom, 0));
+    }
+    put_three(out, prefix, name, suffix);
+    Ok(n)
 }

@@ -17,8 +17,8 @@ fn centred(byte: u8) -> i16
     byte as i16 - 128
 }
 
-// What the byte of a component shows, by its position in a record of a space: percent in CMYK and of
-// lightness, a and b of Lab about 0, and in every other space the byte itself.
+/// What the byte of a component shows, by its position in a record of a space: percent in CMYK and of
+/// lightness, a and b of Lab about 0, and in every other space the byte itself.
 pub fn shown_component(space: u16, position: usize, byte: u8) -> i16
     ensures { result ≡ shown_component space position byte }
 {

@@ -6,5 +6,5 @@ mod page;
 mod text;
 
 pub use component::shown_component;
-pub use page::{Page, Records, page_records};
+pub use page::page_records;
 pub use text::{shown_start, shown_text};

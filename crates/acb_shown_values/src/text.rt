@@ -2,7 +2,7 @@
 ghost use Rattle.std.specs.Prelude.{◌≡◌, ◌/◌, length};
 ghost use Rattle.acb_shown_values.specs.Texts.{behind_equals, shown_start, shown_text};
 
-use fields::{Number16, Number64};
+use fields::number_at;
 
 // The units of `$$$/`.
 const MARK: u64 = 0x0024_0024_0024_002F;
@@ -15,22 +15,20 @@ fn behind_equals(string: &[u8]) -> usize
     ensures { result ≡ behind_equals (length string.now / 2) string.now 0 }
 {
     let mut at: usize = 0;
-    loop {
-        let Number16::Is(unit, next) = fields::u16_at(string, at) else {
-            return 0;
-        };
+    while let Ok((unit, next)) = number_at::<u16>(string, at) {
         if unit == EQUALS {
             return next;
         }
         at = next;
     }
+    0
 }
 
-// Where the shown text of a string begins in it: 0 where all of it is shown.
+/// Where the shown text of a string begins in it: 0 where all of it is shown.
 pub fn shown_start(string: &[u8]) -> usize
     ensures { result ≡ shown_start string.now }
 {
-    let Number64::Is(four, _) = fields::u64_at(string, 0) else {
+    let Ok((four, _)) = number_at::<u64>(string, 0) else {
         return 0;
     };
     if four != MARK {
@@ -39,10 +37,9 @@ pub fn shown_start(string: &[u8]) -> usize
     behind_equals(string)
 }
 
-// The shown text of a string, a part of it.
+/// The shown text of a string, a part of it.
 pub fn shown_text(string: &[u8]) -> &[u8]
     ensures { result.now ≡ shown_text string.now }
 {
-    let start = shown_start(string);
-    &string[start..]
+    &string[shown_start(string)..]
 }

@@ -4,11 +4,13 @@ use Rattle.algebra.proofs.Counted.{counted-end, counted_start, counted-turn, len
 use Prim.Native.Nat.{ℕ, zero, suc, ◌+◌, ◌*◌, ◌-◌, ◌%◌, ◌≤◌, ◌<◌}
 use mathlib.Core.Path.{◌≡◌, refl, sym, ap, ap₂, ◌∙◌}
 use mathlib.Core.List.{List, [], ◌∷◌, ◌++◌, map}
-use lib.ListN.{length, drop, set, length-append}
+use lib.ListN.{length, get_or, drop, set, length-append}
+use Rattle.std.proofs.Math.Seq.{drop-cons}
+use Rattle.std.proofs.lemmas.List.{drop_all}
+use native.Mathlib.Nat.{add-zero}
 use lib.Seq.{sets, sets-eq, length-take-le}
 use borrow.Author.Tests.{ne_eqb}
 use native.Mathlib.Omega.{arith}
-use native.Mathlib.Numerals.{unary_clauses}
 use native.Mathlib.Decide.{ℕ_discrete}
 use Rattle.algebra.specs.Numbers.{counted, be, nums, joined, Bytes, All}
 use Rattle.algebra.specs.Store.{stored, part}
@@ -59,21 +61,28 @@ module _ (text : List ℕ) (b : Bytes text) (l : ℕ × ℕ) (f : text_fault tex
 
 -- ---- a record
 
--- bytes stored one by one
-module _ (out : List ℕ) (at a b c : ℕ) where
-  pub three-stores : set (set (set out at (a % 256)) (at + 1) (b % 256)) (at + 2) (c % 256) ≡ sets out at (joined (be 1) (a ∷ b ∷ c ∷ []))
-  unfolding be joined
-  three-stores = simp unary_clauses
+-- numbers stored one by one, as a byte each
+one-byte : (x : ℕ) → be 1 x ≡ x % 256 ∷ []
+unfolding be
+one-byte x = refl
 
-  module _ (d : ℕ) where
-    pub four-stores : set (set (set (set out at (a % 256)) (at + 1) (b % 256)) (at + 2) (c % 256)) (at + 3) (d % 256) ≡ sets out at (joined (be 1) (a ∷ b ∷ c ∷ d ∷ []))
-    unfolding be joined
-    four-stores = simp unary_clauses
+module _ (all out l : List ℕ) (at i : ℕ) where
+  pub bytes-start : all ≡ sets out at (joined (be 1) l) → all ≡ sets out (at + 0) (joined (be 1) (drop 0 l))
+  bytes-start e = e ∙ ap (λ (k : ℕ). sets out k (joined (be 1) l)) (sym (add-zero at))
 
-    pub six-stores : (e f : ℕ) → set (set (set (set (set (set out at (a % 256)) (at + 1) (b % 256)) (at + 2) (c % 256)) (at + 3) (d % 256)) (at + 4) (e % 256)) (at + 5) (f % 256)
-        ≡ sets out at (joined (be 1) (a ∷ b ∷ c ∷ d ∷ e ∷ f ∷ []))
-    unfolding be joined
-    six-stores e f = simp unary_clauses
+  module _ (e : all ≡ sets out (at + i) (joined (be 1) (drop i l))) where
+    pub bytes-turn : i < length l → all ≡ sets (set out (at + i) (get_or l i 0 % 256)) (at + (i + 1)) (joined (be 1) (drop (i + 1) l))
+    unfolding joined
+    bytes-turn h =
+        let a : suc (at + i) ≡ at + (i + 1) = omega arith in
+        let b : suc i ≡ i + 1 = omega arith in
+        e ∙ ap (λ (k : List ℕ). sets out (at + i) (joined (be 1) k)) (drop-cons l i 0 h)
+        ∙ ap (λ (k : List ℕ). sets out (at + i) (k ++ joined (be 1) (drop (suc i) l))) (one-byte (get_or l i 0))
+        ∙ ap₂ (λ (x y : ℕ). sets (set out (at + i) (get_or l i 0 % 256)) x (joined (be 1) (drop y l))) a b
+
+    pub bytes-end : length l ≤ i → out ≡ all
+    unfolding joined
+    bytes-end h = sym (e ∙ ap (λ (k : List ℕ). sets out (at + i) (joined (be 1) k)) (drop_all i l h))
 
 module _ (text : List ℕ) (n : ℕ) (g : RecordRow) (six : length g.code ≡ 6) where
   pub put-colour : (out o₁ o₂ o₃ : List ℕ) (at p : ℕ) → p ≡ at + string_size g.name → o₁ ≡ sets out at (bytes_of_string (units_within text g.name)) → o₂ ≡ sets o₁ p (joined (be 1) g.code)

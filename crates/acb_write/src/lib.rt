@@ -7,18 +7,19 @@ ghost use Rattle.algebra.specs.Numbers.{be, joined};
 ghost use Rattle.acb.specs.Grammar.{bytes_of_string, colour_bytes, tag_bytes, ending_bytes, file_bytes};
 ghost use Rattle.acb.specs.Faults.{ending_fault};
 ghost use Rattle.acb_judge.specs.Answer.{told_text, told_header, told_tag};
-ghost use Rattle.acb_writing.specs.Writing.{units_within, components_in, colour_in, book_in, sizes, string_size, size_within, tag_size, ending_size, head_size, size, head_fault, fault, written};
+ghost use Rattle.acb_writing.specs.Writing.{units_within, colour_in, book_in, sizes, string_size, size_within, tag_size, ending_size, head_size, size, head_fault, fault, written};
 ghost use Rattle.algebra.specs.Table.{rows, whole};
 ghost use Rattle.acb.specs.Row.{width, taken};
-ghost use Rattle.fields.specs.Answer.{told_written};
+ghost use Rattle.fault.specs.Answer.{told_written};
 ghost use Rattle.acb_write_judge.specs.Answer.{told_ending};
 ghost use Rattle.acb_write_judge.specs.Parts.{told_record};
 ghost use Rattle.acb_write_judge.specs.scaffold.Parts.{start, number_bytes, heading_bytes, StringFits, TextsFit, RecordFits, RecordsFit};
 
 use acb::WIDTH;
-use acb_judge::{Header, Tag, Text};
+use acb_judge::{Header, Tag};
 use acb_write_judge::{Ending, Record};
-use fields::Written;
+use fault::Fault;
+use names::Name;
 
 // The halves of the closing tags: `spfl`, and `spot` or `proc`.
 const TAG: u32 = (acb::SPOT / 0x1_0000_0000) as u32;
@@ -30,53 +31,36 @@ const PROCESS: u32 = (acb::PROCESS % 0x1_0000_0000) as u32;
 // ---- storing
 
 // Where a string begins; 0 for one of no units, whose place may be any.
-fn start_of(string: Text) -> usize
+fn start_of(string: Name) -> usize
     ensures { result ≡ start (told_text string) }
 {
     if string.units == 0 {
         return 0;
     }
-    string.place
+    string.first
 }
 
 // A string from `at`; it answers the next place.
-fn put_string(out: &mut [u8], at: usize, text: &[u8], string: Text) -> usize
+fn put_string(out: &mut [u8], at: usize, text: &[u8], string: Name) -> usize
     requires { StringFits text.now (told_text string) at (length out.old) }
     ensures { (result ≡ at + string_size (told_text string)) × (out.new ≡ sets out.old at (bytes_of_string (units_within text.now (told_text string)))) }
 {
     let first = start_of(string);
-    let k = 2 * fields::wide(string.units);
+    let k = 2 * (string.units as usize);
     let end = first + k;
-    fields::put_u32(out, at, string.units);
+    fields::put_number::<u32>(out, at, string.units);
     fields::put_run(out, at + 4, &text[first..end]);
     at + 4 + k
 }
 
-// The code of a record; of each number its low byte, which is all of one that was judged.
-fn put_code(out: &mut [u8], at: usize, given: Record)
-    requires { at + 6 ≤ length out.old }
-    ensures { out.new ≡ sets out.old at (joined (be 1) (told_record given).code) }
+// Numbers as bytes: of each its low byte, which is all of one that was judged.
+fn put_bytes(out: &mut [u8], at: usize, numbers: &[u32])
+    requires { at + length numbers.now ≤ length out.old }
+    ensures { out.new ≡ sets out.old at (joined (be 1) numbers.now) }
 {
-    out[at] = (given.code0 % 256) as u8;
-    out[at + 1] = (given.code1 % 256) as u8;
-    out[at + 2] = (given.code2 % 256) as u8;
-    out[at + 3] = (given.code3 % 256) as u8;
-    out[at + 4] = (given.code4 % 256) as u8;
-    out[at + 5] = (given.code5 % 256) as u8;
-}
-
-// The n components of a record: three or four.
-fn put_components(out: &mut [u8], at: usize, given: Record, n: usize)
-    requires { (at + n ≤ length out.old) × (3 ≤ n) × (n ≤ 4) }
-    ensures { out.new ≡ sets out.old at (joined (be 1) (components_in n (told_record given))) }
-{
-    out[at] = (given.component0 % 256) as u8;
-    out[at + 1] = (given.component1 % 256) as u8;
-    out[at + 2] = (given.component2 % 256) as u8;
-    if n == 3 {
-        return;
+    for i in 0..numbers.len() {
+        out[at + i] = (numbers[i] % 256) as u8;
     }
-    out[at + 3] = (given.component3 % 256) as u8;
 }
 
 // A record of n components from `at`; it answers the next place.
@@ -84,9 +68,11 @@ fn put_colour(out: &mut [u8], at: usize, text: &[u8], given: Record, n: usize) -
     requires { RecordFits text.now n (told_record given) at (length out.old) }
     ensures { (result ≡ at + size_within n (told_record given)) × (out.new ≡ sets out.old at (colour_bytes (colour_in text.now n (told_record given)))) }
 {
+    let code = given.code;
+    let components = given.components;
     let p = put_string(out, at, text, given.name);
-    put_code(out, p, given);
-    put_components(out, p + 6, given, n);
+    put_bytes(out, p, &code);
+    put_bytes(out, p + 6, &components[..n]);
     p + 6 + n
 }
 
@@ -96,10 +82,8 @@ fn put_colours(out: &mut [u8], at: usize, run: &[u32], text: &[u8], count: usize
     ensures { (result ≡ at + sizes (size_within n) (rows width taken run.now count 0)) × (out.new ≡ sets out.old at (joined colour_bytes (map (colour_in text.now n) (rows width taken run.now count 0)))) }
 {
     let mut p = at;
-    let mut i: usize = 0;
-    while i < count {
+    for i in 0..count {
         p = put_colour(out, p, text, acb_write_judge::record_at(run, i), n);
-        i += 1;
     }
     p
 }
@@ -120,10 +104,10 @@ fn put_numbers(out: &mut [u8], at: usize, header: Header, count: u16)
     requires { at + 8 ≤ length out.old }
     ensures { out.new ≡ sets out.old at (number_bytes (told_header header) count) }
 {
-    fields::put_u16(out, at, count);
-    fields::put_u16(out, at + 2, header.size);
-    fields::put_u16(out, at + 4, header.offset);
-    fields::put_u16(out, at + 6, header.space);
+    fields::put_number::<u16>(out, at, count);
+    fields::put_number::<u16>(out, at + 2, header.size);
+    fields::put_number::<u16>(out, at + 4, header.offset);
+    fields::put_number::<u16>(out, at + 6, header.space);
 }
 
 // The header before so many records; it answers the next place.
@@ -131,9 +115,9 @@ fn put_head(out: &mut [u8], text: &[u8], header: Header, count: usize) -> usize
     requires { (head_size (told_header header) ≤ length out.old) × (head_fault text.now (told_header header) count ≡ 0) }
     ensures { (result ≡ head_size (told_header header)) × (out.new ≡ sets out.old 0 (heading_bytes text.now (told_header header) count)) }
 {
-    fields::put_u32(out, 0, acb::SIGNATURE);
-    fields::put_u16(out, 4, 1);
-    fields::put_u16(out, 6, header.identifier);
+    fields::put_number::<u32>(out, 0, acb::SIGNATURE);
+    fields::put_number::<u16>(out, 4, 1);
+    fields::put_number::<u16>(out, 6, header.identifier);
     let p = put_texts(out, 8, text, header);
     put_numbers(out, p, header, count as u16);
     p + 8
@@ -147,12 +131,12 @@ fn put_tag(out: &mut [u8], at: usize, tag: Tag)
     match tag {
         Tag::None => {}
         Tag::Spot => {
-            fields::put_u32(out, at, TAG);
-            fields::put_u32(out, at + 4, SPOT);
+            fields::put_number::<u32>(out, at, TAG);
+            fields::put_number::<u32>(out, at + 4, SPOT);
         }
         Tag::Process => {
-            fields::put_u32(out, at, TAG);
-            fields::put_u32(out, at + 4, PROCESS);
+            fields::put_number::<u32>(out, at, TAG);
+            fields::put_number::<u32>(out, at + 4, PROCESS);
         }
     }
 }
@@ -185,25 +169,21 @@ fn put_file(out: &mut [u8], header: Header, ending: Ending, run: &[u32], text: &
     put_ending(out, end, ending);
 }
 
-// Writes the header, the records and the tag into `out`; strings and names lie in `text`. A refusal
-// changes nothing.
+/// Writes the header, the records and the tag into `out`; strings and names lie in `text`. A refusal
+/// changes nothing.
 pub fn write(
     header: Header,
     ending: Ending,
     records: &[u32],
     text: &[u8],
     out: &mut [u8],
-) -> Written
+) -> Result<usize, Fault>
     ensures { (told_written result, out.new) ≡ written text.now (told_header header) (told_ending ending) (whole width taken records.now) out.old }
 {
-    match acb_write_judge::write_length(header, ending, records, text) {
-        Written::Refused(x) => Written::Refused(x),
-        Written::Bytes(size) => {
-            if out.len() < size {
-                return Written::Refused(11);
-            }
-            put_file(out, header, ending, records, text, records.len() / WIDTH);
-            Written::Bytes(size)
-        }
+    let size = acb_write_judge::write_length(header, ending, records, text)?;
+    if out.len() < size {
+        return Err(Fault::NoRoom);
     }
+    put_file(out, header, ending, records, text, records.len() / WIDTH);
+    Ok(size)
 }

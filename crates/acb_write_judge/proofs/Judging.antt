@@ -21,7 +21,7 @@ use Rattle.acb.specs.Faults as f
 use Rattle.acb.proofs.Faultless.{page-first}
 use Rattle.acb_judge.specs.Answer.{HeaderPlaces}
 use Rattle.acb_writing.specs.Writing.{components_in, sizes, string_size, size_within, text_fault, byte_fault, head_fault, colour_fault}
-use Rattle.algebra.specs.Table.{row_at, rows}
+use Rattle.algebra.specs.Table.{rows}
 use Rattle.acb.specs.Row.{RecordRow, width, taken}
 use Rattle.acb_write_judge.specs.Parts.{record_in}
 use Rattle.acb_write_judge.specs.scaffold.Parts.{given_at, start, RecordFits, RecordsFit, told_fault}
@@ -38,10 +38,6 @@ use Rattle.std.proofs.lemmas.List.{drop_all}
 
 pub record-whole : (run : List ℕ) (n k : ℕ) → width * n ≤ length run → k < n → record_in run k ≡ given_at run k
 record-whole run n k h l = whole_in width taken run (taken []) k (omega arith)
-
--- the record of a row, with the place of its name taken on its own
-pub row-taken : (run l : List ℕ) (k x : ℕ) → l ≡ row_at width run k → x ≡ get_or l 0 0 → record { name = (x, (taken l).name.1); code = (taken l).code; components = (taken l).components; ink = (taken l).ink } ≡ given_at run k
-row-taken run l k x e h = ap (λ (p : ℕ). record { name = (p, (taken l).name.1); code = (taken l).code; components = (taken l).components; ink = (taken l).ink }) h ∙ ap taken e
 
 -- ---- the first fault of a list, one value after the other
 

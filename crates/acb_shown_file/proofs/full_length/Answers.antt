@@ -1,36 +1,36 @@
-use mathlib.Core.Path.{refl, sym, ap, ◌∙◌}
+use mathlib.Core.Path.{refl}
 use native.Mathlib.Omega.{arith}
-use Rattle.acb.specs.Reading.{acb}
-use Rattle.acb_judge.specs.Answer.{told, told_header}
-use Rattle.acb_shown_file.proofs.Naming.{Opened, opened, text-inside, length_none, length-refused, parts-small, full-length}
+use Rattle.acb_judge.specs.Answer.{told_header}
+use Rattle.acb_shown_file.proofs.Naming.{Opened, opened, text-inside, length_none, parts-small, full-length}
 use Rattle.acb_shown_file.proofs.full_length.Goals as goal
 
-pub returns-then-count-i : goal.returns-then-count-i
-returns-then-count-i c =
-    let o : Opened c.args.file.now (told_header c.in-Accepted.header) c.in-Accepted.count = opened _ (sym (ap told c.in-Accepted.is) ∙ c.judge.ensures) in
-    length_none _ o c.args.i c.if-count-i.true
+pub returns-then-book-i : goal.returns-then-book-i
+returns-then-book-i c =
+    let b = c.in_ok-book.book in
+    let o : Opened c.args.file.now (told_header b.header) b.count = opened _ c.in_ok-book.ensures in
+    length_none _ o c.args.i c.if-book-i.true
 
 pub text_in-prefix-requires : goal.text_in-prefix-requires
 text_in-prefix-requires c =
-    let o : Opened c.args.file.now (told_header c.in-Accepted.header) c.in-Accepted.count = opened _ (sym (ap told c.in-Accepted.is) ∙ c.judge.ensures) in
+    let b = c.in_ok-book.book in
+    let o : Opened c.args.file.now (told_header b.header) b.count = opened _ c.in_ok-book.ensures in
     text-inside _ o 1 (omega arith) refl
 
 pub text_in-suffix-requires : goal.text_in-suffix-requires
 text_in-suffix-requires c =
-    let o : Opened c.args.file.now (told_header c.in-Accepted.header) c.in-Accepted.count = opened _ (sym (ap told c.in-Accepted.is) ∙ c.judge.ensures) in
+    let b = c.in_ok-book.book in
+    let o : Opened c.args.file.now (told_header b.header) b.count = opened _ c.in_ok-book.ensures in
     text-inside _ o 2 (omega arith) refl
 
 pub overflow_add-result : goal.overflow_add-result
 overflow_add-result c =
-    let o : Opened c.args.file.now (told_header c.in-Accepted.header) c.in-Accepted.count = opened _ (sym (ap told c.in-Accepted.is) ∙ c.judge.ensures) in
-    let k = parts-small _ o c.args.i c.if-count-i.false refl refl _ _ _ c.text_in-prefix.ensures c.name_at-name.ensures c.text_in-suffix.ensures in
+    let b = c.in_ok-book.book in
+    let o : Opened c.args.file.now (told_header b.header) b.count = opened _ c.in_ok-book.ensures in
+    let k = parts-small _ o c.args.i c.if-book-i.false refl refl _ _ _ c.text_in-prefix.ensures c.name_at-name.ensures c.text_in-suffix.ensures in
     omega arith
 
-pub returns-in-Refused : goal.returns-in-Refused
-returns-in-Refused c =
-    length-refused (acb c.args.file.now) _ (sym (ap told c.in-Refused.is) ∙ c.judge.ensures) c.args.file.now
-
-pub returns-else-count-i : goal.returns-else-count-i
-returns-else-count-i c =
-    let o : Opened c.args.file.now (told_header c.in-Accepted.header) c.in-Accepted.count = opened _ (sym (ap told c.in-Accepted.is) ∙ c.judge.ensures) in
-    full-length _ o c.args.i c.if-count-i.false refl refl _ _ _ c.text_in-prefix.ensures c.name_at-name.ensures c.text_in-suffix.ensures
+pub returns : goal.returns
+returns c =
+    let b = c.in_ok-book.book in
+    let o : Opened c.args.file.now (told_header b.header) b.count = opened _ c.in_ok-book.ensures in
+    full-length _ o c.args.i c.if-book-i.false refl refl _ _ _ c.text_in-prefix.ensures c.name_at-name.ensures c.text_in-suffix.ensures

@@ -1,9 +1,10 @@
 use borrow.Author.Tests.{eq-eqb, ne_eqb}
 use Prim.Native.Nat.{ℕ, ◌+◌, ◌-◌}
-use mathlib.Core.Path.{sym, ap, ◌∙◌}
+use mathlib.Core.Path.{refl, sym, ap, ◌∙◌}
 use mathlib.Core.List.{◌∷◌, map}
 use Rattle.acb_shown_values.proofs.Sampling.{sample-start, sample-dummy, sample-found, sample-on, sample-end}
 use Rattle.acb_shown_file.specs.View.{unnamed}
+use Rattle.acb.specs.Row.{RecordRow}
 use Rattle.acb_read.specs.Answer.{RecordPlaces}
 use Rattle.acb_read.specs.Walked.{step, given_in, walked}
 use Rattle.acb_read.proofs.Walking.{walked-turn, walked_end}
@@ -11,14 +12,14 @@ use Rattle.acb_shown_file.proofs.sample_at.Goals.{then-string-ne0+else-left-eq0,
 use Rattle.acb_shown_file.proofs.sample_at.Goals as goal
 
 pub loop-k-init : goal.loop-k-init
-loop-k-init c = let a = c.args in sample-start a.i a.offset _ _ c.none-found.ensures
+loop-k-init c = let a = c.args in sample-start a.i a.offset _ _ refl
 
 pub returns-then-left-eq0 : goal.returns-then-left-eq0
 returns-then-left-eq0 c =
     let a = c.args in
     let l = c.loop-k in
     let h = c.loop-k-test.true in
-    let u = ap (λ (w : ℕ × ℕ). w.1) c.text_place-string.ensures ∙ ap (λ (w : RecordPlaces × ℕ). (given_in w.0).name.1) c.step_at-step.ensures in
+    let u = ap (λ (g : RecordRow). g.name.1) c.given.ensures ∙ ap (λ (w : RecordPlaces × ℕ). (given_in w.0).name.1) c.step_at-step.ensures in
     sym (sample-found _ _ _ l.k l.invariant (ap (map unnamed) (walked-turn a.space a.file.now l.p a.end l.k h)) (ne_eqb _ _ (λ z. c.if-string-ne0.true (u ∙ z))) c.if-left-eq0.true)
 
 pub loop-k-preserved : goal.loop-k-preserved
@@ -26,7 +27,7 @@ loop-k-preserved c =
     let a = c.args in
     let l = c.loop-k in
     let h = c.loop-k-test.true in
-    let u = ap (λ (w : ℕ × ℕ). w.1) c.text_place-string.ensures ∙ ap (λ (w : RecordPlaces × ℕ). (given_in w.0).name.1) c.step_at-step.ensures in
+    let u = ap (λ (g : RecordRow). g.name.1) c.given.ensures ∙ ap (λ (w : RecordPlaces × ℕ). (given_in w.0).name.1) c.step_at-step.ensures in
     let n = ap (λ (w : RecordPlaces × ℕ). w.1) c.step_at-step.ensures in
     let e = ap (map unnamed) (walked-turn a.space a.file.now l.p a.end l.k h ∙ ap (λ (q : ℕ). given_in (step a.space a.file.now l.p).0 ∷ walked a.space a.file.now q (a.end - (l.k + 1))) (sym n)) in
     elim c.if-string-ne0.branch [

@@ -11,6 +11,3 @@ use Rattle.acb_shown_file.proofs.sample_at.Given as goal
 abbrev pub invariant-loop-k : goal.invariant-loop-k
 invariant-loop-k l =
     page_of (sample_from l.i l.offset (map unnamed (walked l.space l.file l.at (l.end - l.i)))) ≡ or_last (told_page l.found) l.left (non_dummies l.k (map unnamed (walked l.space l.file l.p (l.end - l.k))))
-
-abbrev pub decreases-loop-k : goal.decreases-loop-k
-decreases-loop-k l = l.end - l.k

@@ -1,5 +1,5 @@
 use borrow.Author.Tests.{eq-eqb, ne_eqb}
-use mathlib.Core.Path.{sym, ap, ◌∙◌}
+use mathlib.Core.Path.{refl, sym, ap, ◌∙◌}
 use mathlib.Core.List.{map}
 use Rattle.acb_shown_values.proofs.Sampling.{sample-start, sample-dummy, sample-found, sample-on, sample-end}
 use Rattle.acb_shown_file.specs.View.{unnamed}
@@ -11,7 +11,7 @@ use Rattle.acb_shown_file.proofs.sample_in.Goals.{then-given-ne0+else-left-eq0, 
 use Rattle.acb_shown_file.proofs.sample_in.Goals as goal
 
 pub loop-i-init : goal.loop-i-init
-loop-i-init c = let a = c.args in sample-start a.first a.offset _ _ c.none-found.ensures
+loop-i-init c = let a = c.args in sample-start a.first a.offset _ _ refl
 
 pub returns-then-left-eq0 : goal.returns-then-left-eq0
 returns-then-left-eq0 c =

@@ -12,6 +12,3 @@ use Rattle.acb_shown_file.proofs.sample_in.Given as goal
 abbrev pub invariant-loop-i : goal.invariant-loop-i
 invariant-loop-i l =
     page_of (sample_from l.first l.offset (map unnamed (rows width taken l.table (l.end - l.first) l.first))) ≡ or_last (told_page l.found) l.left (non_dummies l.i (map unnamed (rows width taken l.table (l.end - l.i) l.i)))
-
-abbrev pub decreases-loop-i : goal.decreases-loop-i
-decreases-loop-i l = l.end - l.i

@@ -14,6 +14,3 @@ use Rattle.acb_write.proofs.put_colours.Given as goal
 abbrev pub invariant-loop-i : goal.invariant-loop-i
 invariant-loop-i l = (l.i ≤ l.count) × (sets l.initial.out l.at (joined colour_bytes (map (colour_in l.text l.n) (rows width taken l.run l.count 0))) ≡ sets l.out l.p (joined colour_bytes (map (colour_in l.text l.n) (rows width taken l.run (l.count - l.i) l.i))))
     × RecordsFit l.text l.n (rows width taken l.run (l.count - l.i) l.i) l.p (length l.initial.out) × (length l.out ≡ length l.initial.out) × (l.p + sizes (size_within l.n) (rows width taken l.run (l.count - l.i) l.i) ≡ l.at + sizes (size_within l.n) (rows width taken l.run l.count 0))
-
-abbrev pub decreases-loop-i : goal.decreases-loop-i
-decreases-loop-i l = l.count - l.i

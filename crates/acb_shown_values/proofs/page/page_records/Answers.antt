@@ -26,4 +26,4 @@ returns-then-count-first c = let a = c.args in sym (range-absent a.count a.size 
 pub returns : goal.returns
 returns c =
     let a = c.args in
-    ap (λ (n : ℕ). records (a.page * a.size) (a.page * a.size + n)) c.smaller.ensures ∙ sym (range-there a.count a.size a.page c.if-count-first.false)
+    ap (λ (n : ℕ). records (a.page * a.size) (a.page * a.size + n)) c.min.ensures ∙ sym (range-there a.count a.size a.page c.if-count-first.false)

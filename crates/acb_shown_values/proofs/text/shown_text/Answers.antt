@@ -1,12 +1,9 @@
 use native.Mathlib.Omega.{arith}
-use Rattle.acb_shown_values.proofs.Texts.{shown-inside, shown_rest}
+use Rattle.acb_shown_values.proofs.Texts.{shown-inside}
 use Rattle.acb_shown_values.proofs.text.shown_text.Goals as goal
 
 pub slice_bounds-result-count : goal.slice_bounds-result-count
-slice_bounds-result-count c = omega (arith, shown-inside c.args.string.now, c.shown_start-start.ensures)
+slice_bounds-result-count c = omega (arith, shown-inside c.args.string.now, c.shown_start.ensures)
 
 pub slice_bounds-result-start : goal.slice_bounds-result-start
-slice_bounds-result-start c = omega (arith, shown-inside c.args.string.now, c.shown_start-start.ensures)
-
-pub returns : goal.returns
-returns c = shown_rest _ _ c.shown_start-start.ensures
+slice_bounds-result-start c = omega (arith, shown-inside c.args.string.now, c.shown_start.ensures)
