@@ -50,18 +50,6 @@ pub less-up : (us v w : List ℕ) → compare_names us v ≡ less → Upto v w �
 less-up us v w e (inl h) = names-total.onward us v w e h
 less-up us v w e (inr h) = ap (compare_names us) (sym h) ∙ e
 
-pub greater-not : (us v w : List ℕ) → is_greater (compare_names us v) ≡ false → Upto v w → is_greater (compare_names us w) ≡ false
-greater-not us v w e h = go (compare_names us v) refl e
-  where
-    go : (o : Order) → compare_names us v ≡ o → is_greater o ≡ false → is_greater (compare_names us w) ≡ false
-    go less q k = ap is_greater (less-up us v w q h)
-    go same q k = eqs h
-      where
-        eqs : Upto v w → is_greater (compare_names us w) ≡ false
-        eqs (inl l) = ap is_greater (ap (λ (x : List ℕ). compare_names x w) (names-total.equal us v q) ∙ l)
-        eqs (inr l) = ap is_greater (ap (compare_names us) (sym l) ∙ q)
-    go greater q k = let z : ◌≡◌ {A = ℕ} 0 1 = cc in absurd (omega arith)
-
 pub same_true : (o : Order) → is_same_order o ≡ true → o ≡ same
 same_true less y = let z : ◌≡◌ {A = ℕ} 0 1 = cc in absurd (omega arith)
 same_true same y = refl

@@ -25,7 +25,7 @@ use Rattle.acb_order.specs.Names.{compare_names}
 use Rattle.acb_names.specs.Answer.{told}
 use Rattle.acb_names.proofs.Units.{told_compare}
 use Rattle.order.proofs.Lists.{is-less}
-use Rattle.order.proofs.Heaps.{same_or}
+use Rattle.order.proofs.Runs.{same_or}
 use Rattle.acb_order.specs.Index.{shown_from, shown_at, by_name, index_of, names_of}
 use Rattle.acb_order.specs.Search.{begins, lowest, searched}
 use Rattle.acb_order.specs.Places.{units_at, name_at}
@@ -166,9 +166,6 @@ less-times d i j h = go (leb j i) refl
     go : (b : Bool) → leb j i ≡ b → i < j
     go true e = absurd (omega (arith, mul-le-mul_left {m = j} {n = i} d (leb-true j i e)))
     go false e = omega (arith, leb-false j i e)
-
-pub times-least : (d j : ℕ) → 0 < d → j ≤ d * j
-times-least d j h = let z : 1 * j ≡ j = omega arith in omega (arith, mul-le-mul_right {m = 1} {n = d} j (omega arith), z)
 
 -- the mark that is due has a place
 pub mark-room : (count d i j : ℕ) → Spaced count d → i < count → d * j ≡ i → j < 4096

@@ -16,7 +16,7 @@ use Rattle.acb.specs.Reading.{acb, Contents}
 use Rattle.order.specs.Order.{less, or_else, compare}
 use Rattle.order.proofs.Orders.{compare-less, compare-more, compare_same}
 use Rattle.order.proofs.Lists.{turned-less}
-use Rattle.order.proofs.Heaps.{same_or}
+use Rattle.order.proofs.Runs.{same_or}
 use Rattle.acb_order.specs.Names.{compare_names}
 use Rattle.acb_order.specs.Index.{shown_from, shown_at, by_name, index_of, names_of, indexed}
 use Rattle.acb_order.specs.Places.{units_at, name_at}

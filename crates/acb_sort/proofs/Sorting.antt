@@ -13,8 +13,7 @@ use Rattle.std.specs.Ordering.{is_lt, nat_cmp, ordering_then}
 use Rattle.std.proofs.lemmas.List.{get_or_default}
 use Rattle.std.proofs.lemmas.List.Sorted.{IsPermutation-keeps, sorted_far}
 use Rattle.order.specs.Run.{Rearranged}
-use Rattle.order.specs.scaffold.Heap.{swapped}
-use Rattle.order.proofs.Heaps.{unmoved, moved_on, swap-moves, not-both, not_on}
+use Rattle.order.proofs.Runs.{swapped, unmoved, moved_on, swap-moves, not-both, not_on}
 use Rattle.order.specs.Order.{is_less, or_else, compare}
 use Rattle.order.specs.scaffold.Total.{Total}
 use Rattle.order.proofs.Orders.{both-total, numbers-total}

@@ -1,3 +1,3 @@
 pub mod Orders
 pub mod Lists
-pub mod Heaps
+pub mod Runs
