@@ -7,7 +7,6 @@ use native.Mathlib.Omega.{arith}
 use Rattle.algebra.specs.Numbers.{joined}
 use Rattle.algebra.specs.Reader.{Res}
 use Rattle.colour.specs.Inks.{ink_number}
-use Rattle.colour.specs.declared.ink.Ink.{Ink}
 use Rattle.colour.specs.Models.{traits_of, model_of, channels_of}
 use Rattle.colour.specs.Channels.{bits_of, model_in}
 use Rattle.colour.specs.declared.model.Traits.{Traits}
@@ -18,12 +17,12 @@ use Rattle.colour.specs.declared.channel.Channels.TheVariants as vc
 use Rattle.ase.specs.Reading.{Entry, ase}
 use Rattle.algebra.specs.Table.{accepted, refused as refusedFile, verdict}
 use Rattle.algebra.proofs.Table.{accepted-of, refused-of}
-use Rattle.ase.specs.Row.{RecordRow}
+use Rattle.ase.specs.Row.{RecordRow, group_start_row}
 use Rattle.ase_judge.specs.Answer.{report}
 use Rattle.ase_walk.specs.Walking.{first_place, block_walk}
-use Rattle.ase_walk.specs.Answer.{told_block, record_call, call_and_place}
-use Rattle.ase_walk.specs.declared.Block.{Block}
-use Rattle.ase_walk.specs.declared.Block.TheVariants as vb
+use Rattle.ase_walk.specs.Answer.{record_call, call_and_place}
+use Rattle.ase_read.specs.Answer.{shown_colour}
+use Rattle.ase_read.specs.declared.NamedColour.{NamedColour}
 use Rattle.ase_walk.proofs.Walked.{blocks-in-turn}
 use Rattle.walk.specs.Walk.{Call, place_after, call, in_turn}
 use Rattle.walk.specs.scaffold.Walk.{answers}
@@ -32,8 +31,8 @@ use Rattle.walk.specs.Names.{name_part}
 use Rattle.listing.specs.Buffer.{Buffer, put_all}
 use Rattle.listing.specs.Text.{ascii, name, lines, refusal}
 use Rattle.listing.proofs.Putting.{put_both, lines-turn, lines_none}
-use Rattle.ase_list.specs.Listing.{heading, model, tagged, channel, type, line, listing}
-use Rattle.ase_list.specs.scaffold.Listing.{colour_text, answer, answer_line, shown_walk}
+use Rattle.ase_list.specs.Listing.{heading, model, tagged, channel, type, block, line, listing}
+use Rattle.ase_list.specs.scaffold.Listing.{colour_text, answer_line, shown_walk}
 
 -- ---- a colour
 
@@ -44,10 +43,17 @@ few t Cmyk e = omega (arith, ap (λ (x : Traits). x.channels) e)
 few t Lab e = omega (arith, ap (λ (x : Traits). x.channels) e)
 few t Gray e = omega (arith, ap (λ (x : Traits). x.channels) e)
 
-pub put-colour-content : (o : Buffer) (m : Model) (t : Traits) (bs : List ℕ) (c : Channels) (k j : ℕ) (b : List ℕ) {p q r x : Buffer} → m ≡ model_in c → t ≡ traits_of m → bs ≡ bits_of c → j ≡ k
-    → p ≡ put_all o (model m) → q ≡ put_all p (joined channel (take t.channels bs)) → r ≡ put_all q (type j) → x ≡ put_all r (name b) → x ≡ put_all o (colour_text c k b)
-put-colour-content o m t bs c k j b {p} {q} d e f n g h i y =
-    put_both _ _ _ (put_both _ _ _ (put_both _ _ _ g h) (i ∙ ap (λ (z : ℕ). put_all q (type z)) n)) y
+-- the bits of a colour are four
+pub four-bits : (c : Channels) → length (bits_of c) ≡ 4
+four-bits (vc.Rgb x y z) = refl
+four-bits (vc.Cmyk x y z w) = refl
+four-bits (vc.Lab x y z) = refl
+four-bits (vc.Gray x) = refl
+
+pub put-colour-content : (o : Buffer) (m : Model) (t : Traits) (bs : List ℕ) (c : Channels) (k : ℕ) (b nm : List ℕ) {p q r x : Buffer} → m ≡ model_in c → t ≡ traits_of m → bs ≡ bits_of c → nm ≡ b
+    → p ≡ put_all o (model m) → q ≡ put_all p (joined channel (take t.channels bs)) → r ≡ put_all q (type k) → x ≡ put_all r (name nm) → x ≡ put_all o (colour_text c k b)
+put-colour-content o m t bs c k b nm {r = r} d e f n g h i y =
+    put_both _ _ _ (put_both _ _ _ (put_both _ _ _ g h) i) (y ∙ ap (λ (l : List ℕ). put_all r (name l)) n)
     ∙ ap₂ (λ (m : Model) (l : List ℕ). put_all o (model m ++ joined channel l ++ type k ++ name b)) d (ap₂ (λ (t : Traits) (l : List ℕ). take t.channels l) (e ∙ ap traits_of d) f)
 
 -- the same by its model's tag
@@ -60,15 +66,13 @@ colour-content-is (vc.Gray x) k b = refl
 
 -- ---- a block
 
-module _ (s : List ℕ) (o : Buffer) (b : Block) where
-  pub put-group : {place u : ℕ} {nm : List ℕ} {p q : Buffer} → nm ≡ name_part s place u → b ≡ vb.GroupStart place u → p ≡ put_all o (ascii " group ") → q ≡ put_all p (name nm) → q ≡ put_all o (answer s (told_block b))
-  put-group n e f g =
-      put_both _ _ _ f g ∙ ap (λ (l : List ℕ). put_all o (ascii " group " ++ name l)) n ∙ ap (λ (b : Block). put_all o (answer s (told_block b))) (sym e)
+module _ (s : List ℕ) (o : Buffer) where
+  pub put-group : (place u : ℕ) {nm : List ℕ} {p q : Buffer} → nm ≡ name_part s place u → p ≡ put_all o (ascii " group ") → q ≡ put_all p (name nm) → q ≡ put_all o (block s (group_start_row place u))
+  put-group place u n f g = put_both _ _ _ f g ∙ ap (λ (l : List ℕ). put_all o (ascii " group " ++ name l)) n
 
-  pub put-shown : {place u : ℕ} {c : Channels} {k : Ink} {nm : List ℕ} {p q : Buffer} → nm ≡ name_part s place u → b ≡ vb.Colour place u c k → p ≡ put_all o (ascii " colour ") → q ≡ put_all p (colour_text c (ink_number k) nm) → q ≡ put_all o (answer s (told_block b))
-  put-shown {place} {u} {c} {k} n e f g =
-      put_both _ _ _ f g ∙ ap (λ (l : List ℕ). put_all o (ascii " colour " ++ colour_text c (ink_number k) l)) n ∙ ap (λ (l : List ℕ). put_all o (ascii " colour " ++ l)) (colour-content-is c (ink_number k) (name_part s place u))
-      ∙ ap (λ (b : Block). put_all o (answer s (told_block b))) (sym e)
+  pub put-shown : (c : NamedColour) {p q : Buffer} → p ≡ put_all o (ascii " colour ") → q ≡ put_all p (colour_text c.colour (ink_number c.ink) (name_part s c.place c.units)) → q ≡ put_all o (block s (shown_colour c))
+  put-shown c f g =
+      put_both _ _ _ f g ∙ ap (λ (l : List ℕ). put_all o (ascii " colour " ++ l)) (colour-content-is c.colour (ink_number c.ink) (name_part s c.place c.units))
 
 -- ---- the loop
 

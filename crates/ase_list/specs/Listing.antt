@@ -1,12 +1,10 @@
 -- What is listed of an ASE file: docs/LISTINGS.md.
-use Rattle.std.specs.Prelude.{ℕ, List, [], ◌++◌, length, take, eqb}
+use Rattle.std.specs.Prelude.{ℕ, List, [], ◌++◌, Option, Some, None, length, take, eqb}
 use Rattle.algebra.specs.Reader.{Res, ok, refuse, pick}
 use Rattle.algebra.specs.Numbers.{joined}
 use Rattle.colour.specs.Models.{model_of, channels_of}
 use Rattle.colour.specs.declared.model.Model.{Model}
 use Rattle.colour.specs.declared.model.Model.TheVariants.{Rgb, Cmyk, Lab, Gray}
-use Rattle.colour.specs.declared.model.KnownModel.{KnownModel}
-use Rattle.colour.specs.declared.model.KnownModel.TheVariants.{Is, Unknown}
 use Rattle.ase.specs.Reading.{Entry}
 use Rattle.ase.specs.Row.{RecordRow, given_of}
 use Rattle.walk.specs.Names.{name_part}
@@ -24,9 +22,9 @@ model Lab = ascii "LAB"
 model Gray = ascii "Gray"
 
 -- the model with a tag
-abbrev pub tagged : KnownModel → List ℕ
-tagged (Is m) = model m
-tagged Unknown = []
+abbrev pub tagged : Option Model → List ℕ
+tagged (Some m) = model m
+tagged None = []
 
 abbrev pub channel : ℕ → List ℕ
 channel b = ascii " " ++ bits b

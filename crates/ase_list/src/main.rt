@@ -2,6 +2,7 @@
 #![tactic(auto)]
 
 ghost use Rattle.std.specs.Prelude.{◌≡◌, ◌≤◌, ◌<◌, length, take};
+ghost use Rattle.walk.specs.Names.{name_part};
 ghost use Rattle.algebra.specs.Numbers.{joined};
 ghost use Rattle.colour.specs.Inks.{ink_number};
 ghost use Rattle.ase.specs.Reading.{ase};
@@ -10,13 +11,13 @@ ghost use Rattle.walk.specs.scaffold.Walk.{answers};
 ghost use Rattle.ase_walk.specs.Answer.{told_block};
 ghost use Rattle.listing.specs.Buffer.{put_all};
 ghost use Rattle.listing.specs.Text.{lines, taken};
-ghost use Rattle.ase_list.specs.Listing.{channel, listing};
+ghost use Rattle.ase_list.specs.Listing.{channel, type, listing};
 ghost use Rattle.ase_list.specs.scaffold.Listing.{colour_text, answer, answer_line, shown_walk};
-ghost use Rattle.ase_list.specs.Listing.{model as Listing·model, type as Listing·type};
+ghost use Rattle.ase_list.specs.Listing.{model as Listing·model};
 
-use ase_judge::Answer;
-use ase_walk::Block;
-use colour::{Channels, Ink, Model};
+use ase_read::{NamedColour, Record};
+use colour::{Ink, Model};
+use fault::{Fault, Refusal};
 use listing::{
     finish, put, put_bits, put_name, put_number, put_refusal, put_text, put_word, take_input,
 };
@@ -36,68 +37,56 @@ fn put_model(out: &mut [u8], n: usize, model: Model) -> usize
     }
 }
 
-// The first channels of a colour, as many as its model has.
-fn put_channels(out: &mut [u8], n: usize, bits: [u32; 4], channels: u16) -> usize
-    requires { channels ≤ 4 }
-    ensures { (out.new, result) ≡ put_all (out.old, n) (joined channel (take channels bits)) }
+fn put_channels(out: &mut [u8], n: usize, channels: &[u32]) -> usize
+    ensures { (out.new, result) ≡ put_all (out.old, n) (joined channel channels.now) }
 {
     let mut at = n;
-    let mut k: usize = 0;
-    while k < channels as usize {
+    for &bits in channels {
         at = put(out, at, b' ');
-        at = put_bits(out, at, bits[k]);
-        k += 1;
+        at = put_bits(out, at, bits);
     }
     at
 }
 
-fn put_type(out: &mut [u8], n: usize, kind: u32) -> usize
-    ensures { (out.new, result) ≡ put_all (out.old, n) (Listing·type kind) }
+fn put_ink(out: &mut [u8], n: usize, ink: Ink) -> usize
+    ensures { (out.new, result) ≡ put_all (out.old, n) (type (ink_number ink)) }
 {
-    if kind == 0 {
-        return put_text(out, n, b" global ");
+    match ink {
+        Ink::Global => put_text(out, n, b" global "),
+        Ink::Spot => put_text(out, n, b" spot "),
+        Ink::Normal | Ink::Process | Ink::NotStated => put_text(out, n, b" normal "),
     }
-    if kind == 1 {
-        return put_text(out, n, b" spot ");
-    }
-    put_text(out, n, b" normal ")
 }
 
 // A colour: its model, channels, type and name.
-fn put_colour(out: &mut [u8], n: usize, colour: Channels, ink: Ink, name: &[u8]) -> usize
-    ensures { (out.new, result) ≡ put_all (out.old, n) (colour_text colour (ink_number ink) name.now) }
+fn put_colour(out: &mut [u8], n: usize, file: &[u8], given: NamedColour) -> usize
+    ensures { (out.new, result) ≡ put_all (out.old, n) (colour_text given.colour (ink_number given.ink) (name_part file.now given.place given.units)) }
 {
-    let model = colour.model();
+    let model = given.colour.model();
+    let bits = given.colour.bits();
+    let channels = &bits[..model.traits().channels as usize];
     let mut at = put_model(out, n, model);
-    at = put_channels(out, at, colour.bits(), model.traits().channels);
-    at = put_type(out, at, ink.number());
-    put_name(out, at, name)
+    at = put_channels(out, at, channels);
+    at = put_ink(out, at, given.ink);
+    put_name(out, at, name_part(file, given.place, given.units))
 }
 
 // What stands in a block's line after its number.
-fn put_block(out: &mut [u8], n: usize, file: &[u8], block: Block) -> usize
+fn put_block(out: &mut [u8], n: usize, file: &[u8], block: Result<Option<Record>, Refusal>) -> usize
     ensures { (out.new, result) ≡ put_all (out.old, n) (answer file.now (told_block block)) }
 {
     match block {
-        Block::GroupStart { place, units } => {
+        Ok(Some(Record::GroupStart { place, units })) => {
             let at = put_text(out, n, b" group ");
             put_name(out, at, name_part(file, place, units))
         }
-        Block::GroupEnd => put_text(out, n, b" close"),
-        Block::Colour {
-            place,
-            units,
-            colour,
-            ink,
-        } => {
+        Ok(Some(Record::GroupEnd)) => put_text(out, n, b" close"),
+        Ok(Some(Record::Colour(given))) => {
             let at = put_text(out, n, b" colour ");
-            put_colour(out, at, colour, ink, name_part(file, place, units))
+            put_colour(out, at, file, given)
         }
-        Block::Done => n,
-        Block::Refused {
-            number: _,
-            place: _,
-        } => n,
+        Ok(None) => n,
+        Err(_) => n,
     }
 }
 
@@ -106,16 +95,13 @@ fn put_blocks(out: &mut [u8], n: usize, file: &[u8], blocks: usize) -> usize
     ensures { (out.new, result) ≡ put_all (out.old, n) (lines (answer_line file.now) 0 (answers (shown_walk file.now) blocks (first_place file.now))) }
 {
     let mut at = n;
-    let mut i: usize = 0;
     let mut p = ase_walk::first_at(file);
-    while i < blocks {
+    for i in 0..blocks {
         let step = ase_walk::block_at(file, p);
-        let block = step.block;
         at = put_number(out, at, i as u64);
-        at = put_block(out, at, file, block);
+        at = put_block(out, at, file, step.block);
         at = put(out, at, b'\n');
         p = step.next;
-        i += 1;
     }
     at
 }
@@ -124,17 +110,17 @@ fn put_listing(out: &mut [u8], file: &[u8]) -> usize
     ensures { (out.new, result) ≡ put_all (out.old, 0) (taken 65536 file.now (listing file.now (ase file.now))) }
 {
     if TAKEN < file.len() {
-        return put_refusal(out, 1, 0);
+        return put_refusal(out, Refusal(Fault::TooLong, 0));
     }
     match ase_judge::judge(file) {
-        Answer::Refused { number, place } => put_refusal(out, number, place),
-        Answer::Accepted { blocks, colours: _ } => {
+        Ok(counts) => {
             let mut at = put_text(out, 0, b"ASE");
-            at = put_word(out, at, blocks as u64);
+            at = put_word(out, at, counts.blocks as u64);
             at = put(out, at, b'\n');
-            at = put_blocks(out, at, file, blocks);
+            at = put_blocks(out, at, file, counts.blocks);
             put_text(out, at, b"end\n")
         }
+        Err(refusal) => put_refusal(out, refusal),
     }
 }
 

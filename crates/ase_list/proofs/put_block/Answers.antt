@@ -1,34 +1,33 @@
-use mathlib.Core.Path.{sym, ap, ◌∙◌}
-use Rattle.ase_walk.specs.Answer.{told_block}
-use Rattle.ase_walk.specs.declared.Block.{Block}
+use mathlib.Core.Path.{◌≡◌, refl}
+use Rattle.std.specs.Prelude.{Some, None}
 use Rattle.listing.specs.Buffer.{put_all}
-use Rattle.ase_list.specs.scaffold.Listing.{answer}
+use Rattle.ase_read.specs.declared.Record.TheVariants.{GroupStart, Colour}
 use Rattle.ase_list.proofs.Listed.{put-group, put-shown}
 use Rattle.ase_list.proofs.put_block.Goals as goal
 
-pub returns-in-GroupStart : goal.returns-in-GroupStart
-returns-in-GroupStart c =
+pub returns-in-Ok-Some-GroupStart : goal.returns-in-Ok-Some-GroupStart
+returns-in-Ok-Some-GroupStart c =
     let a = c.args in
-    put-group a.file.now (a.out.now, a.n) a.block c.name_part.ensures c.in-GroupStart.is c.put_text-at.ensures c.put_name.ensures
+    let b = c.in-Ok-Some-GroupStart in
+    let e : b.field-0 ≡ Some b.field-0-0 = rw b.is at b.field-0-is in
+    let f : b.field-0-0 ≡ GroupStart b.place b.units = rw e at (rw b.is at b.field-0-0-is) in
+    rw (b.is, e, f) (put-group a.file.now (a.out.now, a.n) b.place b.units c.name_part.ensures c.put_text-at.ensures c.put_name.ensures)
 
-pub returns-in-GroupEnd : goal.returns-in-GroupEnd
-returns-in-GroupEnd c =
+pub returns-in-Ok-Some-Colour : goal.returns-in-Ok-Some-Colour
+returns-in-Ok-Some-Colour c =
     let a = c.args in
-    c.put_text.ensures ∙ ap (λ (b : Block). put_all (a.out.now, a.n) (answer a.file.now (told_block b))) (sym c.in-GroupEnd.is)
+    let b = c.in-Ok-Some-Colour in
+    let e : b.field-0 ≡ Some b.field-0-0 = rw b.is at b.field-0-is in
+    let f : b.field-0-0 ≡ Colour b.given = rw e at (rw b.is at b.field-0-0-is) in
+    rw (b.is, e, f) (put-shown a.file.now (a.out.now, a.n) b.given c.put_text-at-in-Ok-Some-Colour.ensures c.put_colour.ensures)
 
-pub returns-in-Colour : goal.returns-in-Colour
-returns-in-Colour c =
-    let a = c.args in
-    put-shown a.file.now (a.out.now, a.n) a.block c.name_part-in-Colour.ensures c.in-Colour.is c.put_text-at-in-Colour.ensures c.put_colour.ensures
-
-pub returns-in-Done : goal.returns-in-Done
+pub returns-in-Ok-None : goal.returns-in-Ok-None
 unfolding put_all
-returns-in-Done c =
-    let a = c.args in
-    ap (λ (b : Block). put_all (a.out.now, a.n) (answer a.file.now (told_block b))) (sym c.in-Done.is)
+returns-in-Ok-None c =
+    let b = c.in-Ok-None in
+    let e : b.field-0 ≡ None = rw b.is at b.field-0-is in
+    rw (b.is, e) refl
 
-pub returns-in-Refused : goal.returns-in-Refused
+pub returns-in-Err : goal.returns-in-Err
 unfolding put_all
-returns-in-Refused c =
-    let a = c.args in
-    ap (λ (b : Block). put_all (a.out.now, a.n) (answer a.file.now (told_block b))) (sym c.in-Refused.is)
+returns-in-Err c = rw c.in-Err.is refl

@@ -1,6 +1,5 @@
-use mathlib.Core.Path.{sym, ap, ◌∙◌}
+use mathlib.Core.Path.{ap, ◌∙◌}
 use Rattle.ase.specs.Reading.{ase}
-use Rattle.ase_judge.specs.Answer.{told}
 use Rattle.listing.specs.Buffer.{put_all}
 use Rattle.listing.proofs.Wording.{taken-beyond, taken-within}
 use Rattle.listing.proofs.Putting.{put_both, put_last}
@@ -12,13 +11,13 @@ returns-then-file-gt-TAKEN c =
     let a = c.args in
     c.put_refusal.ensures ∙ ap (put_all (a.out.now, 0)) (taken-beyond 65536 a.file.now _ c.if-file-gt-TAKEN.true)
 
-pub returns-in-Refused : goal.returns-in-Refused
-returns-in-Refused c =
-    let a = c.args in
-    c.put_refusal-in-Refused.ensures ∙ ap (put_all (a.out.now, 0)) (listed-refused a.file.now (ase a.file.now) (sym (ap told c.in-Refused.is) ∙ c.judge.ensures) ∙ taken-within 65536 a.file.now _ c.if-file-gt-TAKEN.false)
-
-pub returns-in-Accepted : goal.returns-in-Accepted
-returns-in-Accepted c =
+pub returns-in-Ok : goal.returns-in-Ok
+returns-in-Ok c =
     let a = c.args in
     put_both _ _ _ (put_both _ _ _ (put_last _ _ _ (put_both _ _ _ c.put_text-at.ensures c.put_word-at.ensures) c.put-at.ensures) c.put_blocks-at.ensures) c.put_text.ensures
-    ∙ ap (put_all (a.out.now, 0)) (listed-accepted a.file.now (sym (ap told c.in-Accepted.is) ∙ c.judge.ensures) ∙ taken-within 65536 a.file.now _ c.if-file-gt-TAKEN.false)
+    ∙ ap (put_all (a.out.now, 0)) (listed-accepted a.file.now c.in-Ok.ensures ∙ taken-within 65536 a.file.now _ c.if-file-gt-TAKEN.false)
+
+pub returns-in-Err : goal.returns-in-Err
+returns-in-Err c =
+    let a = c.args in
+    c.put_refusal-in-Err.ensures ∙ ap (put_all (a.out.now, 0)) (listed-refused a.file.now (ase a.file.now) c.in-Err.ensures ∙ taken-within 65536 a.file.now _ c.if-file-gt-TAKEN.false)
