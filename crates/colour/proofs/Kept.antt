@@ -8,14 +8,15 @@ use lib.Ieee.{Float, nan, inf, fin, binary32, of_bits, to_bits, is_nan, eq, ne}
 use lib.Ieee.Compare.{differs_from_itself}
 use lib.Ieee.Bits.{nan_bits_is, to_bits-of_bits}
 use lib.Ieee.Scale.{finite}
+use Rattle.std.specs.Prelude.{Result, Ok, Err}
 use Rattle.algebra.specs.Reader.{pick}
 use Rattle.algebra.proofs.Floats.{no_nan}
+use Rattle.fault.specs.declared.Fault.{Fault}
+use Rattle.fault.specs.declared.Fault.TheVariants.{OutOfRange}
 use Rattle.colour.specs.Channels.{in_unit, allows, channel, of_all, allows_all, colour_of, made, bits_of, used, model_in}
 use Rattle.colour.specs.declared.model.Model.{Model}
 use Rattle.colour.specs.declared.model.Model.TheVariants as model
 use Rattle.colour.specs.declared.channel.Channels.{Channels}
-use Rattle.colour.specs.declared.channel.Made.{Made}
-use Rattle.colour.specs.declared.channel.Made.TheVariants.{Is, Refused}
 use Rattle.colour.proofs.Unit.{unit-finite}
 
 -- ---- `x == x`
@@ -42,8 +43,8 @@ Finites model.Cmyk a b c d = (finite (channel a) ≡ true) × (finite (channel b
 Finites model.Lab a b c d = (finite (channel a) ≡ true) × (finite (channel b) ≡ true) × (finite (channel c) ≡ true)
 Finites model.Gray a b c d = finite (channel a) ≡ true
 
-pub made-not : (m : Model) (a b c d : ℕ) → allows_all m a b c d ≡ false → Refused 5 ≡ made m a b c d
-made-not m a b c d h = sym (λ i. pick (h i) (Is (colour_of m a b c d)) (Refused 5))
+pub made-not : (m : Model) (a b c d : ℕ) → allows_all m a b c d ≡ false → Err OutOfRange ≡ made m a b c d
+made-not m a b c d h = sym (λ i. pick (h i) (Ok (colour_of m a b c d)) (Err OutOfRange))
 
 -- the model m, by its case n
 module _ (m n : Model) (a b c d : ℕ) (e : m ≡ n) where
@@ -62,8 +63,8 @@ module _ (m n : Model) (a b c d : ℕ) (e : m ≡ n) where
       go model.Lab t = three _ _ _ t
       go model.Gray t = unit-finite _ t
 
-  pub made-is : allows_all m a b c d ≡ true → Is (colour_of n a b c d) ≡ made m a b c d
-  made-is h = sym (λ i. pick (h i) (Is (colour_of (e i) a b c d)) (Refused 5))
+  pub made-is : allows_all m a b c d ≡ true → Ok (colour_of n a b c d) ≡ made m a b c d
+  made-is h = sym (λ i. pick (h i) (Ok (colour_of (e i) a b c d)) (Err OutOfRange))
 
 -- ---- four numbers in a row
 pub same-four : {a b c d a' b' c' d' : ℕ} → a ≡ a' → b ≡ b' → c ≡ c' → d ≡ d' → ◌≡◌ {A = List ℕ} (a ∷ b ∷ c ∷ d ∷ []) (a' ∷ b' ∷ c' ∷ d' ∷ [])
@@ -71,24 +72,24 @@ same-four p q r s = λ i. p i ∷ q i ∷ r i ∷ s i ∷ []
 
 -- ---- bits of which a colour was made are its bits
 
-inside : Made → Channels → Channels
-inside (Is x) y = x
-inside (Refused n) y = y
+inside : Result Channels Fault → Channels → Channels
+inside (Ok x) y = x
+inside (Err f) y = y
 
-is_made_model : Made → Bool
-is_made_model (Is x) = true
-is_made_model (Refused n) = false
+is_made_model : Result Channels Fault → Bool
+is_made_model (Ok x) = true
+is_made_model (Err f) = false
 
 -- a colour that was made passed the test t, and is y
-made-inv : (t : Bool) (y x : Channels) → pick t (Is y) (Refused 5) ≡ Is x → (t ≡ true) × (x ≡ y)
+made-inv : (t : Bool) (y x : Channels) → pick t (Ok y) (Err OutOfRange) ≡ Ok x → (t ≡ true) × (x ≡ y)
 unfolding inside is_made_model
-made-inv true y x e = (refl, ap (λ (w : Made). inside w x) (sym e))
+made-inv true y x e = (refl, ap (λ (w : Result Channels Fault). inside w x) (sym e))
 made-inv false y x e = absurd (true≢false (ap is_made_model (sym e)))
 
 pub finite-kept : (b : ℕ) → b < 2 ^ 32 → finite (of_bits binary32 b) ≡ true → to_bits binary32 (of_bits binary32 b) ≡ b
 finite-kept b h e = to_bits-of_bits binary32 b h (subst (λ (t : Bool). T (not t)) (nan_bits_is binary32 b) (no_nan binary32 b e))
 
-pub bits-kept : (m : Model) (a b c d : ℕ) → a < 2 ^ 32 → b < 2 ^ 32 → c < 2 ^ 32 → d < 2 ^ 32 → (x : Channels) → made m a b c d ≡ Is x → (model_in x ≡ m) × (bits_of x ≡ used m a b c d)
+pub bits-kept : (m : Model) (a b c d : ℕ) → a < 2 ^ 32 → b < 2 ^ 32 → c < 2 ^ 32 → d < 2 ^ 32 → (x : Channels) → made m a b c d ≡ Ok x → (model_in x ≡ m) × (bits_of x ≡ used m a b c d)
 bits-kept m a b c d ha hb hc hd x e =
     let i = made-inv (allows_all m a b c d) (colour_of m a b c d) x e in
     let k = go m (all-finite m m a b c d refl i.0) in

@@ -9,24 +9,23 @@ use lib.Dec.{eqb}
 use lib.Ieee.{binary32, of_bits}
 use lib.Ieee.Scale.{finite}
 use borrow.Author.Tests.{lt-ltb, le-leb, ltb-true, leb-true, eqb-true}
+use Rattle.std.specs.Prelude.{Option, Some, None}
 use Rattle.algebra.specs.Chars.{chars}
 use Rattle.algebra.specs.Reader.{pick}
 use Rattle.algebra.proofs.Floats.{finite-bits}
 use Rattle.colour.specs.declared.model.Model.{Model}
 use Rattle.colour.specs.declared.model.Model.TheVariants.{Rgb, Cmyk, Lab, Gray}
-use Rattle.colour.specs.declared.model.KnownModel.{KnownModel}
-use Rattle.colour.specs.declared.model.KnownModel.TheVariants.{Is, Unknown}
 use Rattle.colour.specs.Models.{traits_of, model_of, is_known_model, is_model, channels_of}
 use Rattle.colour.specs.Channels.{in_unit, allows, allows_in, allows_bits}
 use Rattle.colour.proofs.Unit.{unit-minus, unit-finite, unit-leb}
 
 -- ---- the model with a tag
 
-pub data Tagged (t : ℕ) : KnownModel → Type 0 where
-  of : (m : Model) → t ≡ (traits_of m).tag → Tagged t (Is m)
-  none : Tagged t Unknown
+pub data Tagged (t : ℕ) : Option Model → Type 0 where
+  of : (m : Model) → t ≡ (traits_of m).tag → Tagged t (Some m)
+  none : Tagged t None
 
-tag-by : (t : ℕ) (m : Model) (b : Bool) → eqb t (traits_of m).tag ≡ b → (rest : KnownModel) → Tagged t rest → Tagged t (pick b (Is m) rest)
+tag-by : (t : ℕ) (m : Model) (b : Bool) → eqb t (traits_of m).tag ≡ b → (rest : Option Model) → Tagged t rest → Tagged t (pick b (Some m) rest)
 tag-by t m true e rest more = of m (eqb-true t (traits_of m).tag e)
 tag-by t m false e rest more = more
 
@@ -37,10 +36,10 @@ model-tagged t =
     (tag-by t Lab (eqb t (traits_of Lab).tag) refl _ (tag-by t Gray (eqb t (traits_of Gray).tag) refl _ none)))
 
 -- the tag of a model that was found by it
-pub tag-known : (t : ℕ) (m : Model) → model_of t ≡ Is m → (traits_of m).tag ≡ t
+pub tag-known : (t : ℕ) (m : Model) → model_of t ≡ Some m → (traits_of m).tag ≡ t
 tag-known t m e = go (subst (Tagged t) e (model-tagged t))
   where
-    go : Tagged t (Is m) → (traits_of m).tag ≡ t
+    go : Tagged t (Some m) → (traits_of m).tag ≡ t
     go (of n g) = sym g
 
 pub tag-allows : (m : Model) (b : ℕ) → allows_bits (traits_of m).tag b ≡ allows m (of_bits binary32 b)
@@ -57,11 +56,11 @@ tag-channels Cmyk = refl
 tag-channels Lab = refl
 tag-channels Gray = refl
 
-pub model-bad : (t : ℕ) → model_of t ≡ Unknown → is_model t ≡ false
+pub model-bad : (t : ℕ) → model_of t ≡ None → is_model t ≡ false
 unfolding is_model
 model-bad t e = rw e
 
-pub model-good : (t : ℕ) (m : Model) → model_of t ≡ Is m → is_model t ≡ true
+pub model-good : (t : ℕ) (m : Model) → model_of t ≡ Some m → is_model t ≡ true
 unfolding is_model
 model-good t m e = rw e
 
@@ -84,9 +83,9 @@ every Cmyk b e = e
 every Lab b e = unit-finite (of_bits binary32 b) e
 every Gray b e = e
 
-known-allows : (k : KnownModel) (b : ℕ) → is_known_model k ≡ true → in_unit (of_bits binary32 b) ≡ true → allows_in k b ≡ true
-known-allows (Is m) b h e = every m b e
-known-allows Unknown b h e = absurd (true≢false (sym h))
+known-allows : (k : Option Model) (b : ℕ) → is_known_model k ≡ true → in_unit (of_bits binary32 b) ≡ true → allows_in k b ≡ true
+known-allows (Some m) b h e = every m b e
+known-allows None b h e = absurd (true≢false (sym h))
 
 module _ (t : ℕ) where
   pub allows-unit : (b : ℕ) → is_model t ≡ true → b ≤ 0x3f80_0000 → allows_bits t b ≡ true
@@ -116,9 +115,9 @@ allows-inv t b h e = go (model_of t) (model-tagged t) e
     unit : in_unit (of_bits binary32 b) ≡ true → ByBits t b
     unit x = elim (unit-by b h x) [ inl y ↦ inl y | inr y ↦ inr (inl y) ]
 
-    go : (k : KnownModel) → Tagged t k → allows_in k b ≡ true → ByBits t b
-    go (Is Rgb) (of Rgb g) x = unit x
-    go (Is Cmyk) (of Cmyk g) x = unit x
-    go (Is Lab) (of Lab g) x = inr (inr (g, lab-finite b x))
-    go (Is Gray) (of Gray g) x = unit x
-    go Unknown none x = absurd (true≢false (sym x))
+    go : (k : Option Model) → Tagged t k → allows_in k b ≡ true → ByBits t b
+    go (Some Rgb) (of Rgb g) x = unit x
+    go (Some Cmyk) (of Cmyk g) x = unit x
+    go (Some Lab) (of Lab g) x = inr (inr (g, lab-finite b x))
+    go (Some Gray) (of Gray g) x = unit x
+    go None none x = absurd (true≢false (sym x))

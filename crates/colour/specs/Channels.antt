@@ -1,18 +1,16 @@
 -- Channels: which floats a model allows, and a colour by its channels' bits.
-use Rattle.std.specs.Prelude.{ℕ, Bool, true, false, ◌&&◌, List, [], ◌∷◌, pos, Float}
+use Rattle.std.specs.Prelude.{ℕ, Bool, true, false, ◌&&◌, List, [], ◌∷◌, pos, Float, Option, Some, None, Result, Ok, Err}
 use Rattle.std.specs.Float.{fin, binary32}
 use Rattle.std.specs.Float.Ieee.{le, of_bits, to_bits}
 use Rattle.std.specs.Float.Ieee.Scale.{finite}
 use Rattle.algebra.specs.Reader.{pick}
+use Rattle.fault.specs.declared.Fault.{Fault}
+use Rattle.fault.specs.declared.Fault.TheVariants as fault
 use Rattle.colour.specs.Models.{model_of}
-use Rattle.colour.specs.declared.model.KnownModel.{KnownModel}
-use Rattle.colour.specs.declared.model.KnownModel.TheVariants.{Is, Unknown}
 use Rattle.colour.specs.declared.model.Model.{Model}
 use Rattle.colour.specs.declared.model.Model.TheVariants as model
 use Rattle.colour.specs.declared.channel.Channels.{Channels}
 use Rattle.colour.specs.declared.channel.Channels.TheVariants.{Rgb, Cmyk, Lab, Gray}
-use Rattle.colour.specs.declared.channel.Made.{Made}
-use Rattle.colour.specs.declared.channel.Made.TheVariants as vm
 
 -- ---- which channels a model allows
 
@@ -38,9 +36,9 @@ wide model.Gray = false
 abbrev pub allows : Model → Float → Bool
 allows m x = pick (wide m) (finite x) (in_unit x)
 
-abbrev pub allows_in : KnownModel → ℕ → Bool
-allows_in (Is m) b = allows m (of_bits binary32 b)
-allows_in Unknown b = false
+abbrev pub allows_in : Option Model → ℕ → Bool
+allows_in (Some m) b = allows m (of_bits binary32 b)
+allows_in None b = false
 
 -- the model with a tag allows a channel with these bits
 unfoldable pub allows_bits : ℕ → ℕ → Bool
@@ -69,14 +67,14 @@ colour_of model.Cmyk a b c d = Cmyk (channel a) (channel b) (channel c) (channel
 colour_of model.Lab a b c d = Lab (channel a) (channel b) (channel c)
 colour_of model.Gray a b c d = Gray (channel a)
 
--- the same where the model allows them; 5 where it does not
-abbrev pub made : Model → ℕ → ℕ → ℕ → ℕ → Made
-made m a b c d = pick (allows_all m a b c d) (vm.Is (colour_of m a b c d)) (vm.Refused 5)
+-- the same where the model allows them
+abbrev pub made : Model → ℕ → ℕ → ℕ → ℕ → Result Channels Fault
+made m a b c d = pick (allows_all m a b c d) (Ok (colour_of m a b c d)) (Err fault.OutOfRange)
 
--- the same of the model that a tag has; 4 where there is none
-abbrev pub made_in : KnownModel → ℕ → ℕ → ℕ → ℕ → Made
-made_in (Is m) a b c d = made m a b c d
-made_in Unknown a b c d = vm.Refused 4
+-- the same of the model that a tag has
+abbrev pub made_in : Option Model → ℕ → ℕ → ℕ → ℕ → Result Channels Fault
+made_in (Some m) a b c d = made m a b c d
+made_in None a b c d = Err fault.Unknown
 
 -- the bits of a colour's channels, and 0 for those that its model does not use
 abbrev pub bits_of : Channels → List ℕ

@@ -1,12 +1,10 @@
 -- The colour models of ASE files.
-use Rattle.std.specs.Prelude.{ℕ, Bool, true, false, eqb}
+use Rattle.std.specs.Prelude.{ℕ, Bool, true, false, eqb, Option, Some, None}
 use Rattle.algebra.specs.Chars.{chars}
 use Rattle.algebra.specs.Reader.{pick}
 use Rattle.colour.specs.declared.model.Traits.{Traits}
 use Rattle.colour.specs.declared.model.Model.{Model}
 use Rattle.colour.specs.declared.model.Model.TheVariants.{Rgb, Cmyk, Lab, Gray}
-use Rattle.colour.specs.declared.model.KnownModel.{KnownModel}
-use Rattle.colour.specs.declared.model.KnownModel.TheVariants.{Is, Unknown}
 
 -- each model has its tag, its channel count and its full scale: `RGB `, `CMYK`, `LAB `, `Gray`. the full scale of Lab is that of its lightness (A8)
 abbrev pub traits_of : Model → Traits
@@ -16,20 +14,20 @@ traits_of Lab = record { tag = chars "LAB "; channels = 3; full = 10000 }
 traits_of Gray = record { tag = chars "Gray"; channels = 1; full = 10000 }
 
 -- the model with a tag
-unfoldable pub model_of : ℕ → KnownModel
+unfoldable pub model_of : ℕ → Option Model
 model_of t =
-    pick (eqb t (traits_of Rgb).tag) (Is Rgb)
-    (pick (eqb t (traits_of Cmyk).tag) (Is Cmyk)
-    (pick (eqb t (traits_of Lab).tag) (Is Lab)
-    (pick (eqb t (traits_of Gray).tag) (Is Gray) Unknown)))
+    pick (eqb t (traits_of Rgb).tag) (Some Rgb)
+    (pick (eqb t (traits_of Cmyk).tag) (Some Cmyk)
+    (pick (eqb t (traits_of Lab).tag) (Some Lab)
+    (pick (eqb t (traits_of Gray).tag) (Some Gray) None)))
 
-abbrev pub is_known_model : KnownModel → Bool
-is_known_model (Is m) = true
-is_known_model Unknown = false
+abbrev pub is_known_model : Option Model → Bool
+is_known_model (Some m) = true
+is_known_model None = false
 
-abbrev pub count_in : KnownModel → ℕ
-count_in (Is m) = (traits_of m).channels
-count_in Unknown = 0
+abbrev pub count_in : Option Model → ℕ
+count_in (Some m) = (traits_of m).channels
+count_in None = 0
 
 -- some model has the tag
 unfoldable pub is_model : ℕ → Bool

@@ -7,7 +7,8 @@ ghost use Rattle.algebra.specs.Reader.{pick};
 ghost use Rattle.colour.specs.Models.{model_of};
 ghost use Rattle.colour.specs.Channels.{in_unit, made, made_in, bits_of, model_in};
 
-use crate::model::{KnownModel, Model};
+use crate::model::Model;
+use fault::Fault;
 
 // The bits of one, of minus zero, of infinity, and of the NaN that is written for any.
 const ONE: u32 = 0x3f80_0000;
@@ -18,20 +19,13 @@ const INFINITY: u32 = 0x7f80_0000;
 
 const NAN: u32 = 0x7fc0_0000;
 
-// A colour of a model, with its channels.
+/// A colour of a model, with its channels.
 #[derive(Clone, Copy)]
 pub enum Channels {
     Rgb(f32, f32, f32),
     Cmyk(f32, f32, f32, f32),
     Lab(f32, f32, f32),
     Gray(f32),
-}
-
-// A colour, or the number of a refusal.
-#[derive(Clone, Copy)]
-pub enum Made {
-    Is(Channels),
-    Refused(u32),
 }
 
 pub(crate) fn is_finite(bits: u32) -> bool
@@ -50,8 +44,8 @@ pub(crate) fn is_unit(bits: u32) -> bool
     bits <= ONE
 }
 
-// Whether a channel may have these bits: any finite float where it is wide, else one from 0 to 1.
-// A loop asks it, and looks at the model once.
+/// Whether a channel may have these bits: any finite float where it is wide, else one from 0 to 1.
+/// A loop asks it, and looks at the model once.
 pub fn is_channel(wide: bool, bits: u32) -> bool
     ensures { result ≡ pick wide (finite (of_bits binary32 bits)) (in_unit (of_bits binary32 bits)) }
 {
@@ -61,7 +55,7 @@ pub fn is_channel(wide: bool, bits: u32) -> bool
     is_unit(bits)
 }
 
-// The bits of a float.
+/// The bits of a float.
 pub fn bits_of(x: f32) -> u32
     ensures { result ≡ to_bits binary32 x }
 {
@@ -72,45 +66,45 @@ pub fn bits_of(x: f32) -> u32
 }
 
 impl Channels {
-    // The colour whose channels have these bits. Those that the model does not use are left alone.
-    pub fn from_bits(model: Model, a: u32, b: u32, c: u32, d: u32) -> Made
+    /// The colour whose channels have these bits. Those that the model does not use are left alone.
+    pub fn from_bits(model: Model, a: u32, b: u32, c: u32, d: u32) -> Result<Channels, Fault>
         ensures { result ≡ made model a b c d }
     {
         if !model.allows_all(a, b, c, d) {
-            return Made::Refused(5);
+            return Err(Fault::OutOfRange);
         }
         match model {
-            Model::Rgb => Made::Is(Channels::Rgb(
+            Model::Rgb => Ok(Channels::Rgb(
                 f32::from_bits(a),
                 f32::from_bits(b),
                 f32::from_bits(c),
             )),
-            Model::Cmyk => Made::Is(Channels::Cmyk(
+            Model::Cmyk => Ok(Channels::Cmyk(
                 f32::from_bits(a),
                 f32::from_bits(b),
                 f32::from_bits(c),
                 f32::from_bits(d),
             )),
-            Model::Lab => Made::Is(Channels::Lab(
+            Model::Lab => Ok(Channels::Lab(
                 f32::from_bits(a),
                 f32::from_bits(b),
                 f32::from_bits(c),
             )),
-            Model::Gray => Made::Is(Channels::Gray(f32::from_bits(a))),
+            Model::Gray => Ok(Channels::Gray(f32::from_bits(a))),
         }
     }
 
-    // The same by the model's tag.
-    pub fn from_tag(tag: u32, a: u32, b: u32, c: u32, d: u32) -> Made
+    /// The same by the model's tag.
+    pub fn from_tag(tag: u32, a: u32, b: u32, c: u32, d: u32) -> Result<Channels, Fault>
         ensures { result ≡ made_in (model_of tag) a b c d }
     {
         match Model::from_tag(tag) {
-            KnownModel::Is(model) => Self::from_bits(model, a, b, c, d),
-            KnownModel::Unknown => Made::Refused(4),
+            Some(model) => Self::from_bits(model, a, b, c, d),
+            None => Err(Fault::Unknown),
         }
     }
 
-    // The bits of the channels, and 0 for those that the model does not use.
+    /// The bits of the channels, and 0 for those that the model does not use.
     pub fn bits(self) -> [u32; 4]
         ensures { result ≡ bits_of self }
     {
@@ -122,6 +116,7 @@ impl Channels {
         }
     }
 
+    /// Its model.
     pub fn model(self) -> Model
         ensures { result ≡ model_in self }
     {

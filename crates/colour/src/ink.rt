@@ -1,8 +1,9 @@
-// Inks: to which station of the press a colour goes, each with its number.
+// Inks, each with its number.
 ghost use Rattle.std.specs.Prelude.{◌≡◌};
 ghost use Rattle.colour.specs.Inks.{ink_number, ink_of};
 
-#[derive(Clone, Copy)]
+/// To which station of the press a colour goes.
+#[derive(Clone, Copy, Debug, PartialEq, Eq)]
 pub enum Ink {
     Global,
     Spot,
@@ -11,27 +12,22 @@ pub enum Ink {
     NotStated,
 }
 
-#[derive(Clone, Copy)]
-pub enum KnownInk {
-    Is(Ink),
-    Unknown,
-}
-
 impl Ink {
-    // The ink with a number.
-    pub fn from(number: u32) -> KnownInk
+    /// The ink with a number.
+    pub fn from(number: u32) -> Option<Ink>
         ensures { result ≡ ink_of number }
     {
         match number {
-            0 => KnownInk::Is(Ink::Global),
-            1 => KnownInk::Is(Ink::Spot),
-            2 => KnownInk::Is(Ink::Normal),
-            3 => KnownInk::Is(Ink::Process),
-            4 => KnownInk::Is(Ink::NotStated),
-            _ => KnownInk::Unknown,
+            0 => Some(Ink::Global),
+            1 => Some(Ink::Spot),
+            2 => Some(Ink::Normal),
+            3 => Some(Ink::Process),
+            4 => Some(Ink::NotStated),
+            _ => None,
         }
     }
 
+    /// Its number.
     pub fn number(self) -> u32
         ensures { result ≡ ink_number self }
     {

@@ -7,9 +7,9 @@ mod ink;
 mod model;
 mod space;
 
-pub use channel::{Channels, Made, bits_of, is_channel};
-pub use ink::{Ink, KnownInk};
-pub use model::{KnownModel, Model, Traits};
+pub use channel::{Channels, bits_of, is_channel};
+pub use ink::Ink;
+pub use model::{Model, Traits};
 pub use space::{
     CMYK, Colour, GRAY, HSB, LAB, RGB, full_sample, is_allowed, is_known, is_sound, samples_used,
 };

@@ -7,27 +7,22 @@ ghost use Rattle.colour.specs.Channels.{wide, allows, allows_all};
 
 use crate::channel::is_channel;
 
-// What a model has: its four characters as a number, its channels, and its largest sample (in Lab
-// that of the lightness), which is the channel 1 where samples are converted.
-#[derive(Clone, Copy)]
+/// What a model has: its four characters as a number, its channels, and its largest sample (in Lab
+/// that of the lightness), which is the channel 1 where samples are converted.
+#[derive(Clone, Copy, Debug, PartialEq, Eq)]
 pub struct Traits {
     pub tag: u32,
     pub channels: u16,
     pub full: u16,
 }
 
-#[derive(Clone, Copy)]
+/// A colour model of ASE files.
+#[derive(Clone, Copy, Debug, PartialEq, Eq)]
 pub enum Model {
     Rgb,
     Cmyk,
     Lab,
     Gray,
-}
-
-#[derive(Clone, Copy)]
-pub enum KnownModel {
-    Is(Model),
-    Unknown,
 }
 
 impl Model {
@@ -55,24 +50,26 @@ impl Model {
         full: 10000,
     };
 
-    pub fn from_tag(tag: u32) -> KnownModel
+    /// The model with a tag.
+    pub fn from_tag(tag: u32) -> Option<Model>
         ensures { result ≡ model_of tag }
     {
         if tag == Self::RGB.tag {
-            return KnownModel::Is(Model::Rgb);
+            return Some(Model::Rgb);
         }
         if tag == Self::CMYK.tag {
-            return KnownModel::Is(Model::Cmyk);
+            return Some(Model::Cmyk);
         }
         if tag == Self::LAB.tag {
-            return KnownModel::Is(Model::Lab);
+            return Some(Model::Lab);
         }
         if tag == Self::GRAY.tag {
-            return KnownModel::Is(Model::Gray);
+            return Some(Model::Gray);
         }
-        KnownModel::Unknown
+        None
     }
 
+    /// What it has.
     pub fn traits(self) -> Traits
         ensures { result ≡ traits_of self }
     {
@@ -84,7 +81,7 @@ impl Model {
         }
     }
 
-    // Whether a channel may be any finite float, and not only one from 0 to 1.
+    /// Whether a channel may be any finite float, and not only one from 0 to 1.
     pub fn is_wide(self) -> bool
         ensures { result ≡ wide self }
     {
@@ -96,14 +93,14 @@ impl Model {
         }
     }
 
-    // Whether a channel may have these bits: finite, and from 0 to 1 save in Lab.
+    /// Whether a channel may have these bits: finite, and from 0 to 1 save in Lab.
     pub fn allows(self, bits: u32) -> bool
         ensures { result ≡ allows self (of_bits binary32 bits) }
     {
         is_channel(self.is_wide(), bits)
     }
 
-    // Whether the channels may have these bits, as many of them as the model has.
+    /// Whether the channels may have these bits, as many of them as the model has.
     pub fn allows_all(self, a: u32, b: u32, c: u32, d: u32) -> bool
         ensures { result ≡ allows_all self a b c d }
     {

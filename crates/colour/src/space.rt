@@ -19,14 +19,14 @@ const CHROMINANCE_MOST: u16 = 12700;
 
 const CHROMINANCE_LEAST: u16 = 52736;
 
-// A colour: the number of its space, and its four samples.
-#[derive(Clone, Copy)]
+/// A colour: the number of its space, and its four samples.
+#[derive(Clone, Copy, Debug, PartialEq, Eq)]
 pub struct Colour {
     pub space: u16,
     pub samples: [u16; 4],
 }
 
-// How many samples a space uses; 0 for an unknown space.
+/// How many samples a space uses; 0 for an unknown space.
 pub fn samples_used(space: u16) -> u16
     ensures { result ≡ uses space }
 {
@@ -40,7 +40,7 @@ pub fn samples_used(space: u16) -> u16
     }
 }
 
-// The largest sample of a space, in Lab of its lightness; 0 for an unknown space.
+/// The largest sample of a space, in Lab of its lightness; 0 for an unknown space.
 pub fn full_sample(space: u16) -> u16
     ensures { result ≡ full space }
 {
@@ -54,6 +54,7 @@ pub fn full_sample(space: u16) -> u16
     }
 }
 
+/// Whether it is the number of a space.
 pub fn is_known(space: u16) -> bool
     ensures { result ≡ known space }
 {
@@ -80,7 +81,7 @@ fn is_ranged(space: u16, position: u16, sample: u16) -> bool
     is_chrominance(sample)
 }
 
-// Whether the sample at a position may have this value.
+/// Whether the sample at a position may have this value.
 pub fn is_allowed(space: u16, position: u16, sample: u16) -> bool
     ensures { result ≡ allowed space position sample }
 {
@@ -90,8 +91,8 @@ pub fn is_allowed(space: u16, position: u16, sample: u16) -> bool
     is_ranged(space, position, sample)
 }
 
-// Whether a colour has no fault. RGB, HSB and CMYK are told by one comparison: a jump by the space
-// would be harder to foresee.
+/// Whether a colour has no fault. RGB, HSB and CMYK are told by one comparison: a jump by the space
+/// would be harder to foresee.
 pub fn is_sound(space: u16, a: u16, b: u16, c: u16, d: u16) -> bool
     ensures { result ≡ sound space (a ∷ b ∷ c ∷ d ∷ []) }
 {

@@ -1,5 +1,5 @@
 -- Samples and channels: one sample of a space to a channel, one channel of a model to a sample, and a whole colour to its channels.
-use Rattle.std.specs.Prelude.{ℕ, ◌-◌, Bool, eqb, get_or, Float}
+use Rattle.std.specs.Prelude.{ℕ, ◌-◌, Bool, eqb, get_or, Float, Option, Some, None}
 use Rattle.std.specs.Float.{binary32}
 use Rattle.std.specs.Float.Ieee.{of_bits, to_bits}
 use Rattle.algebra.specs.Reader.{pick}
@@ -12,8 +12,6 @@ use Rattle.colour.specs.declared.model.Model.TheVariants.{Rgb, Cmyk, Lab, Gray}
 use Rattle.colour.specs.declared.space.Colour.{Colour}
 use Rattle.colour.specs.declared.channel.Channels.{Channels}
 use Rattle.colour.specs.declared.channel.Channels.TheVariants as channels
-use Rattle.colour.specs.declared.model.KnownModel.{KnownModel}
-use Rattle.colour.specs.declared.model.KnownModel.TheVariants.{Is, Unknown}
 
 -- what a conversion gives, or a refusal: its number and its place
 pub data Converted (A : Type 0) : Type 0 where
@@ -51,9 +49,9 @@ abbrev pub sample_in : Model → Float → Converted ℕ
 sample_in m x = sample_by (allows m x) m x
 
 -- before all that, 4 where no model has the tag
-abbrev pub sample_found : KnownModel → Float → Converted ℕ
-sample_found (Is m) x = sample_in m x
-sample_found Unknown x = refused 4 0
+abbrev pub sample_found : Option Model → Float → Converted ℕ
+sample_found (Some m) x = sample_in m x
+sample_found None x = refused 4 0
 
 -- a channel by its bits, of the model with a tag
 abbrev pub to_sample : ℕ → ℕ → Converted ℕ

@@ -3,43 +3,32 @@
 
 mod scale;
 
-ghost use Rattle.std.specs.Prelude.{◌≡◌};
+ghost use Rattle.std.specs.Prelude.{◌≡◌, Ok, Err};
 ghost use Rattle.std.specs.Float.{binary32};
 ghost use Rattle.std.specs.Float.Ieee.{of_bits};
+ghost use Rattle.std.specs.Float.Ieee.Scale.{finite};
+ghost use Rattle.algebra.specs.Reader.{pick};
+ghost use Rattle.fault.specs.Fault.{number_of};
+ghost use Rattle.fault.specs.declared.Fault.TheVariants.{OutOfRange};
 ghost use Rattle.colour.specs.Spaces.{rgb, cmyk, gray, known};
+ghost use Rattle.colour.specs.Channels.{in_unit};
 ghost use Rattle.colour.specs.declared.channel.Channels.TheVariants.{Gray as gray-channel};
 ghost use Rattle.colour.specs.declared.model.Model.TheVariants.{Rgb, Cmyk, Lab, Gray};
 ghost use Rattle.conversion.specs.Convert.{gives, and_then, unmatched, to_channel, to_sample, sample_in, to_channels};
-ghost use Rattle.convert.specs.Answer.{told_channel, told_sample, told_channels};
+ghost use Rattle.convert.specs.Answer.{told};
 
-use colour::{CMYK, Channels, Colour, GRAY, Made, Model, RGB, is_allowed, is_channel, is_known};
+use colour::{CMYK, Channels, Colour, GRAY, Model, RGB, is_allowed, is_channel, is_known};
+use fault::Fault;
 pub use scale::{gray_sample, quotient, rgb_sample};
 
-// The refusal of a channel that its model does not allow.
-const OUTSIDE: u32 = 5;
-
-// A channel, or the number of a refusal.
-#[derive(Drop)]
-pub enum Channel {
-    Is(f32),
-    Refused(u32),
-}
-
-// A sample, or the number of a refusal.
-#[derive(Drop)]
-pub enum Sample {
-    Is(u16),
-    Refused(u32),
-}
-
-// The refusal of a space without a model.
-fn unmatched(space: u16) -> u32
-    ensures { result ≡ unmatched (known space) }
+// Why a space without a model is refused.
+fn unmatched(space: u16) -> Fault
+    ensures { number_of result ≡ unmatched (known space) }
 {
     if is_known(space) {
-        return 14;
+        return Fault::NoCounterpart;
     }
-    4
+    Fault::Unknown
 }
 
 fn rgb_channel(sample: u16) -> f32
@@ -55,63 +44,66 @@ fn cmyk_channel(sample: u16) -> f32
     quotient(Model::CMYK.full, Model::CMYK.full - sample)
 }
 
-// The channel of a sample. Of these spaces only gray's scale ends before 16 bits do.
-pub fn to_channel(space: u16, sample: u16) -> Channel
-    ensures { told_channel result ≡ to_channel space sample }
+/// The channel of a sample. Of these spaces only gray's scale ends before 16 bits do.
+pub fn to_channel(space: u16, sample: u16) -> Result<f32, Fault>
+    ensures { told result ≡ to_channel space sample }
 {
     match space {
-        RGB => Channel::Is(rgb_channel(sample)),
-        CMYK => Channel::Is(cmyk_channel(sample)),
+        RGB => Ok(rgb_channel(sample)),
+        CMYK => Ok(cmyk_channel(sample)),
         GRAY => {
             if !is_allowed(space, 0, sample) {
-                return Channel::Refused(5);
+                return Err(Fault::OutOfRange);
             }
-            Channel::Is(quotient(Model::GRAY.full, sample))
+            Ok(quotient(Model::GRAY.full, sample))
         }
-        _ => Channel::Refused(unmatched(space)),
+        _ => Err(unmatched(space)),
     }
 }
 
-fn rgb_in(bits: u32) -> Sample
-    ensures { told_sample result ≡ sample_in Rgb (of_bits binary32 bits) }
+// Whether its model allows a channel.
+fn judged(wide: bool, bits: u32) -> Result<(), Fault>
+    ensures { result ≡ pick (pick wide (finite (of_bits binary32 bits)) (in_unit (of_bits binary32 bits))) (Ok tt) (Err OutOfRange) }
 {
-    if !is_channel(false, bits) {
-        return Sample::Refused(OUTSIDE);
+    if is_channel(wide, bits) {
+        return Ok(());
     }
-    Sample::Is(rgb_sample(bits))
+    Err(Fault::OutOfRange)
 }
 
-fn cmyk_in(bits: u32) -> Sample
-    ensures { told_sample result ≡ sample_in Cmyk (of_bits binary32 bits) }
+fn rgb_in(bits: u32) -> Result<u16, Fault>
+    ensures { told result ≡ sample_in Rgb (of_bits binary32 bits) }
 {
-    if !is_channel(false, bits) {
-        return Sample::Refused(OUTSIDE);
-    }
-    Sample::Is(Model::CMYK.full - rgb_sample(bits))
+    judged(false, bits)?;
+    Ok(rgb_sample(bits))
 }
 
-fn lab_in(bits: u32) -> Sample
-    ensures { told_sample result ≡ sample_in Lab (of_bits binary32 bits) }
+fn cmyk_in(bits: u32) -> Result<u16, Fault>
+    ensures { told result ≡ sample_in Cmyk (of_bits binary32 bits) }
 {
-    if !is_channel(true, bits) {
-        return Sample::Refused(OUTSIDE);
-    }
-    Sample::Refused(14)
+    judged(false, bits)?;
+    Ok(Model::CMYK.full - rgb_sample(bits))
 }
 
-fn gray_in(bits: u32) -> Sample
-    ensures { told_sample result ≡ sample_in Gray (of_bits binary32 bits) }
+fn lab_in(bits: u32) -> Result<u16, Fault>
+    ensures { told result ≡ sample_in Lab (of_bits binary32 bits) }
 {
-    if !is_channel(false, bits) {
-        return Sample::Refused(OUTSIDE);
-    }
-    Sample::Is(gray_sample(bits))
+    judged(true, bits)?;
+    Err(Fault::NoCounterpart)
 }
 
-// The sample of the channel with these bits, of the model with this tag, which is asked for once: a
-// model made of the tag would be asked for again.
-pub fn to_sample(tag: u32, bits: u32) -> Sample
-    ensures { told_sample result ≡ to_sample tag bits }
+fn gray_in(bits: u32) -> Result<u16, Fault>
+    ensures { told result ≡ sample_in Gray (of_bits binary32 bits) }
+{
+    judged(false, bits)?;
+    Ok(gray_sample(bits))
+}
+
+/// The sample of the channel with these bits, of the model with this tag.
+// Kept: a test for each tag. A model made of the tag would be asked for again, which a single
+// channel's speed shows.
+pub fn to_sample(tag: u32, bits: u32) -> Result<u16, Fault>
+    ensures { told result ≡ to_sample tag bits }
 {
     if tag == Model::RGB.tag {
         return rgb_in(bits);
@@ -125,37 +117,32 @@ pub fn to_sample(tag: u32, bits: u32) -> Sample
     if tag == Model::GRAY.tag {
         return gray_in(bits);
     }
-    Sample::Refused(4)
+    Err(Fault::Unknown)
 }
 
-fn gray_of(sample: u16) -> Made
-    ensures { told_channels result ≡ and_then (to_channel gray sample) (λ x. gives (gray-channel x)) }
+fn gray_of(sample: u16) -> Result<Channels, Fault>
+    ensures { told result ≡ and_then (to_channel gray sample) (λ x. gives (gray-channel x)) }
 {
-    match to_channel(GRAY, sample) {
-        Channel::Is(x) => Made::Is(Channels::Gray(x)),
-        Channel::Refused(number) => Made::Refused(number),
-    }
+    let x = to_channel(GRAY, sample)?;
+    Ok(Channels::Gray(x))
 }
 
-// The channels of a colour in its model, or the refusal of its first sample that has none. Samples
-// that the space does not use are left alone.
-pub fn to_channels(colour: Colour) -> Made
-    ensures { told_channels result ≡ to_channels colour }
+/// The channels of a colour in its model, or the refusal of its first sample that has none. Samples
+/// that the space does not use are left alone.
+pub fn to_channels(colour: Colour) -> Result<Channels, Fault>
+    ensures { told result ≡ to_channels colour }
 {
     let space = colour.space;
-    let a = colour.samples[0];
-    let b = colour.samples[1];
-    let c = colour.samples[2];
-    let d = colour.samples[3];
+    let [a, b, c, d] = colour.samples;
     match space {
-        RGB => Made::Is(Channels::Rgb(rgb_channel(a), rgb_channel(b), rgb_channel(c))),
-        CMYK => Made::Is(Channels::Cmyk(
+        RGB => Ok(Channels::Rgb(rgb_channel(a), rgb_channel(b), rgb_channel(c))),
+        CMYK => Ok(Channels::Cmyk(
             cmyk_channel(a),
             cmyk_channel(b),
             cmyk_channel(c),
             cmyk_channel(d),
         )),
         GRAY => gray_of(a),
-        _ => Made::Refused(unmatched(space)),
+        _ => Err(unmatched(space)),
     }
 }

@@ -16,7 +16,7 @@ const RAISED: f64 = 65536.5;
 
 const PLACES: u64 = 0x10_0000_0000;
 
-// The sample as a channel.
+/// The sample as a channel.
 pub fn quotient(full: u16, sample: u16) -> f32
     ensures { result ≡ channel_of full sample }
 {
@@ -38,14 +38,15 @@ fn nearest(full: u16, bits: u32) -> u16
     ((f64::to_bits(product + RAISED) / PLACES) % 0x1_0000) as u16
 }
 
-// The sample of a channel of RGB, which was judged.
+/// The sample of a channel of RGB, which was judged.
+// Kept: a name for each of the two scales, since a public function asks nothing of its scale.
 pub fn rgb_sample(bits: u32) -> u16
     ensures { result ≡ sample_of_bits (traits_of Rgb).full bits }
 {
     nearest(Model::RGB.full, bits)
 }
 
-// The sample of a channel of gray, which was judged.
+/// The sample of a channel of gray, which was judged.
 pub fn gray_sample(bits: u32) -> u16
     ensures { result ≡ sample_of_bits (traits_of Gray).full bits }
 {

@@ -1,12 +1,13 @@
 -- Keys looked up among the pairs of the root.
-use Rattle.std.specs.Prelude.{ℕ, ◌+◌, Bool, true, false, List, [], ◌∷◌, map, leb, eqb, length}
+use Rattle.std.specs.Prelude.{ℕ, ◌+◌, Bool, true, false, List, [], ◌∷◌, Result, Ok, Err, map, leb, eqb, length}
 use Rattle.algebra.specs.Reader.{Res, ok, refuse, Reader, pick, field, body, give, ◌>>=◌, at_end, many}
 use Rattle.descriptor.specs.Reading.{Row}
 use Rattle.descriptor_columns.specs.Columns.{columns_of}
 use Rattle.descriptor_columns.specs.Filled.{onto}
 use Rattle.descriptor_check.specs.Check.{begins_all}
-use Rattle.descriptor_find.specs.declared.FindAnswer.{FindAnswer}
-use Rattle.descriptor_find.specs.declared.FindAnswer.TheVariants as vf
+use Rattle.fault.specs.Fault.{number_of}
+use Rattle.descriptor_find.specs.declared.Rejection.{Rejection}
+use Rattle.descriptor_find.specs.declared.Rejection.TheVariants as rejection
 
 -- ---- keys
 
@@ -66,10 +67,10 @@ pub data Answered : Type 0 where
   refused : ℕ → ℕ → Answered
   among_keys : ℕ → ℕ → Answered
 
-abbrev pub told : FindAnswer → Answered
-told (vf.Answered n) = answered n
-told (vf.Refused x p) = refused x p
-told (vf.InKeys x p) = among_keys x p
+abbrev pub told : Result ℕ Rejection → Answered
+told (Ok n) = answered n
+told (Err (rejection.Refused e)) = refused (number_of e.0) e.1
+told (Err (rejection.InKeys e)) = among_keys (number_of e.0) e.1
 
 -- with the answers, one for each key; 11 where the run has room for fewer; past them it keeps its contents
 abbrev pub answering : List ℕ → List Row → Res (List Key) → (answers : List ℕ) → Answered × List ℕ

@@ -8,25 +8,25 @@ ghost use Rattle.std.specs.Prelude.{◌≡◌, ◌+◌, ◌*◌, ◌≤◌, ◌<
 ghost use Rattle.algebra.specs.Numbers.{nums};
 ghost use Rattle.descriptor.specs.Reading.{descriptor};
 ghost use Rattle.descriptor_find.specs.Find.{body_size, key, keys_of, equal_bytes, has_key, row_of, told, found};
+ghost use Rattle.descriptor_find.specs.declared.Rejection.TheVariants.{Refused};
 ghost use Rattle.descriptor_find.specs.scaffold.Finding.{Lent, rows_in, counted, told_count, Keyed, answers_in, found_in};
 
-use descriptor_check::Checked;
-use fields::FieldEnd;
+use fault::{Fault, Refusal};
 
-// So many keys were answered; the file's refusal, or 5 for the table, or 11; a key's refusal, at a
-// place of the keys.
-#[derive(Drop)]
-pub enum FindAnswer {
-    Answered { keys: usize },
-    Refused { number: u32, place: usize },
-    InKeys { number: u32, place: usize },
+/// Why no key is answered: a refusal of the file, of the table or of the answers; or that of a key, at a
+/// place of the keys.
+#[derive(Clone, Copy, Debug, PartialEq, Eq)]
+pub enum Rejection {
+    Refused(Refusal),
+    InKeys(Refusal),
 }
 
-// How many keys a buffer has, or a refusal's number and place.
-#[derive(Drop)]
-enum KeyCount {
-    Keys(usize),
-    Refused(u32, usize),
+impl From<Refusal> for Rejection {
+    ghost from_gives = { λ r e. e ≡ Refused r };
+
+    fn from(refusal: Refusal) -> Rejection {
+        Rejection::Refused(refusal)
+    }
 }
 
 // ---- keys
@@ -38,27 +38,20 @@ fn body_size(length: u32) -> usize
     if length == 0 {
         return 4;
     }
-    fields::wide(length)
+    length as usize
 }
 
-fn count_keys(keys: &[u8]) -> KeyCount
+// How many keys a buffer has.
+fn count_keys(keys: &[u8]) -> Result<usize, Refusal>
     ensures { told_count result ≡ counted 0 (keys_of keys.now) }
 {
     let mut at: usize = 0;
     let mut n: usize = 0;
     while at < keys.len() {
-        match descriptor_fields::id_at(keys, at) {
-            FieldEnd::Refused(number, place) => {
-                return KeyCount::Refused(number, place);
-            }
-            FieldEnd::Next(next) => {
-                at = next;
-                n += 1;
-                continue;
-            }
-        }
+        at = descriptor_fields::id_at(keys, at)?;
+        n += 1;
     }
-    KeyCount::Keys(n)
+    Ok(n)
 }
 
 // Whether so many words of a file, eight bytes each, are those of a key's body.
@@ -66,13 +59,12 @@ fn same_words(file: &[u8], start: usize, keys: &[u8], body: usize, words: usize)
     requires { (start + 8 * words ≤ length file.now) × (body + 8 * words ≤ length keys.now) }
     ensures { result ≡ equal_bytes (nums 1 (8 * words) file.now start) (nums 1 (8 * words) keys.now body) }
 {
-    let mut i: usize = 0;
-    while i < words {
+    for i in 0..words {
         let at = 8 * i;
-        if fields::u64_or_zero(file, start + at) != fields::u64_or_zero(keys, body + at) {
+        let word = fields::number_or_zero::<u64>(file, start + at);
+        if word != fields::number_or_zero::<u64>(keys, body + at) {
             return false;
         }
-        i += 1;
     }
     true
 }
@@ -82,12 +74,10 @@ fn same_bytes(file: &[u8], start: usize, keys: &[u8], body: usize, size: usize) 
     requires { (start + size ≤ length file.now) × (body + size ≤ length keys.now) }
     ensures { result ≡ equal_bytes (nums 1 size file.now start) (nums 1 size keys.now body) }
 {
-    let mut i: usize = 0;
-    while i < size {
+    for i in 0..size {
         if file[start + i] != keys[body + i] {
             return false;
         }
-        i += 1;
     }
     true
 }
@@ -113,7 +103,7 @@ fn same_key(file: &[u8], first: usize, keys: &[u8], tag: u32, body: usize, size:
     if file.len() < first + 4 + size {
         return false;
     }
-    if fields::u32_or_zero(file, first) != tag {
+    if fields::number_or_zero::<u32>(file, first) != tag {
         return false;
     }
     same_body(file, first + 4, keys, body, size)
@@ -137,10 +127,10 @@ fn row_of(
 {
     let mut j: usize = 1;
     while j < rows {
-        if same_key(file, fields::wide(first[j]), keys, tag, body, size) {
+        if same_key(file, first[j] as usize, keys, tag, body, size) {
             return j;
         }
-        j = fields::wide(next[j]);
+        j = next[j] as usize;
     }
     rows
 }
@@ -160,7 +150,7 @@ fn answer_all(
     let mut at: usize = 0;
     let mut i: usize = 0;
     while at < keys.len() {
-        let tag = fields::u32_or_zero(keys, at);
+        let tag = fields::number_or_zero::<u32>(keys, at);
         let size = body_size(tag);
         let row = row_of(file, first, next, rows, keys, tag, at + 4, size);
         answers[i] = row as u32;
@@ -179,29 +169,26 @@ fn answer(
     rows: usize,
     keys: &[u8],
     answers: &mut [u32],
-) -> FindAnswer
+) -> Result<usize, Rejection>
     requires { Lent file.now first.now next.now rows }
     ensures { (told result, answers.new) ≡ found_in file.now (rows_in (descriptor file.now)) (keys_of keys.now) answers.old }
 {
     match count_keys(keys) {
-        KeyCount::Refused(number, place) => FindAnswer::InKeys { number, place },
-        KeyCount::Keys(count) => {
+        Err(refusal) => Err(Rejection::InKeys(refusal)),
+        Ok(count) => {
             if answers.len() < count {
-                return FindAnswer::Refused {
-                    number: 11,
-                    place: 0,
-                };
+                return Err(Rejection::Refused(Refusal(Fault::NoRoom, 0)));
             }
             answer_all(file, first, next, rows, keys, answers);
-            FindAnswer::Answered { keys: count }
+            Ok(count)
         }
     }
 }
 
-// Which row of a file has each of some keys, IDs one after another, as a pair of the root: the first,
-// or the number of rows where none has it. Refused are the file by its own, then a table that does not
-// begin with its rows by 5, then a key that is cut by 2 at a place of the keys, then too few answers by
-// 11; a refusal changes nothing. Past the answers the run keeps its contents.
+/// Which row of a file has each of some keys, IDs one after another, as a pair of the root: the first,
+/// or the number of rows where none has it. Refused are the file by its own, then a table that does not
+/// begin with its rows by 5, then a key that is cut by 2 at a place of the keys, then too few answers by
+/// 11; a refusal changes nothing. Past the answers the run keeps its contents.
 pub fn find(
     file: &[u8],
     first: &[u32],
@@ -211,15 +198,12 @@ pub fn find(
     kind: &[u32],
     keys: &[u8],
     answers: &mut [u32],
-) -> FindAnswer
+) -> Result<usize, Rejection>
     ensures { (told result, answers.new) ≡ found file.now (descriptor file.now) first.now size.now next.now depth.now kind.now keys.now answers.old }
 {
-    match descriptor_check::check(file, first, size, next, depth, kind) {
-        Checked::Refused { number, place } => FindAnswer::Refused { number, place },
-        Checked::Differs => FindAnswer::Refused {
-            number: 5,
-            place: 0,
-        },
-        Checked::Same { rows } => answer(file, first, next, rows, keys, answers),
-    }
+    let table = descriptor_check::check(file, first, size, next, depth, kind)?;
+    let Some(rows) = table else {
+        return Err(Rejection::Refused(Refusal(Fault::OutOfRange, 0)));
+    };
+    answer(file, first, next, rows, keys, answers)
 }

@@ -7,16 +7,19 @@ ghost use Rattle.std.specs.Prelude.{◌≡◌, ◌%◌, leb, length};
 ghost use Rattle.io.specs.Counts.{IsPrefixLen};
 ghost use Rattle.algebra.specs.Numbers.{joined};
 ghost use Rattle.algebra.specs.Reader.{pick};
+ghost use Rattle.fault.specs.Fault.{number_of};
 ghost use Rattle.listing.specs.Buffer.{put_byte, put_all};
 ghost use Rattle.listing.specs.Text.{decimal, word, digit, hex, name, bits, refusal};
+
+use fault::Refusal;
 
 // The numbers that every process has its standard input and output by.
 const STDIN_FILENO: i32 = 0;
 
 const STDOUT_FILENO: i32 = 1;
 
-// Puts a byte into the buffer, of which n are full, and answers how many are full then. Of a full
-// buffer all bytes are handed over first, to be written out.
+/// Puts a byte into the buffer, of which n are full, and answers how many are full then. Of a full
+/// buffer all bytes are handed over first, to be written out.
 pub fn put(out: &mut [u8], n: usize, b: u8) -> usize
     ensures { (out.new, result) ≡ put_byte (out.old, n) b }
 {
@@ -31,20 +34,18 @@ pub fn put(out: &mut [u8], n: usize, b: u8) -> usize
     0
 }
 
-// Puts a text, and answers as `put` does; so does each function that puts.
+/// Puts a text, and answers as `put` does; so does each function that puts.
 pub fn put_text(out: &mut [u8], n: usize, text: &[u8]) -> usize
     ensures { (out.new, result) ≡ put_all (out.old, n) text.now }
 {
     let mut at = n;
-    let mut i: usize = 0;
-    while i < text.len() {
-        at = put(out, at, text[i]);
-        i += 1;
+    for &b in text {
+        at = put(out, at, b);
     }
     at
 }
 
-// A number in decimal.
+/// A number in decimal.
 pub fn put_number(out: &mut [u8], n: usize, v: u64) -> usize
     ensures { (out.new, result) ≡ put_all (out.old, n) (decimal v) }
 {
@@ -53,7 +54,7 @@ pub fn put_number(out: &mut [u8], n: usize, v: u64) -> usize
     put_text(out, n, &digits[..k])
 }
 
-// A space, and a number in decimal.
+/// A space, and a number in decimal.
 pub fn put_word(out: &mut [u8], n: usize, v: u64) -> usize
     ensures { (out.new, result) ≡ put_all (out.old, n) (word v) }
 {
@@ -74,59 +75,57 @@ fn put_bytes(out: &mut [u8], n: usize, bytes: &[u8]) -> usize
     ensures { (out.new, result) ≡ put_all (out.old, n) (joined hex bytes.now) }
 {
     let mut at = n;
-    let mut i: usize = 0;
-    while i < bytes.len() {
-        let b = bytes[i];
+    for &b in bytes {
         at = put(out, at, glyph(b / 16));
         at = put(out, at, glyph(b));
-        i += 1;
     }
     at
 }
 
-// The units of a name, four capital hexadecimal digits each, or `-` for none.
+/// The units of a name, four capital hexadecimal digits each, or `-` for none.
 pub fn put_name(out: &mut [u8], n: usize, units: &[u8]) -> usize
     ensures { (out.new, result) ≡ put_all (out.old, n) (name units.now) }
 {
-    if units.len() == 0 {
+    if units.is_empty() {
         return put(out, n, b'-');
     }
     put_bytes(out, n, units)
 }
 
-// The bits of a number, eight capital hexadecimal digits.
+/// The bits of a number, eight capital hexadecimal digits.
 pub fn put_bits(out: &mut [u8], n: usize, v: u32) -> usize
     ensures { (out.new, result) ≡ put_all (out.old, n) (bits v) }
 {
     let mut bytes = [0u8; 4];
-    fields::put_u32(&mut bytes, 0, v);
+    fields::put_number(&mut bytes, 0, v);
     put_bytes(out, n, &bytes)
 }
 
-// The line of a refused file, in a buffer of which nothing is full.
-pub fn put_refusal(out: &mut [u8], number: u32, place: usize) -> usize
-    ensures { (out.new, result) ≡ put_all (out.old, 0) (refusal number place) }
+/// The line of a refused file, in a buffer of which nothing is full.
+pub fn put_refusal(out: &mut [u8], refused: Refusal) -> usize
+    ensures { (out.new, result) ≡ put_all (out.old, 0) (refusal (number_of refused.0) refused.1) }
 {
     let mut at = put_text(out, 0, b"refused");
-    at = put_word(out, at, number as u64);
+    at = put_word(out, at, u64::from(refused.0.number()));
     at = put_text(out, at, b" at");
-    at = put_word(out, at, place as u64);
+    at = put_word(out, at, refused.1 as u64);
     put(out, at, b'\n')
 }
 
-// Reads on to the end of an input that is too long, by a loop that counts down, since nothing
-// says that an input ends.
+// Reads on to the end of an input that is too long. The turns are counted, since nothing says that
+// an input ends.
 fn pass_rest() {
     let mut space = io::large_buffer();
-    let mut turns = u64::MAX;
-    while turns > 0 && 0 < io::read_full(STDIN_FILENO, &mut space) {
-        turns -= 1;
+    for _ in 0..u64::MAX {
+        if io::read_full(STDIN_FILENO, &mut space) == 0 {
+            return;
+        }
     }
 }
 
-// Takes standard input to its end: as much as the buffer holds, and passes over the rest. It
-// answers how many bytes at the buffer's start are the input's. Which they are is not said, nor that
-// those behind them stay: `io` says neither.
+/// Takes standard input to its end: as much as the buffer holds, and passes over the rest. It
+/// answers how many bytes at the buffer's start are the input's. Which they are is not said, nor that
+/// those behind them stay: `io` says neither.
 pub fn take_input(input: &mut [u8]) -> usize
     ensures prefix_len { IsPrefixLen result input.new }
     ensures input_len_unchanged { length input.new ≡ length input.old }
@@ -139,8 +138,8 @@ pub fn take_input(input: &mut [u8]) -> usize
     n
 }
 
-// Hands the full bytes of a buffer over to be written out, and answers how many that were. Whether
-// they were written is not said: `io::write_all` promises nothing of its answer.
+/// Hands the full bytes of a buffer over to be written out, and answers how many that were. Whether
+/// they were written is not said: `io::write_all` promises nothing of its answer.
 pub fn finish(out: &[u8], full: usize) -> usize
     ensures { result ≡ pick (leb full (length out.now)) full 0 }
 {

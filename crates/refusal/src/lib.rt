@@ -3,24 +3,24 @@
 
 ghost use Rattle.std.specs.Prelude.{◌≡◌, length};
 ghost use Rattle.algebra.specs.Writing.{writes};
-ghost use Rattle.fields.specs.Answer.{told_written};
+ghost use Rattle.fault.specs.Answer.{told_written};
 ghost use Rattle.refusal.specs.Sentences.{written};
 
-use fields::Written;
+use fault::Fault;
 
-// Stores a text, or 11 where it has no room.
-fn put(out: &mut [u8], text: &[u8]) -> Written
+// Stores a text, where it has room.
+fn put(out: &mut [u8], text: &[u8]) -> Result<usize, Fault>
     ensures { (told_written result, out.new) ≡ writes 0 (length text.now) text.now out.old }
 {
     if out.len() < text.len() {
-        return Written::Refused(11);
+        return Err(Fault::NoRoom);
     }
     fields::put_run(out, 0, text);
-    Written::Bytes(text.len())
+    Ok(text.len())
 }
 
-// The sentence of a number of the refusal table, 0 among them; 12 for any other number.
-pub fn sentence(number: u32, out: &mut [u8]) -> Written
+/// The sentence of a number of the refusal table, 0 among them; `NoRecord` for any other number.
+pub fn sentence(number: u32, out: &mut [u8]) -> Result<usize, Fault>
     ensures { (told_written result, out.new) ≡ written number out.old }
 {
     match number {
@@ -45,6 +45,6 @@ pub fn sentence(number: u32, out: &mut [u8]) -> Written
         12 => put(out, b"no record or page of that number"),
         13 => put(out, b"ASE block length disagrees with its content"),
         14 => put(out, b"colour has no counterpart in the other format"),
-        _ => Written::Refused(12),
+        _ => Err(Fault::NoRecord),
     }
 }

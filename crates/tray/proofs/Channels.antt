@@ -1,5 +1,5 @@
 -- Runs of channels, by their model. Assumes nothing.
-use Prim.Native.Nat.{ℕ, ◌-◌, ◌^◌, ◌≤◌, ◌<◌}
+use Prim.Native.Nat.{ℕ, ◌-◌, ◌^◌, ◌<◌}
 use mathlib.Core.Path.{◌≡◌, refl, sym, ap, ◌∙◌, subst}
 use mathlib.Core.Bool.{Bool, true, false, ◌||◌}
 use mathlib.Core.List.{List, [], ◌∷◌, map}
@@ -11,11 +11,11 @@ use lib.Dec.{eqb}
 use lib.Ieee.{binary32, of_bits}
 use lib.Ieee.Scale.{finite}
 use Rattle.algebra.specs.Chars.{chars}
+use Rattle.std.specs.Prelude.{Some, None}
 use Rattle.algebra.specs.Reader.{pick}
 use Rattle.colour.specs.Models.{model_of}
 use Rattle.colour.specs.Channels.{in_unit}
 use Rattle.colour.specs.declared.model.Model.TheVariants as model
-use Rattle.colour.specs.declared.model.KnownModel.TheVariants.{Is, Unknown}
 use Rattle.conversion.specs.Scale.{sample_of, sample_of_bits}
 use Rattle.conversion.specs.Convert.{Converted, gives, refused, and_then, sample_by, sample_found, to_sample}
 use Rattle.conversion.specs.Refusals.{Tagged, rgb, cmyk, gray}
@@ -80,7 +80,7 @@ never t b h = go (eqb t (chars "RGB ")) (eqb t (chars "CMYK")) (eqb t (chars "LA
     by-finite true = (14, refl)
     by-finite false = (5, refl)
 
-    go : (p q l r : Bool) → ((p || q) || r) ≡ false → (n : ℕ) × (sample_found (pick p (Is model.Rgb) (pick q (Is model.Cmyk) (pick l (Is model.Lab) (pick r (Is model.Gray) Unknown)))) (of_bits binary32 b) ≡ refused n 0)
+    go : (p q l r : Bool) → ((p || q) || r) ≡ false → (n : ℕ) × (sample_found (pick p (Some model.Rgb) (pick q (Some model.Cmyk) (pick l (Some model.Lab) (pick r (Some model.Gray) None)))) (of_bits binary32 b) ≡ refused n 0)
     go true q l r h = let z : ◌≡◌ {A = ℕ} 0 1 = cc in absurd (omega arith)
     go false true l r h = let z : ◌≡◌ {A = ℕ} 0 1 = cc in absurd (omega arith)
     go false false true r h = by-finite (finite (of_bits binary32 b))
@@ -98,12 +98,12 @@ module _ (t : ℕ) (bs : List ℕ) where
       go [] h = refl
       go (b ∷ bs) h = absurd (omega arith)
 
-  pub unit-judged : converted t ≡ true → (i : ℕ) → First unit bs i → length bs ≤ i → gives tt ≡ judged (converted_in_order (to_sample t) 0 bs)
-  unit-judged k i f h = ap judged (sym (all-given (to_sample t) (shown (tagged t k)) unit (unit-yes (tagged t k)) 0 bs (λ j l. f.passed j (omega arith))))
+  pub unit-judged : converted t ≡ true → First unit bs None → gives tt ≡ judged (converted_in_order (to_sample t) 0 bs)
+  unit-judged k f = ap judged (sym (all-given (to_sample t) (shown (tagged t k)) unit (unit-yes (tagged t k)) 0 bs f))
 
-  pub unit-stopped : converted t ≡ true → (i : ℕ) → First unit bs i → i < length bs → refused 5 i ≡ judged (converted_in_order (to_sample t) 0 bs)
-  unit-stopped k i f h =
-      ap (λ (z : ℕ). refused 5 z) (sym (zero-add i)) ∙ ap judged (sym (one-refused (to_sample t) (shown (tagged t k)) unit (unit-yes (tagged t k)) 0 bs i 5 0 f.passed h (unit-no (tagged t k) (get_or bs i 0) (f.fails h))))
+  pub unit-stopped : converted t ≡ true → (i : ℕ) → First unit bs (Some i) → refused 5 i ≡ judged (converted_in_order (to_sample t) 0 bs)
+  unit-stopped k i f =
+      ap (λ (z : ℕ). refused 5 z) (sym (zero-add i)) ∙ ap judged (sym (one-refused (to_sample t) (shown (tagged t k)) unit (unit-yes (tagged t k)) 0 bs i 5 0 f.1 f.0 (unit-no (tagged t k) (get_or bs i 0) f.2)))
 
   pub other-judged : converted t ≡ false → 0 < length bs → (r : Converted Unit) → r ≡ and_then (to_sample t (get_or bs 0 0)) (λ s. gives tt) → r ≡ judged (converted_in_order (to_sample t) 0 bs)
   other-judged k h r e =

@@ -1,20 +1,27 @@
 -- A run by its elements: what it gives, where it is refused, and a loop that fills. Assumes nothing.
 use Prim.Native.Nat.{ℕ, zero, suc, ◌+◌, ◌≤◌, ◌<◌}
 use mathlib.Core.Path.{◌≡◌, refl, sym, ap, ap₂, ◌∙◌, subst}
-use mathlib.Core.Bool.{Bool, true, false}
+use mathlib.Core.Bool.{Bool, true, false, not}
 use mathlib.Core.Logic.{◌⊎◌, inl, inr}
 use mathlib.Core.List.{List, [], ◌∷◌, ◌++◌, map}
 use native.Mathlib.Omega.{arith}
 use native.Mathlib.Numerals.{add-one}
 use native.Mathlib.Nat.{add-zero, zero-add}
-use borrow.Author.Tests.{le-leb, lt-leb}
+use borrow.Author.Tests.{le-leb, lt-leb, ltb-false}
 use lib.Bits.{bit_or, or_add_and, and_le_l, and_le_r}
+use lib.Dec.{ltb}
 use lib.ListN.{length, get_or, drop, set, drop_of_length-le}
 use lib.Seq.{sets, sets-eq, drop-cons}
-use Rattle.algebra.specs.Reader.{pick}
+use Rattle.std.specs.Prelude.{Result}
+use Rattle.std.specs.Int.{from_bool}
+use Rattle.std.specs.Result.{IsErrAnd}
+use Rattle.std.proofs.lemmas.Result.{err_from_is_err_and}
+use Rattle.fault.specs.Fault.{number_of}
+use Rattle.fault.specs.declared.Refusal.{Refusal}
+use Rattle.tray.specs.Answer.{told}
 use Rattle.conversion.specs.Convert.{Converted, gives, refused, and_then}
 use Rattle.conversion.specs.Tray.{at_position, converted_in_order, lent}
-use Rattle.tray.specs.scaffold.Parts.{Passed, First, results, judged}
+use Rattle.tray.specs.scaffold.Parts.{Passed, low, results, judged}
 
 -- ---- all pass, or one is the first to fail
 
@@ -125,13 +132,21 @@ passed-more ok xs i h e j l = go (native.Mathlib.Nat.eq-or-lt_of_le (below j l))
     go (inl z) = subst (λ (k : ℕ). ok (get_or xs k 0) ≡ true) (sym z) e
     go (inr z) = h j z
 
-pub all_first : (ok : ℕ → Bool) (xs : List ℕ) → Passed ok xs (length xs) → First ok xs (length xs)
-all_first ok xs h = record { inside = omega arith; passed = h; fails = λ l. absurd (omega arith) }
-
 -- ---- numbers joined by `|`: where that is 0, each is
 pub or-none : (a b : ℕ) → bit_or a b ≡ 0 → (a ≡ 0) × (b ≡ 0)
 or-none a b e = (omega (arith, or_add_and a b, and_le_l a b, and_le_r a b), omega (arith, or_add_and a b, and_le_l a b, and_le_r a b))
 
-pub marked-none : (t : Bool) → ◌≡◌ {A = ℕ} (pick t 0 1) 0 → t ≡ true
+pub marked-none : (t : Bool) → from_bool (not t) ≡ 0 → t ≡ true
 marked-none true e = refl
 marked-none false e = absurd (omega arith)
+
+pub low-none : (v : ℕ) → from_bool (ltb 10000 v) ≡ 0 → low v ≡ true
+low-none v e = go (ltb 10000 v) refl e
+  where
+    go : (b : Bool) → ltb 10000 v ≡ b → from_bool b ≡ 0 → low v ≡ true
+    go true f e = absurd (omega arith)
+    go false f e = le-leb v 10000 (ltb-false 10000 v f)
+
+-- ---- a refusal that is handed on
+pub told-exit : (r : Result Unit Refusal) (e : Refusal) → IsErrAnd r (λ y. y ≡ e) → told r ≡ refused (number_of e.0) e.1
+told-exit r e h = let p = err_from_is_err_and r h in rw (p.1, p.2)

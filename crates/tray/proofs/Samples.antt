@@ -1,5 +1,5 @@
 -- Runs of samples, by their space. Assumes nothing.
-use Prim.Native.Nat.{ℕ, ◌-◌, ◌≤◌, ◌<◌}
+use Prim.Native.Nat.{ℕ, ◌-◌, ◌<◌}
 use mathlib.Core.Path.{◌≡◌, refl, sym, ap, ◌∙◌, subst}
 use mathlib.Core.Bool.{Bool, true, false}
 use mathlib.Core.List.{List, [], ◌∷◌, map}
@@ -9,6 +9,7 @@ use borrow.Author.Tests.{le-leb}
 use lib.ListN.{length, get_or}
 use lib.Dec.{leb}
 use lib.Ieee.{Float, binary32, to_bits}
+use Rattle.std.specs.Prelude.{Some, None}
 use Rattle.algebra.specs.Reader.{pick}
 use Rattle.colour.specs.Spaces.{uses, full, known, ranged, allowed}
 use Rattle.conversion.specs.Scale.{channel_of}
@@ -70,12 +71,12 @@ module _ (x : ℕ) (xs : List ℕ) where
   unfolding short
   cmyk-judged k w = same 2 (λ m. gives tt ≡ judged m) k (ap judged (sym (all-given (to_bits_of 2) turned short cmyk-yes 0 xs (λ j h. le-leb (get_or xs j 0) 65535 (omega (arith, w j))))))
 
-  pub gray-judged : x ≡ 8 → (i : ℕ) → First low xs i → length xs ≤ i → gives tt ≡ judged (converted_in_order (to_bits_of x) 0 xs)
-  gray-judged k i f h = same 8 (λ m. gives tt ≡ judged m) k (ap judged (sym (all-given (to_bits_of 8) (plain 10000) low gray-yes 0 xs (λ j l. f.passed j (omega arith)))))
+  pub gray-judged : x ≡ 8 → First low xs None → gives tt ≡ judged (converted_in_order (to_bits_of x) 0 xs)
+  gray-judged k f = same 8 (λ m. gives tt ≡ judged m) k (ap judged (sym (all-given (to_bits_of 8) (plain 10000) low gray-yes 0 xs f)))
 
-  pub gray-stopped : x ≡ 8 → (i : ℕ) → First low xs i → i < length xs → refused 5 i ≡ judged (converted_in_order (to_bits_of x) 0 xs)
-  gray-stopped k i f h = same 8 (λ m. refused 5 i ≡ judged m) k
-      (ap (λ (z : ℕ). refused 5 z) (sym (zero-add i)) ∙ ap judged (sym (one-refused (to_bits_of 8) (plain 10000) low gray-yes 0 xs i 5 0 f.passed h (gray-no (get_or xs i 0) (f.fails h)))))
+  pub gray-stopped : x ≡ 8 → (i : ℕ) → First low xs (Some i) → refused 5 i ≡ judged (converted_in_order (to_bits_of x) 0 xs)
+  gray-stopped k i f = same 8 (λ m. refused 5 i ≡ judged m) k
+      (ap (λ (z : ℕ). refused 5 z) (sym (zero-add i)) ∙ ap judged (sym (one-refused (to_bits_of 8) (plain 10000) low gray-yes 0 xs i 5 0 f.1 f.0 (gray-no (get_or xs i 0) f.2))))
 
   pub rgb-results : x ≡ 0 → gives tt ≡ judged (converted_in_order (to_bits_of x) 0 xs) → results (converted_in_order (to_bits_of x) 0 xs) ≡ map (plain 65535) xs
   rgb-results k = same 0 (λ m. gives tt ≡ judged m → results m ≡ map (plain 65535) xs) k (results-are (to_bits_of 0) (plain 65535) (λ x. Unit {0}) (λ x y u. rgb-each x y) 0 xs (λ j. tt))

@@ -1,26 +1,15 @@
 // Channels to samples.
-ghost use Rattle.std.specs.Prelude.{◌≡◌, true, map, ◌≤◌, length};
+ghost use Rattle.std.specs.Prelude.{◌≡◌, ℕ, true, map, ◌≤◌, length};
 ghost use Rattle.std.proofs.lemmas.List.Edits.{sets};
 ghost use Rattle.algebra.specs.Reader.{pick};
 ghost use Rattle.conversion.specs.Convert.{gives, and_then, to_sample};
-ghost use Rattle.conversion.specs.Scale.{sample_of_bits};
 ghost use Rattle.conversion.specs.Tray.{converted_in_order, samples_of};
 ghost use Rattle.tray.specs.Answer.{told};
-ghost use Rattle.tray.specs.scaffold.Parts.{Passed, First, unit, inked, converted, results, judged};
+ghost use Rattle.tray.specs.scaffold.Parts.{Passed, First, Gives, unit, converted, results, judged};
 
-use crate::Tray;
 use colour::{Model, is_channel};
-use convert::{Sample, gray_sample, rgb_sample, to_sample};
-
-// 1 where a channel is not from 0 to 1.
-fn outside(bits: u32) -> u32
-    ensures { result ≡ pick (unit bits) 0 1 }
-{
-    if is_channel(false, bits) {
-        return 0;
-    }
-    1
-}
+use convert::{gray_sample, rgb_sample, to_sample};
+use fault::{Fault, Refusal};
 
 // Whether all channels are from 0 to 1. It goes on where one is not, and joins numbers, so that
 // the loop is compiled to vectors.
@@ -28,29 +17,25 @@ fn all_unit(bits: &[u32]) -> bool
     ensures { result ≡ true → Passed unit bits.now (length bits.now) }
 {
     let mut any: u32 = 0;
-    let mut i: usize = 0;
-    while i < bits.len() {
-        any |= outside(bits[i]);
-        i += 1;
+    for &channel in bits {
+        any |= u32::from(!is_channel(false, channel));
     }
     any == 0
 }
 
-// The first channel that is not from 0 to 1, or their number.
-fn first_outside(bits: &[u32]) -> usize
+// The first channel that is not from 0 to 1.
+fn first_outside(bits: &[u32]) -> Option<usize>
     ensures { First unit bits.now result }
 {
     if all_unit(bits) {
-        return bits.len();
+        return None;
     }
-    let mut i: usize = 0;
-    while i < bits.len() {
+    for i in 0..bits.len() {
         if !is_channel(false, bits[i]) {
-            return i;
+            return Some(i);
         }
-        i += 1;
     }
-    i
+    None
 }
 
 // Whether the model with this tag has a space.
@@ -61,70 +46,38 @@ fn is_converted(tag: u32) -> bool
 }
 
 // By one channel, the first.
-fn judge_first(tag: u32, bits: u32) -> Tray
+fn judge_first(tag: u32, bits: u32) -> Result<(), Refusal>
     ensures { told result ≡ and_then (to_sample tag bits) (λ s. gives tt) }
 {
     match to_sample(tag, bits) {
-        Sample::Is(_) => Tray::Done,
-        Sample::Refused(number) => Tray::Refused {
-            number,
-            position: 0,
-        },
+        Ok(_) => Ok(()),
+        Err(fault) => Err(Refusal(fault, 0)),
     }
 }
 
-fn judge(tag: u32, bits: &[u32]) -> Tray
+fn judge(tag: u32, bits: &[u32]) -> Result<(), Refusal>
     ensures { told result ≡ judged (converted_in_order (to_sample tag) 0 bits.now) }
 {
-    if bits.len() == 0 {
-        return Tray::Done;
+    if bits.is_empty() {
+        return Ok(());
     }
     if is_converted(tag) {
-        let at = first_outside(bits);
-        if at < bits.len() {
-            return Tray::Refused {
-                number: 5,
-                position: at,
-            };
-        }
-        return Tray::Done;
+        return match first_outside(bits) {
+            Some(at) => Err(Refusal(Fault::OutOfRange, at)),
+            None => Ok(()),
+        };
     }
     judge_first(tag, bits[0])
 }
 
-// The samples of RGB.
-fn fill_rgb(bits: &[u32], out: &mut [u16])
-    requires { length bits.now ≤ length out.old }
-    ensures { out.new ≡ sets out.old 0 (map (sample_of_bits 65535) bits.now) }
+// Stores what each channel becomes, in their order.
+fn store_each<F: Fn(u32) -> u16>(bits: &[u32], out: &mut [u16], sample: F)
+    requires always { F.IsAlwaysCallable sample }
+    requires room { length bits.now ≤ length out.old }
+    ensures { (g : ℕ → ℕ) → Gives (F.post sample) g bits.now → out.new ≡ sets out.old 0 (map g bits.now) }
 {
-    let mut i: usize = 0;
-    while i < bits.len() {
-        out[i] = rgb_sample(bits[i]);
-        i += 1;
-    }
-}
-
-// The samples of CMYK, taken from the full scale.
-fn fill_cmyk(bits: &[u32], out: &mut [u16])
-    requires { length bits.now ≤ length out.old }
-    ensures { out.new ≡ sets out.old 0 (map inked bits.now) }
-{
-    let mut i: usize = 0;
-    while i < bits.len() {
-        out[i] = Model::CMYK.full - rgb_sample(bits[i]);
-        i += 1;
-    }
-}
-
-// The samples of gray.
-fn fill_gray(bits: &[u32], out: &mut [u16])
-    requires { length bits.now ≤ length out.old }
-    ensures { out.new ≡ sets out.old 0 (map (sample_of_bits 10000) bits.now) }
-{
-    let mut i: usize = 0;
-    while i < bits.len() {
-        out[i] = gray_sample(bits[i]);
-        i += 1;
+    for i in 0..bits.len() {
+        out[i] = sample(bits[i]);
     }
 }
 
@@ -134,34 +87,28 @@ fn fill(tag: u32, bits: &[u32], out: &mut [u16])
     ensures { out.new ≡ sets out.old 0 (results (converted_in_order (to_sample tag) 0 bits.now)) }
 {
     if tag == Model::RGB.tag {
-        fill_rgb(bits, out);
+        store_each(bits, out, |channel| rgb_sample(channel));
         return;
     }
     if tag == Model::CMYK.tag {
-        fill_cmyk(bits, out);
+        store_each(bits, out, |channel| Model::CMYK.full - rgb_sample(channel));
         return;
     }
     if tag == Model::GRAY.tag {
-        fill_gray(bits, out);
+        store_each(bits, out, |channel| gray_sample(channel));
         return;
     }
 }
 
-// The samples of a run of channels of the model with a tag, given by their bits.
-pub fn to_samples(tag: u32, bits: &[u32], out: &mut [u16]) -> Tray
+/// The samples of a run of channels of the model with a tag, given by their bits. The refusal is that
+/// of the first element that is refused, with its position, or of the lent run, with position 0.
+pub fn to_samples(tag: u32, bits: &[u32], out: &mut [u16]) -> Result<(), Refusal>
     ensures { (told result, out.new) ≡ samples_of tag bits.now out.old }
 {
-    match judge(tag, bits) {
-        Tray::Refused { number, position } => Tray::Refused { number, position },
-        Tray::Done => {
-            if out.len() < bits.len() {
-                return Tray::Refused {
-                    number: 11,
-                    position: 0,
-                };
-            }
-            fill(tag, bits, out);
-            Tray::Done
-        }
+    judge(tag, bits)?;
+    if out.len() < bits.len() {
+        return Err(Refusal(Fault::NoRoom, 0));
     }
+    fill(tag, bits, out);
+    Ok(())
 }

@@ -7,11 +7,3 @@ mod there;
 
 pub use back::to_samples;
 pub use there::to_channels;
-
-// All are converted; or the refusal of the first element that is refused, with its position, or of
-// the lent run, with position 0.
-#[derive(Drop)]
-pub enum Tray {
-    Done,
-    Refused { number: u32, position: usize },
-}

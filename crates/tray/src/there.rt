@@ -1,14 +1,14 @@
 // Samples to channels.
-ghost use Rattle.std.specs.Prelude.{◌≡◌, true, map, ◌≤◌, length};
+ghost use Rattle.std.specs.Prelude.{◌≡◌, ℕ, true, map, ◌≤◌, length};
 ghost use Rattle.std.proofs.lemmas.List.Edits.{sets};
 ghost use Rattle.conversion.specs.Convert.{gives, and_then, to_channel};
 ghost use Rattle.conversion.specs.Tray.{converted_in_order, to_bits_of, channels_of};
 ghost use Rattle.tray.specs.Answer.{told};
-ghost use Rattle.tray.specs.scaffold.Parts.{Passed, First, low, plain, turned, results, judged};
+ghost use Rattle.tray.specs.scaffold.Parts.{Passed, First, Gives, low, results, judged};
 
-use crate::Tray;
 use colour::{CMYK, GRAY, Model, RGB, bits_of};
-use convert::{Channel, quotient, to_channel};
+use convert::{quotient, to_channel};
+use fault::{Fault, Refusal};
 
 // Whether all samples are on the scale of gray. It goes on where one is not, so that the loop has
 // one way out and is compiled to vectors.
@@ -16,92 +16,62 @@ fn all_low(samples: &[u16]) -> bool
     ensures { result ≡ true → Passed low samples.now (length samples.now) }
 {
     let mut high: u16 = 0;
-    let mut i: usize = 0;
-    while i < samples.len() {
-        if samples[i] <= Model::GRAY.full {
-            i += 1;
-            continue;
-        }
-        high = 1;
-        i += 1;
+    for &sample in samples {
+        high |= u16::from(sample > Model::GRAY.full);
     }
     high == 0
 }
 
-// The first sample above the scale of gray, or their number.
-fn first_high(samples: &[u16]) -> usize
+// The first sample above the scale of gray.
+fn first_high(samples: &[u16]) -> Option<usize>
     ensures { First low samples.now result }
 {
     if all_low(samples) {
-        return samples.len();
+        return None;
     }
-    let mut i: usize = 0;
-    while i < samples.len() {
+    for i in 0..samples.len() {
         if samples[i] > Model::GRAY.full {
-            return i;
+            return Some(i);
         }
-        i += 1;
     }
-    i
+    None
 }
 
 // By one sample, the first.
-fn judge_first(space: u16, sample: u16) -> Tray
+fn judge_first(space: u16, sample: u16) -> Result<(), Refusal>
     ensures { told result ≡ and_then (to_channel space sample) (λ c. gives tt) }
 {
     match to_channel(space, sample) {
-        Channel::Is(_) => Tray::Done,
-        Channel::Refused(number) => Tray::Refused {
-            number,
-            position: 0,
-        },
+        Ok(_) => Ok(()),
+        Err(fault) => Err(Refusal(fault, 0)),
     }
 }
 
-fn judge(space: u16, samples: &[u16]) -> Tray
+fn judge(space: u16, samples: &[u16]) -> Result<(), Refusal>
     ensures { told result ≡ judged (converted_in_order (to_bits_of space) 0 samples.now) }
 {
-    if samples.len() == 0 {
-        return Tray::Done;
+    if samples.is_empty() {
+        return Ok(());
     }
     match space {
-        RGB => Tray::Done,
-        CMYK => Tray::Done,
-        GRAY => {
-            let at = first_high(samples);
-            if at < samples.len() {
-                return Tray::Refused {
-                    number: 5,
-                    position: at,
-                };
-            }
-            Tray::Done
-        }
+        RGB => Ok(()),
+        CMYK => Ok(()),
+        GRAY => match first_high(samples) {
+            Some(at) => Err(Refusal(Fault::OutOfRange, at)),
+            None => Ok(()),
+        },
         _ => judge_first(space, samples[0]),
     }
 }
 
-// The channels of a scale to `full`.
-fn fill_plain(full: u16, samples: &[u16], out: &mut [u32])
-    requires { length samples.now ≤ length out.old }
-    ensures { out.new ≡ sets out.old 0 (map (plain full) samples.now) }
+// Stores what each sample becomes, in their order.
+fn store_each<F: Fn(u16) -> u32>(samples: &[u16], out: &mut [u32], channel: F)
+    requires always { F.IsAlwaysCallable channel }
+    requires room { length samples.now ≤ length out.old }
+    ensures { (g : ℕ → ℕ) → Gives (F.post channel) g samples.now → out.new ≡ sets out.old 0 (map g samples.now) }
 {
-    let mut i: usize = 0;
-    while i < samples.len() {
-        out[i] = bits_of(quotient(full, samples[i]));
-        i += 1;
-    }
-}
-
-// The channels of CMYK.
-fn fill_turned(samples: &[u16], out: &mut [u32])
-    requires { length samples.now ≤ length out.old }
-    ensures { out.new ≡ sets out.old 0 (map turned samples.now) }
-{
-    let mut i: usize = 0;
-    while i < samples.len() {
-        out[i] = bits_of(quotient(Model::CMYK.full, Model::CMYK.full - samples[i]));
-        i += 1;
+    for i in 0..samples.len() {
+        out[i] = channel(samples[i]);
     }
 }
 
@@ -111,28 +81,34 @@ fn fill(space: u16, samples: &[u16], out: &mut [u32])
     ensures { out.new ≡ sets out.old 0 (results (converted_in_order (to_bits_of space) 0 samples.now)) }
 {
     match space {
-        RGB => fill_plain(Model::RGB.full, samples, out),
-        CMYK => fill_turned(samples, out),
-        GRAY => fill_plain(Model::GRAY.full, samples, out),
+        RGB => store_each(
+            samples,
+            out,
+            |sample| bits_of(quotient(Model::RGB.full, sample)),
+        ),
+        CMYK => store_each(
+            samples,
+            out,
+            |sample| bits_of(quotient(Model::CMYK.full, Model::CMYK.full - sample)),
+        ),
+        GRAY => store_each(
+            samples,
+            out,
+            |sample| bits_of(quotient(Model::GRAY.full, sample)),
+        ),
         _ => {}
     }
 }
 
-// The channels of a run of samples of one space, by their bits.
-pub fn to_channels(space: u16, samples: &[u16], out: &mut [u32]) -> Tray
+/// The channels of a run of samples of one space, by their bits. The refusal is that of the first
+/// element that is refused, with its position, or of the lent run, with position 0.
+pub fn to_channels(space: u16, samples: &[u16], out: &mut [u32]) -> Result<(), Refusal>
     ensures { (told result, out.new) ≡ channels_of space samples.now out.old }
 {
-    match judge(space, samples) {
-        Tray::Refused { number, position } => Tray::Refused { number, position },
-        Tray::Done => {
-            if out.len() < samples.len() {
-                return Tray::Refused {
-                    number: 11,
-                    position: 0,
-                };
-            }
-            fill(space, samples, out);
-            Tray::Done
-        }
+    judge(space, samples)?;
+    if out.len() < samples.len() {
+        return Err(Refusal(Fault::NoRoom, 0));
     }
+    fill(space, samples, out);
+    Ok(())
 }

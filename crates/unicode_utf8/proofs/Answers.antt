@@ -8,15 +8,17 @@ use lib.Seq.{sets, sets-eq, get_or-take, get_or-drop}
 use lib.Dec.{ltb}
 use borrow.Author.Tests.{le-leb, lt-leb, ltb-true, ltb-false}
 use native.Mathlib.Omega.{arith}
+use Rattle.fault.specs.Fault.{number_of}
+use Rattle.fault.specs.declared.Fault.{Fault}
+use Rattle.fault.specs.declared.Fault.TheVariants as fault
 use Rattle.algebra.specs.Reader.{pick, limit}
-use Rattle.algebra.specs.Numbers.{nums, joined, Bytes}
+use Rattle.algebra.specs.Numbers.{nums, Bytes}
 use Rattle.algebra.specs.Store.{part}
 use Rattle.algebra.specs.Writing.{bytes, refused, writes}
 use Rattle.algebra.proofs.Laws.{num-2}
 use Rattle.algebra.proofs.Places.{length-nums, getD-nums, length_part}
 use Rattle.algebra.proofs.Writing.{needs-no, needs-all, writes-no, writes-none, writes-all}
 use Rattle.unicode_text.specs.Grammar.{Units}
-use Rattle.unicode_text.specs.Reading.{utf8, scalars}
 use Rattle.unicode_utf8.specs.Answer.{units_fault}
 use Rattle.unicode_utf8.specs.scaffold.Steps.{units_within}
 
@@ -82,6 +84,28 @@ part-units s at n l =
         ∙ window s (part s at (2 * n)) at (λ j h. get_or-take (2 * n) (drop at s) j 0 (omega (arith, h, e)) ∙ get_or-drop at s j 0) n 0 (omega arith)
         ∙ ap (λ (m : ℕ). nums 2 n s m) z
 
-pub no-units : (s : List ℕ) (at n : ℕ) → n ≡ 0 → utf8 (nums 2 n s at) ≡ []
-unfolding nums joined scalars
-no-units s at n e = ap (λ (m : ℕ). utf8 (nums 2 m s at)) e
+-- none
+pub no-units : (s : List ℕ) (at n : ℕ) → n ≡ 0 → units_within [] ≡ nums 2 n s at
+unfolding units_within nums
+no-units s at n e = sym (ap (λ (m : ℕ). nums 2 m s at) e)
+
+-- ---- no fault has the number 0
+
+positive : (f : Fault) → 0 < number_of f
+positive fault.TooLong = omega arith
+positive fault.Short = omega arith
+positive fault.WrongTag = omega arith
+positive fault.Unknown = omega arith
+positive fault.OutOfRange = omega arith
+positive fault.LeftOver = omega arith
+positive fault.ListsDiffer = omega arith
+positive fault.BadlyClosed = omega arith
+positive fault.Unbalanced = omega arith
+positive fault.TooDeep = omega arith
+positive fault.NoRoom = omega arith
+positive fault.NoRecord = omega arith
+positive fault.WrongLength = omega arith
+positive fault.NoCounterpart = omega arith
+
+pub some-number : (f : Fault) → number_of f ≡ 0 → ⊥
+some-number f e = omega (arith, positive f)

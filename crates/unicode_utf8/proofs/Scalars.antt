@@ -3,7 +3,7 @@ use Prim.Native.Nat.{ℕ, ◌-◌, ◌*◌, ◌/◌, ◌≤◌, ◌<◌}
 use mathlib.Core.Path.{◌≡◌, refl, sym, ap, ap₂, ◌∙◌}
 use mathlib.Core.Bool.{Bool, true, false, ◌&&◌}
 use lib.Dec.{leb, ltb, eqb}
-use borrow.Author.Tests.{ltb-true, ltb-false, eqb-true, eqb-false, le-leb, lt-leb, leb-true}
+use borrow.Author.Tests.{ltb-true, ltb-false, eqb-true, eqb-false, le-leb}
 use native.Mathlib.Omega.{arith}
 use Rattle.algebra.specs.Reader.{pick, limit}
 use mathlib.Core.List.{List}
@@ -67,19 +67,5 @@ taken_is u v b e = ap (λ (t : Bool). pick t 2 1) e
 -- ---- units of a file
 
 module _ (s : List ℕ) (at n : ℕ) where
-  pub fault-long : limit < length s → 1 ≡ name_fault s at n
-  fault-long h = sym (ap (λ (b : Bool). pick b (pick (leb (2 * n) (length s - at)) 0 2) 1) (lt-leb (length s) limit h))
-
-  pub fault-cut : length s ≤ limit → length s - at < 2 * n → 2 ≡ name_fault s at n
-  fault-cut h k = sym (ap₂ (λ (a b : Bool). pick a (pick b 0 2) 1) (le-leb (length s) limit h) (lt-leb (2 * n) (length s - at) k))
-
   pub fault-none : length s ≤ limit → 2 * n ≤ length s - at → 0 ≡ name_fault s at n
   fault-none h k = sym (ap₂ (λ (a b : Bool). pick a (pick b 0 2) 1) (le-leb (length s) limit h) (le-leb (2 * n) (length s - at) k))
-
-  pub fault-inv : 0 ≡ name_fault s at n → (length s ≤ limit) × (2 * n ≤ length s - at)
-  fault-inv e = go (leb (length s) limit) (leb (2 * n) (length s - at)) refl refl e
-    where
-      go : (a b : Bool) → leb (length s) limit ≡ a → leb (2 * n) (length s - at) ≡ b → ◌≡◌ {A = ℕ} 0 (pick a (pick b 0 2) 1) → (length s ≤ limit) × (2 * n ≤ length s - at)
-      go true true f g z = (leb-true (length s) limit f, leb-true (2 * n) (length s - at) g)
-      go true false f g z = absurd (omega arith)
-      go false b f g z = absurd (omega arith)

@@ -11,12 +11,6 @@ const TWO_BYTES: u32 = 0x800;
 
 const THREE_BYTES: u32 = 0x10000;
 
-pub(crate) fn wide(u: u16) -> u32
-    ensures { (result ≡ u) × (result < 65536) }
-{
-    u as u32
-}
-
 // Whether u is the high surrogate and v the low one of a pair: 0xD800 to 0xDBFF, and 0xDC00 to 0xDFFF.
 fn is_pair(u: u32, v: u32) -> bool
     ensures { result ≡ is_pair u v }

@@ -5,8 +5,8 @@
 ghost use Rattle.std.specs.Prelude.{◌≡◌};
 ghost use Rattle.walk.specs.Names.{name_part};
 
-// The bytes of a name that a call gave by its place and number of units; none where they do not lie
-// inside the file.
+/// The bytes of a name that a call gave by its place and number of units; none where they do not lie
+/// inside the file.
 pub fn name_part(file: &[u8], place: usize, units: u32) -> &[u8]
     ensures { result.now ≡ name_part file.now place units }
 {

@@ -1,12 +1,12 @@
-use mathlib.Core.Path.{sym, ap, ◌∙◌}
+use mathlib.Core.Path.{ap, ◌∙◌}
 use lib.Ieee.{binary32, of_bits}
 use Rattle.colour.specs.declared.model.Model.TheVariants.{Rgb}
 use Rattle.conversion.specs.Convert.{gives}
-use Rattle.convert.proofs.Converting.{refused-in, given-in, unit-sample}
+use Rattle.convert.proofs.Converting.{told-exit, judged-no, judged-yes, given-in, unit-sample}
 use Rattle.convert.proofs.rgb_in.Goals as goal
 
-pub returns-then-not-is_channel : goal.returns-then-not-is_channel
-returns-then-not-is_channel c = refused-in Rgb (of_bits binary32 c.args.bits) (sym c.is_channel.ensures ∙ c.if-not-is_channel.true)
+pub returns-in_err-judged : goal.returns-in_err-judged
+returns-in_err-judged c = told-exit _ _ c.from_residual.ensures.1 (judged-no Rgb (of_bits binary32 c.args.bits) _ c.in_err-judged.ensures)
 
 pub returns : goal.returns
-returns c = given-in Rgb (of_bits binary32 c.args.bits) _ (sym c.is_channel.ensures ∙ c.if-not-is_channel.false) (ap gives (c.rgb_sample.ensures ∙ unit-sample _ c.args.bits c.ranges.bits.fits (sym c.is_channel.ensures ∙ c.if-not-is_channel.false)))
+returns c = given-in Rgb (of_bits binary32 c.args.bits) _ (judged-yes Rgb (of_bits binary32 c.args.bits) c.in_ok-judged.ensures) (ap gives (c.rgb_sample.ensures ∙ unit-sample _ c.args.bits c.ranges.bits.fits (judged-yes Rgb (of_bits binary32 c.args.bits) c.in_ok-judged.ensures)))

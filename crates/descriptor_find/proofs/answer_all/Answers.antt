@@ -18,7 +18,7 @@ overflow_add-at c =
     let a = c.args in
     let p = c.requires in
     let o = c.loop-at in
-    let n = K.fill-next a.keys.now a.answers.now o.answers (row_of a.file.now (rows_in (descriptor a.file.now))) p.1.ks o.at o.i (o.invariant p.1) c.loop-at-test.true _ _ c.u32_or_zero-tag.ensures c.body_size-size.ensures.0 in
+    let n = K.fill-next a.keys.now a.answers.now o.answers (row_of a.file.now (rows_in (descriptor a.file.now))) p.1.ks o.at o.i (o.invariant p.1) c.loop-at-test.true _ _ c.number_or_zero-tag.ensures c.body_size-size.ensures.0 in
     omega (arith, n.inside)
 
 pub row_of-row-requires : goal.row_of-row-requires
@@ -26,7 +26,7 @@ row_of-row-requires c =
     let a = c.args in
     let p = c.requires in
     let o = c.loop-at in
-    let n = K.fill-next a.keys.now a.answers.now o.answers (row_of a.file.now (rows_in (descriptor a.file.now))) p.1.ks o.at o.i (o.invariant p.1) c.loop-at-test.true _ _ c.u32_or_zero-tag.ensures c.body_size-size.ensures.0 in
+    let n = K.fill-next a.keys.now a.answers.now o.answers (row_of a.file.now (rows_in (descriptor a.file.now))) p.1.ks o.at o.i (o.invariant p.1) c.loop-at-test.true _ _ c.number_or_zero-tag.ensures c.body_size-size.ensures.0 in
     (p.0, c.body_size-size.ensures.1, c.body_size-size.ensures.0, n.inside)
 
 pub overflow_cast-answers : goal.overflow_cast-answers
@@ -41,7 +41,7 @@ offset_bounds-answers-i c =
     let a = c.args in
     let p = c.requires in
     let o = c.loop-at in
-    let n = K.fill-next a.keys.now a.answers.now o.answers (row_of a.file.now (rows_in (descriptor a.file.now))) p.1.ks o.at o.i (o.invariant p.1) c.loop-at-test.true _ _ c.u32_or_zero-tag.ensures c.body_size-size.ensures.0 in
+    let n = K.fill-next a.keys.now a.answers.now o.answers (row_of a.file.now (rows_in (descriptor a.file.now))) p.1.ks o.at o.i (o.invariant p.1) c.loop-at-test.true _ _ c.number_or_zero-tag.ensures c.body_size-size.ensures.0 in
     omega (arith, n.room, (o.invariant p.1).size)
 
 pub bounds-answers-i : goal.bounds-answers-i
@@ -49,7 +49,7 @@ bounds-answers-i c =
     let a = c.args in
     let p = c.requires in
     let o = c.loop-at in
-    let n = K.fill-next a.keys.now a.answers.now o.answers (row_of a.file.now (rows_in (descriptor a.file.now))) p.1.ks o.at o.i (o.invariant p.1) c.loop-at-test.true _ _ c.u32_or_zero-tag.ensures c.body_size-size.ensures.0 in
+    let n = K.fill-next a.keys.now a.answers.now o.answers (row_of a.file.now (rows_in (descriptor a.file.now))) p.1.ks o.at o.i (o.invariant p.1) c.loop-at-test.true _ _ c.number_or_zero-tag.ensures c.body_size-size.ensures.0 in
     n.room
 
 pub overflow_add-at-in-loop-at : goal.overflow_add-at-in-loop-at
@@ -57,7 +57,7 @@ overflow_add-at-in-loop-at c =
     let a = c.args in
     let p = c.requires in
     let o = c.loop-at in
-    let n = K.fill-next a.keys.now a.answers.now o.answers (row_of a.file.now (rows_in (descriptor a.file.now))) p.1.ks o.at o.i (o.invariant p.1) c.loop-at-test.true _ _ c.u32_or_zero-tag.ensures c.body_size-size.ensures.0 in
+    let n = K.fill-next a.keys.now a.answers.now o.answers (row_of a.file.now (rows_in (descriptor a.file.now))) p.1.ks o.at o.i (o.invariant p.1) c.loop-at-test.true _ _ c.number_or_zero-tag.ensures c.body_size-size.ensures.0 in
     omega (arith, n.inside)
 
 pub overflow_add-at-in-loop-at-2 : goal.overflow_add-at-in-loop-at-2
@@ -65,7 +65,7 @@ overflow_add-at-in-loop-at-2 c =
     let a = c.args in
     let p = c.requires in
     let o = c.loop-at in
-    let n = K.fill-next a.keys.now a.answers.now o.answers (row_of a.file.now (rows_in (descriptor a.file.now))) p.1.ks o.at o.i (o.invariant p.1) c.loop-at-test.true _ _ c.u32_or_zero-tag.ensures c.body_size-size.ensures.0 in
+    let n = K.fill-next a.keys.now a.answers.now o.answers (row_of a.file.now (rows_in (descriptor a.file.now))) p.1.ks o.at o.i (o.invariant p.1) c.loop-at-test.true _ _ c.number_or_zero-tag.ensures c.body_size-size.ensures.0 in
     omega (arith, n.inside)
 
 pub overflow_add-i : goal.overflow_add-i
@@ -73,7 +73,7 @@ overflow_add-i c =
     let a = c.args in
     let p = c.requires in
     let o = c.loop-at in
-    let n = K.fill-next a.keys.now a.answers.now o.answers (row_of a.file.now (rows_in (descriptor a.file.now))) p.1.ks o.at o.i (o.invariant p.1) c.loop-at-test.true _ _ c.u32_or_zero-tag.ensures c.body_size-size.ensures.0 in
+    let n = K.fill-next a.keys.now a.answers.now o.answers (row_of a.file.now (rows_in (descriptor a.file.now))) p.1.ks o.at o.i (o.invariant p.1) c.loop-at-test.true _ _ c.number_or_zero-tag.ensures c.body_size-size.ensures.0 in
     omega (arith, n.room, (o.invariant p.1).size)
 
 pub loop-at-smaller : goal.loop-at-smaller
@@ -88,7 +88,7 @@ pub loop-at-preserved : goal.loop-at-preserved
 loop-at-preserved c =
     let a = c.args in
     let o = c.loop-at in
-    λ g. (K.fill-next a.keys.now a.answers.now o.answers (row_of a.file.now (rows_in (descriptor a.file.now))) g.ks o.at o.i (o.invariant g) c.loop-at-test.true _ _ c.u32_or_zero-tag.ensures c.body_size-size.ensures.0).next _ (ap (set o.answers o.i) c.row_of-row.ensures.0)
+    λ g. (K.fill-next a.keys.now a.answers.now o.answers (row_of a.file.now (rows_in (descriptor a.file.now))) g.ks o.at o.i (o.invariant g) c.loop-at-test.true _ _ c.number_or_zero-tag.ensures c.body_size-size.ensures.0).next _ (ap (set o.answers o.i) c.row_of-row.ensures.0)
 
 pub shape_of-answers : goal.shape_of-answers
 shape_of-answers c =

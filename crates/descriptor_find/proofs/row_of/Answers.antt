@@ -1,9 +1,6 @@
 use Rattle.descriptor_find.proofs.Children as C
-use Rattle.descriptor_find.specs.Find.{key, has_key}
 use Rattle.algebra.specs.Numbers.{nums}
 use native.Mathlib.Omega.{arith}
-use mathlib.Core.Path.{sym, ap, ◌∙◌, subst}
-use Prim.Native.Nat.{ℕ}
 use Rattle.descriptor_find.proofs.row_of.Goals as goal
 
 pub loop-j-init : goal.loop-j-init
@@ -37,8 +34,8 @@ same_key-requires c =
     let p = c.requires in
     let t = p.0 in
     let m = C.room a.file.now a.first.now a.next.now a.rows t in
-    let w = c.wide.ensures in
-    (omega (arith, w.0, w.1), p.1, p.2, p.3)
+    let w = c.type_inv.first c.loop-j.j in
+    (omega arith, p.1, p.2, p.3)
 
 pub returns-then-same_key : goal.returns-then-same_key
 returns-then-same_key c =
@@ -48,7 +45,7 @@ returns-then-same_key c =
     let m = C.room a.file.now a.first.now a.next.now a.rows t in
     let o = c.loop-j in
     let l = c.loop-j-test.true in
-    let e = c.same_key.ensures ∙ ap (λ (x : ℕ). has_key (key a.file.now x) (a.tag, nums 1 a.size a.keys.now a.body)) c.wide.ensures.0 in
+    let e = c.same_key.ensures in
     (C.walk-found a.file.now a.first.now a.next.now a.rows t (a.tag, nums 1 a.size a.keys.now a.body) o.j (o.invariant t) l _ e c.if-same_key.true, omega (arith, l))
 
 pub offset_bounds-next-j : goal.offset_bounds-next-j
@@ -79,18 +76,17 @@ loop-j-smaller c =
     let m = C.room a.file.now a.first.now a.next.now a.rows t in
     let o = c.loop-j in
     let l = c.loop-j-test.true in
-    let e = c.same_key.ensures ∙ ap (λ (x : ℕ). has_key (key a.file.now x) (a.tag, nums 1 a.size a.keys.now a.body)) c.wide.ensures.0 in
+    let e = c.same_key.ensures in
     let n = (C.walk-on a.file.now a.first.now a.next.now a.rows t (a.tag, nums 1 a.size a.keys.now a.body) o.j (o.invariant t) l _ e c.if-same_key.false).0 in
-    let w = c.wide-j.ensures.0 in
-    omega (arith, l, n, w)
+    omega (arith, l, n)
 
 pub loop-j-preserved : goal.loop-j-preserved
 loop-j-preserved c =
     let a = c.args in
     let o = c.loop-j in
     let l = c.loop-j-test.true in
-    let e = c.same_key.ensures ∙ ap (λ (x : ℕ). has_key (key a.file.now x) (a.tag, nums 1 a.size a.keys.now a.body)) c.wide.ensures.0 in
-    λ t. subst (λ (x : ℕ). C.Walking a.file.now a.first.now a.next.now a.rows t (a.tag, nums 1 a.size a.keys.now a.body) x) (sym c.wide-j.ensures.0) (C.walk-on a.file.now a.first.now a.next.now a.rows t (a.tag, nums 1 a.size a.keys.now a.body) o.j (o.invariant t) l _ e c.if-same_key.false).1
+    let e = c.same_key.ensures in
+    λ t. (C.walk-on a.file.now a.first.now a.next.now a.rows t (a.tag, nums 1 a.size a.keys.now a.body) o.j (o.invariant t) l _ e c.if-same_key.false).1
 
 pub returns : goal.returns
 returns c =

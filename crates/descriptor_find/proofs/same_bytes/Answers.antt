@@ -41,16 +41,6 @@ returns-then-file-start c =
     let l = c.loop-i in
     sym (l.invariant ∙ K.bytes-turn a.file.now a.keys.now a.start a.body a.size l.i c.loop-i-test.true ∙ ap (λ (b : Bool). pick b (equal_bytes (nums 1 (a.size - (l.i + 1)) a.file.now (a.start + (l.i + 1))) (nums 1 (a.size - (l.i + 1)) a.keys.now (a.body + (l.i + 1)))) false) (ne_eqb (get_or a.file.now (a.start + l.i) 0) (get_or a.keys.now (a.body + l.i) 0) c.if-file-start.true))
 
-pub overflow_add-i : goal.overflow_add-i
-overflow_add-i c =
-    let l = c.loop-i-test.true in
-    omega arith
-
-pub loop-i-smaller : goal.loop-i-smaller
-loop-i-smaller c =
-    let l = c.loop-i-test.true in
-    omega (arith, l)
-
 pub loop-i-preserved : goal.loop-i-preserved
 loop-i-preserved c =
     let a = c.args in

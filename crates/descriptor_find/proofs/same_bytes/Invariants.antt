@@ -7,7 +7,3 @@ use Rattle.descriptor_find.proofs.same_bytes.Given as goal
 abbrev pub invariant-loop-i : goal.invariant-loop-i
 invariant-loop-i l =
     equal_bytes (nums 1 l.size l.file l.start) (nums 1 l.size l.keys l.body) ≡ equal_bytes (nums 1 (l.size - l.i) l.file (l.start + l.i)) (nums 1 (l.size - l.i) l.keys (l.body + l.i))
-
-abbrev pub decreases-loop-i : goal.decreases-loop-i
-decreases-loop-i l =
-    l.size - l.i

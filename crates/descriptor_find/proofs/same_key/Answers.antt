@@ -18,10 +18,10 @@ returns-then-file-first c =
     let a = c.args in
     K.compared-short a.file.now a.first a.tag a.size (nums 1 a.size a.keys.now a.body) c.requires.2 c.if-file-first.true
 
-pub returns-then-u32_or_zero-tag : goal.returns-then-u32_or_zero-tag
-returns-then-u32_or_zero-tag c =
+pub returns-then-number_or_zero-tag : goal.returns-then-number_or_zero-tag
+returns-then-number_or_zero-tag c =
     let a = c.args in
-    K.compared-other a.file.now a.first a.tag a.size (nums 1 a.size a.keys.now a.body) c.requires.2 c.if-file-first.false c.u32_or_zero.ensures c.if-u32_or_zero-tag.true
+    K.compared-other a.file.now a.first a.tag a.size (nums 1 a.size a.keys.now a.body) c.requires.2 c.if-file-first.false c.number_or_zero.ensures c.if-number_or_zero-tag.true
 
 pub overflow_add-first-3 : goal.overflow_add-first-3
 overflow_add-first-3 c =
@@ -37,4 +37,4 @@ same_body-requires c =
 pub returns : goal.returns
 returns c =
     let a = c.args in
-    K.compared-body a.file.now a.first a.tag a.size (nums 1 a.size a.keys.now a.body) c.requires.2 c.if-file-first.false c.u32_or_zero.ensures c.if-u32_or_zero-tag.false _ c.same_body.ensures
+    K.compared-body a.file.now a.first a.tag a.size (nums 1 a.size a.keys.now a.body) c.requires.2 c.if-file-first.false c.number_or_zero.ensures c.if-number_or_zero-tag.false _ c.same_body.ensures

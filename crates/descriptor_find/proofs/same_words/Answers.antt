@@ -29,28 +29,18 @@ overflow_add-body c =
     let p = c.requires in
     omega (arith, p.1, c.loop-i-test.true)
 
-pub returns-then-u64_or_zero : goal.returns-then-u64_or_zero
-returns-then-u64_or_zero c =
+pub returns-then-word-number_or_zero : goal.returns-then-word-number_or_zero
+returns-then-word-number_or_zero c =
     let a = c.args in
     let p = c.requires in
     let o = c.loop-i in
     let l = c.loop-i-test.true in
     let f = a.file.now in
     let k = a.keys.now in
-    let x = K.word_at f (a.start + 8 * o.i) _ (omega (arith, p.0, l)) c.u64_or_zero.ensures in
-    let y = K.word_at k (a.body + 8 * o.i) _ (omega (arith, p.1, l)) c.u64_or_zero-in-loop-i.ensures in
+    let x = K.word_at f (a.start + 8 * o.i) _ (omega (arith, p.0, l)) c.number_or_zero-word.ensures in
+    let y = K.word_at k (a.body + 8 * o.i) _ (omega (arith, p.1, l)) c.number_or_zero.ensures in
     let t = K.words-turn f k a.start a.body a.words (λ j. omega (arith, c.type_inv.file j)) (λ j. omega (arith, c.type_inv.keys j)) o.i l in
-    sym (o.invariant ∙ t ∙ ap (λ (b : Bool). pick b (equal_bytes (nums 1 (8 * (a.words - (o.i + 1))) f (a.start + 8 * (o.i + 1))) (nums 1 (8 * (a.words - (o.i + 1))) k (a.body + 8 * (o.i + 1)))) false) (ne_eqb _ _ (λ z. c.if-u64_or_zero.true (x ∙ z ∙ sym y))))
-
-pub overflow_add-i : goal.overflow_add-i
-overflow_add-i c =
-    let l = c.loop-i-test.true in
-    omega (arith, l)
-
-pub loop-i-smaller : goal.loop-i-smaller
-loop-i-smaller c =
-    let l = c.loop-i-test.true in
-    omega (arith, l)
+    sym (o.invariant ∙ t ∙ ap (λ (b : Bool). pick b (equal_bytes (nums 1 (8 * (a.words - (o.i + 1))) f (a.start + 8 * (o.i + 1))) (nums 1 (8 * (a.words - (o.i + 1))) k (a.body + 8 * (o.i + 1)))) false) (ne_eqb _ _ (λ z. c.if-word-number_or_zero.true (x ∙ z ∙ sym y))))
 
 pub loop-i-preserved : goal.loop-i-preserved
 loop-i-preserved c =
@@ -60,10 +50,10 @@ loop-i-preserved c =
     let l = c.loop-i-test.true in
     let f = a.file.now in
     let k = a.keys.now in
-    let x = K.word_at f (a.start + 8 * o.i) _ (omega (arith, p.0, l)) c.u64_or_zero.ensures in
-    let y = K.word_at k (a.body + 8 * o.i) _ (omega (arith, p.1, l)) c.u64_or_zero-in-loop-i.ensures in
+    let x = K.word_at f (a.start + 8 * o.i) _ (omega (arith, p.0, l)) c.number_or_zero-word.ensures in
+    let y = K.word_at k (a.body + 8 * o.i) _ (omega (arith, p.1, l)) c.number_or_zero.ensures in
     let t = K.words-turn f k a.start a.body a.words (λ j. omega (arith, c.type_inv.file j)) (λ j. omega (arith, c.type_inv.keys j)) o.i l in
-    o.invariant ∙ t ∙ ap (λ (b : Bool). pick b (equal_bytes (nums 1 (8 * (a.words - (o.i + 1))) f (a.start + 8 * (o.i + 1))) (nums 1 (8 * (a.words - (o.i + 1))) k (a.body + 8 * (o.i + 1)))) false) (eq-eqb _ _ (sym x ∙ c.if-u64_or_zero.false ∙ y))
+    o.invariant ∙ t ∙ ap (λ (b : Bool). pick b (equal_bytes (nums 1 (8 * (a.words - (o.i + 1))) f (a.start + 8 * (o.i + 1))) (nums 1 (8 * (a.words - (o.i + 1))) k (a.body + 8 * (o.i + 1)))) false) (eq-eqb _ _ (sym x ∙ c.if-word-number_or_zero.false ∙ y))
 
 pub returns : goal.returns
 returns c =

@@ -7,6 +7,3 @@ use Rattle.descriptor_find.proofs.same_words.Given as goal
 abbrev pub invariant-loop-i : goal.invariant-loop-i
 invariant-loop-i l =
     equal_bytes (nums 1 (8 * l.words) l.file l.start) (nums 1 (8 * l.words) l.keys l.body) ≡ equal_bytes (nums 1 (8 * (l.words - l.i)) l.file (l.start + 8 * l.i)) (nums 1 (8 * (l.words - l.i)) l.keys (l.body + 8 * l.i))
-
-abbrev pub decreases-loop-i : goal.decreases-loop-i
-decreases-loop-i l = l.words - l.i

@@ -1,13 +1,13 @@
 -- Scaffolding: a table that is the file's, and keys that were counted.
-use Rattle.std.specs.Prelude.{ℕ, ◌+◌, ◌≤◌, ◌≡◌, true, List, [], map, length}
+use Rattle.std.specs.Prelude.{ℕ, ◌+◌, ◌≤◌, ◌≡◌, true, List, [], Result, Ok, Err, map, length}
 use Rattle.algebra.specs.Reader.{Res, ok, refuse}
 use Rattle.descriptor.specs.Reading.{Row, descriptor}
 use Rattle.descriptor_columns.specs.Columns.{columns_of}
 use Rattle.descriptor_columns.specs.Filled.{onto}
 use Rattle.descriptor_check.specs.Check.{begins}
 use Rattle.descriptor_find.specs.Find.{Key, keys_of, row_of, Answered, answering}
-use Rattle.descriptor_find.specs.declared.KeyCount.{KeyCount}
-use Rattle.descriptor_find.specs.declared.KeyCount.TheVariants as vk
+use Rattle.fault.specs.Fault.{number_of}
+use Rattle.fault.specs.declared.Refusal.{Refusal}
 
 -- the runs of first bytes and of next siblings begin with the columns of the n rows of s
 pub record Lent (s first next : List ℕ) (n : ℕ) : Type 0 where
@@ -31,9 +31,9 @@ abbrev pub counted : ℕ → Res (List Key) → Counted
 counted n (ok ks q) = keys (n + length ks)
 counted n (refuse x p r f) = refusal x p
 
-abbrev pub told_count : KeyCount → Counted
-told_count (vk.Keys n) = keys n
-told_count (vk.Refused x p) = refusal x p
+abbrev pub told_count : Result ℕ Refusal → Counted
+told_count (Ok n) = keys n
+told_count (Err e) = refusal (number_of e.0) e.1
 
 -- keys that are whole, for which there is room
 pub record Keyed (b : List ℕ) (room : ℕ) : Type 0 where

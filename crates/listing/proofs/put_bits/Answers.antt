@@ -11,4 +11,4 @@ use Rattle.listing.proofs.put_bits.Goals as goal
 pub returns : goal.returns
 returns c =
     let a = c.args in
-    c.put_bytes.ensures ∙ ap (λ (l : List ℕ). put_all (a.out.now, a.n) (joined hex l)) (c.put_u32.ensures ∙ stored-whole _ (be 4 a.v) (length-be 4 a.v))
+    c.put_bytes.ensures ∙ ap (λ (l : List ℕ). put_all (a.out.now, a.n) (joined hex l)) (c.put_number.ensures ∙ stored-whole _ (be 4 a.v) (length-be 4 a.v))

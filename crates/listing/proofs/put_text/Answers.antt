@@ -4,12 +4,12 @@ use mathlib.Core.Path.{refl, sym}
 use Rattle.listing.proofs.Putting.{text-turn, text-end}
 use Rattle.listing.proofs.put_text.Goals as goal
 
-pub loop-i-init : goal.loop-i-init
-loop-i-init c = (omega arith, refl, refl)
+pub loop-b-init : goal.loop-b-init
+loop-b-init c = (refl, refl)
 
-pub loop-i-preserved : goal.loop-i-preserved
-loop-i-preserved c =
-    (omega arith, search rules, text-turn _ c.args.text.now _ c.loop-i.i c.loop-i.invariant.2 (omega arith) c.put-at.ensures)
+pub loop-b-preserved : goal.loop-b-preserved
+loop-b-preserved c =
+    (search rules, text-turn _ c.args.text.now _ c.loop-b.b-index c.loop-b.invariant.1 (omega arith) c.put-at.ensures)
 
 pub returns : goal.returns
-returns c = sym (text-end _ c.args.text.now _ c.loop-i.i c.loop-i.invariant.2 c.loop-i-test.false)
+returns c = sym (text-end _ c.args.text.now _ c.loop-b.b-index c.loop-b.invariant.1 c.loop-b-test.false)

@@ -1,5 +1,5 @@
 -- Scaffolding: the passes over a run, in private contracts. What is public cites nothing of it.
-use Rattle.std.specs.Prelude.{ℕ, ◌-◌, ◌≤◌, ◌<◌, ◌≡◌, Bool, true, false, ◌||◌, List, [], length, get_or, leb, eqb}
+use Rattle.std.specs.Prelude.{ℕ, ◌-◌, ◌<◌, ◌≡◌, Bool, true, false, ◌||◌, List, [], length, get_or, leb, eqb, Option, Some, None}
 use Rattle.std.specs.Float.{binary32}
 use Rattle.std.specs.Float.Ieee.{of_bits, to_bits}
 use Rattle.algebra.specs.Chars.{chars}
@@ -11,11 +11,14 @@ use Rattle.conversion.specs.Scale.{channel_of, sample_of_bits}
 abbrev pub Passed : (ℕ → Bool) → List ℕ → ℕ → Type 0
 Passed ok xs i = (j : ℕ) → j < i → ok (get_or xs j 0) ≡ true
 
--- the first element that fails it, or the length
-pub record First (ok : ℕ → Bool) (xs : List ℕ) (i : ℕ) : Type 0 where
-  pub inside : i ≤ length xs
-  pub passed : Passed ok xs i
-  pub fails : i < length xs → ok (get_or xs i 0) ≡ false
+-- the first element that fails it, where one does
+abbrev pub First : (ℕ → Bool) → List ℕ → Option ℕ → Type 0
+First ok xs (Some i) = (i < length xs) × Passed ok xs i × (ok (get_or xs i 0) ≡ false)
+First ok xs None = Passed ok xs (length xs)
+
+-- what is had of each element is what g gives for it
+abbrev pub Gives : (ℕ → ℕ → Type 0) → (ℕ → ℕ) → List ℕ → Type 0
+Gives Had g xs = (j y : ℕ) → j < length xs → Had (get_or xs j 0) y → y ≡ g (get_or xs j 0)
 
 -- a gray sample on its scale
 abbrev pub low : ℕ → Bool

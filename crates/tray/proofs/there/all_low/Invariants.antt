@@ -1,11 +1,6 @@
-use Prim.Native.Nat.{◌-◌, ◌≤◌}
 use mathlib.Core.Path.{◌≡◌}
-use lib.ListN.{length}
 use Rattle.tray.specs.scaffold.Parts.{Passed, low}
 use Rattle.tray.proofs.there.all_low.Given as goal
 
-abbrev pub invariant-loop-i : goal.invariant-loop-i
-invariant-loop-i l = (l.i ≤ length l.samples) × (l.high ≡ 0 → Passed low l.samples l.i)
-
-abbrev pub decreases-loop-i : goal.decreases-loop-i
-decreases-loop-i l = length l.samples - l.i
+abbrev pub invariant-loop-sample : goal.invariant-loop-sample
+invariant-loop-sample l = (l.high ≡ 0 → Passed low l.samples l.sample-index)

@@ -1,13 +1,10 @@
 use Rattle.conversion.specs.Convert.{Converted, gives, and_then}
-use Rattle.convert.specs.Answer.{told_channel}
 use lib.Ieee.{Float}
-use mathlib.Core.Path.{sym, ap, ◌∙◌}
+use mathlib.Core.Path.{ap}
 use Rattle.tray.proofs.there.judge_first.Goals as goal
 
--- src/there.rt:57:1
-pub returns-in-Is : goal.returns-in-Is
-returns-in-Is c = ap (λ (x : Converted Float). and_then {B = Unit} x (λ y. gives tt)) (ap told_channel (sym c.in-Is.is) ∙ c.to_channel.ensures)
+pub returns-in-Ok : goal.returns-in-Ok
+returns-in-Ok c = ap (λ (x : Converted Float). and_then {B = Unit} x (λ y. gives tt)) (c.in-Ok.ensures)
 
--- src/there.rt:57:1
-pub returns-in-Refused : goal.returns-in-Refused
-returns-in-Refused c = ap (λ (x : Converted Float). and_then {B = Unit} x (λ y. gives tt)) (ap told_channel (sym c.in-Refused.is) ∙ c.to_channel.ensures)
+pub returns-in-Err : goal.returns-in-Err
+returns-in-Err c = ap (λ (x : Converted Float). and_then {B = Unit} x (λ y. gives tt)) (c.in-Err.ensures)

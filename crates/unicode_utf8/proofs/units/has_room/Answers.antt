@@ -5,12 +5,11 @@ use lib.Dec.{leb}
 use lib.ListN.{length}
 use Rattle.unicode_text.specs.Reading.{utf8}
 use borrow.Author.Tests.{le-leb}
-use Rattle.unicode_text.specs.Grammar.{Units}
 use Rattle.unicode_text.proofs.Short.{short}
 use Rattle.unicode_utf8.proofs.units.has_room.Goals as goal
 
-pub returns-then-units-room : goal.returns-then-units-room
-returns-then-units-room c = let a = c.args in let u : Units a.units.now = λ j. omega (arith, c.type_inv.units j) in sym (le-leb (length (utf8 a.units.now)) a.room (omega (arith, short a.units.now u)))
+pub returns-then-many-room : goal.returns-then-many-room
+returns-then-many-room g c = let a = c.args in let us = g.U.Units.units a.units in sym (le-leb (length (utf8 us)) a.room (omega (arith, c.many.ensures.0, short us c.many.ensures.1)))
 
 pub returns : goal.returns
-returns c = ap (λ (n : ℕ). leb n c.args.room) c.count.ensures
+returns g c = ap (λ (n : ℕ). leb n c.args.room) c.count.ensures

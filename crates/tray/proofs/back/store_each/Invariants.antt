@@ -1,0 +1,11 @@
+use Prim.Native.Nat.{ℕ}
+use mathlib.Core.Path.{◌≡◌}
+use mathlib.Core.List.{map}
+use lib.ListN.{drop}
+use lib.Seq.{sets}
+use Rattle.tray.specs.scaffold.Parts.{Gives}
+use Rattle.tray.proofs.back.store_each.Given as goal
+
+abbrev pub invariant-loop-i : goal.invariant-loop-i
+invariant-loop-i g l =
+    (f : ℕ → ℕ) → Gives (goal.F-post g l.sample) f l.bits → sets l.initial.out 0 (map f l.bits) ≡ sets l.out l.i (drop l.i (map f l.bits))
