@@ -21,9 +21,12 @@ use Rattle.descriptor.proofs.Rows.{of-root, rows-laid}
 use Rattle.descriptor_judge.specs.Answer.{accepted as acceptedRows, refused as refusedRows, verdict as rowsVerdict}
 use Rattle.palette.specs.Palette.{PaletteColour, colours}
 use Rattle.palette.specs.scaffold.Turn.{list_of, colours_in}
+use Rattle.aco_judge.specs.Answer.{rejected}
+use Rattle.aco_judge.specs.declared.Rejection.{Rejection}
+use Rattle.aco_judge.specs.declared.Rejection.TheVariants as rejection
 use Rattle.palette.specs.declared.Kind.{Kind}
 use Rattle.report.specs.Report.{many, one, plus, sum, record_totals, palette_totals, book_totals, row_totals, FileReport, report_of}
-use Rattle.report.specs.scaffold.Parts.{row_of, refused_report}
+use Rattle.report.specs.scaffold.Parts.{row_of, refused_report, rejected_report}
 use Rattle.report.proofs.Counting.{records-rows}
 
 abbrev accepted_report : List ℕ → FileReport
@@ -36,6 +39,10 @@ refused-report report inside m e = sym (ap (report_of inside) (refused-of report
 
 pub palette-refused : (k : Kind) (s : List ℕ) {x p r f : ℕ} → refused x p r f ≡ verdict length (colours k s) → refused_report x p ≡ report_of palette_totals (colours k s)
 palette-refused k s e = refused-report length palette_totals (colours k s) e
+
+pub palette-rejected : (k : Kind) (s : List ℕ) (e : Rejection) → rejected e ≡ verdict length (colours k s) → rejected_report e ≡ report_of palette_totals (colours k s)
+palette-rejected k s (rejection.Refused e) h = palette-refused k s h
+palette-rejected k s (rejection.Differ p r f) h = palette-refused k s h
 
 pub palette-many : (k : Kind) (s : List ℕ) {n : ℕ} → accepted n ≡ verdict length (colours k s) → n ≡ length (colours_in k s)
 palette-many k s e = let a = accepted-of length (colours k s) e in sym (ap (λ (m : Res (List PaletteColour)). length (list_of m)) a.2 ∙ a.3)

@@ -11,10 +11,9 @@ ghost use Rattle.palette.specs.scaffold.Turn.{colours_in};
 ghost use Rattle.palette.specs.declared.View.TheVariants.{Samples, Channels as ChannelBits};
 ghost use Rattle.report.specs.Report.{many, one, plus, sum, book_place, palette_totals, book_totals, row_totals, report_of, file_report, fits, merged, added};
 ghost use Rattle.report.specs.Answer.{told_added, told_merged};
-ghost use Rattle.report.specs.scaffold.Parts.{told_totals, refused_report, Low, tag_place, units_place, book_row, row_of};
+ghost use Rattle.report.specs.scaffold.Parts.{told_totals, refused_report, rejected_report, Low, tag_place, units_place, book_row, row_of};
 
 use aco_judge::Rejection;
-use acb_read::text_place;
 use colour::Model;
 use fault::{Fault, Refusal};
 use palette::{View, first_at, step_at, view_of};
@@ -179,10 +178,8 @@ fn count_records(space: u16, file: &[u8], first: usize, n: usize, totals: &mut [
     let mut p = first;
     for _i in 0..n {
         let step = acb_read::step_at(file, p, space);
-        let swatch = step.swatch;
-        let name = swatch.name;
-        let text = text_place(name);
-        tally_record(totals, space, text.units);
+        let given = acb_read::given(step.swatch);
+        tally_record(totals, space, given.name.units);
         p = step.next;
     }
 }
@@ -200,16 +197,32 @@ fn refused(refusal: Refusal) -> FileTotals
     }
 }
 
+// The same of a palette: of two lists that differ the place is counted, and no record.
+fn rejected(rejection: Rejection) -> FileTotals
+    ensures { told_totals result ≡ rejected_report rejection }
+{
+    match rejection {
+        Rejection::Refused(refusal) => refused(refusal),
+        Rejection::Differ {
+            place,
+            record: _,
+            field: _,
+        } => refused(Refusal(Fault::ListsDiffer, place)),
+    }
+}
+
 fn palette_totals(kind: palette::Kind, file: &[u8]) -> FileTotals
     ensures { told_totals result ≡ report_of palette_totals (colours kind file.now) }
 {
     match palette::judge(kind, file) {
         Err(Rejection::Refused(refusal)) => refused(refusal),
-        Err(Rejection::Differ {
-            place,
-            record: _,
-            field: _,
-        }) => refused(Refusal(Fault::ListsDiffer, place)),
+        Err(
+            Rejection::Differ {
+                place,
+                record: _,
+                field: _,
+            },
+        ) => refused(Refusal(Fault::ListsDiffer, place)),
         Ok(colours) => {
             let mut totals = [0u32; 31];
             tally(&mut totals, 0, 1);

@@ -1,7 +1,7 @@
 use mathlib.Core.Path.{sym, ap, ◌∙◌}
 use Rattle.palette.specs.Answer.{told}
 use Rattle.report.proofs.Counting.{begun, begun-low}
-use Rattle.report.proofs.Files.{palette-many, palette-refused, palette-accepted}
+use Rattle.report.proofs.Files.{palette-many, palette-rejected, palette-accepted}
 use Rattle.report.proofs.palette_totals.Goals as goal
 
 pub count_colours-requires : goal.count_colours-requires
@@ -9,15 +9,10 @@ count_colours-requires c =
     let a = c.args in
     (palette-many a.kind a.file.now c.in-Ok.ensures, begun-low _ 0 c.tally.ensures)
 
-pub returns-in-Err-Refused : goal.returns-in-Err-Refused
-returns-in-Err-Refused c =
+pub returns-in-Err : goal.returns-in-Err
+returns-in-Err c =
     let a = c.args in
-    c.refused.ensures ∙ palette-refused a.kind a.file.now c.in-Err-Refused.ensures
-
-pub returns-in-Err-Differ : goal.returns-in-Err-Differ
-returns-in-Err-Differ c =
-    let a = c.args in
-    c.refused-in-Err-Differ.ensures ∙ palette-refused a.kind a.file.now c.in-Err-Differ.ensures
+    c.rejected.ensures ∙ palette-rejected a.kind a.file.now c.in-Err.rejection c.in-Err.ensures
 
 pub returns-in-Ok : goal.returns-in-Ok
 returns-in-Ok c =

@@ -9,6 +9,9 @@ use Rattle.palette.specs.scaffold.Turn.{colours_in, place_of, kind_seen}
 use Rattle.palette.specs.declared.View.{View}
 use Rattle.palette.specs.declared.View.TheVariants.{Samples, Counterparts, Channels as ChannelBits}
 use Rattle.report.specs.Report.{one, plus, sum, colour_totals, book_place, FileReport}
+use Rattle.fault.specs.Fault.{number_of}
+use Rattle.aco_judge.specs.declared.Rejection.{Rejection}
+use Rattle.aco_judge.specs.declared.Rejection.TheVariants as rejection
 use Rattle.report.specs.Answer.{told_file}
 use Rattle.report.specs.declared.FileTotals.{FileTotals}
 
@@ -17,6 +20,10 @@ told_totals f = record { number = (told_file f.file).0; place = (told_file f.fil
 
 abbrev pub refused_report : ℕ → ℕ → FileReport
 refused_report x p = record { number = x; place = p; totals = one x }
+
+abbrev pub rejected_report : Rejection → FileReport
+rejected_report (rejection.Refused e) = refused_report (number_of e.0) e.1
+rejected_report (rejection.Differ p r f) = refused_report 7 p
 
 -- 31 totals, each at most m
 pub record Low (t : List ℕ) (m : ℕ) : Type 0 where
