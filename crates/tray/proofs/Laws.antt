@@ -101,27 +101,27 @@ length-results f k (x ∷ xs) h = go (f x) (converted_in_order f (k + 1) xs) (le
 
 -- ---- a turn of the loop that fills: what is left to store, stored over what there is, is the whole
 
-length-map : (g : ℕ → ℕ) (xs : List ℕ) → length (map g xs) ≡ length xs
+length-map : {A B : Type 0} (g : A → B) (xs : List A) → length (map g xs) ≡ length xs
 length-map g [] = refl
 length-map g (x ∷ xs) = ap suc (length-map g xs)
 
-get_d_map : (g : ℕ → ℕ) (xs : List ℕ) (i : ℕ) → i < length xs → get_or (map g xs) i 0 ≡ g (get_or xs i 0)
-get_d_map g [] i h = absurd (omega arith)
-get_d_map g (x ∷ xs) zero h = refl
-get_d_map g (x ∷ xs) (suc i) h = get_d_map g xs i (omega arith)
+get_d_map : {A B : Type 0} (g : A → B) (xs : List A) (i : ℕ) (d : A) → get_or (map g xs) i (g d) ≡ g (get_or xs i d)
+get_d_map g [] i d = refl
+get_d_map g (x ∷ xs) zero d = refl
+get_d_map g (x ∷ xs) (suc i) d = get_d_map g xs i d
 
-module _ (g : ℕ → ℕ) (xs all out : List ℕ) (i : ℕ) (inv : all ≡ sets out i (drop i (map g xs))) where
-  pub fill-turn : (v : ℕ) → i < length xs → v ≡ g (get_or xs i 0) → all ≡ sets (set out i v) (i + 1) (drop (i + 1) (map g xs))
-  fill-turn v h e =
+module _ {A B : Type 0} (g : A → B) (xs : List A) (all out : List B) (i : ℕ) (inv : all ≡ sets out i (drop i (map g xs))) where
+  pub fill-turn : (x : A) (v : B) → i < length xs → x ≡ get_or xs i x → v ≡ g x → all ≡ sets (set out i v) (i + 1) (drop (i + 1) (map g xs))
+  fill-turn x v h e f =
       let l : i < length (map g xs) = omega (arith, length-map g xs) in
-      inv ∙ ap (λ (y : List ℕ). sets out i y) (drop-cons (map g xs) i 0 l)
-      ∙ ap (λ (y : ℕ). sets (set out i y) (suc i) (drop (suc i) (map g xs))) (get_d_map g xs i h ∙ sym e)
+      inv ∙ ap (λ (y : List B). sets out i y) (drop-cons (map g xs) i (g x) l)
+      ∙ ap (λ (y : B). sets (set out i y) (suc i) (drop (suc i) (map g xs))) (get_d_map g xs i x ∙ ap g (sym e) ∙ sym f)
       ∙ ap (λ (k : ℕ). sets (set out i v) k (drop k (map g xs))) (sym (add-one i))
 
   pub fill_end : length xs ≤ i → all ≡ out
   fill_end h =
       let l : length (map g xs) ≤ i = omega (arith, length-map g xs) in
-      inv ∙ ap (λ (y : List ℕ). sets out i y) (drop_of_length-le (map g xs) l)
+      inv ∙ ap (λ (y : List B). sets out i y) (drop_of_length-le (map g xs) l)
 
 -- ---- what holds of the elements before i, and of that at i
 pub passed-more : (ok : ℕ → Bool) (xs : List ℕ) (i : ℕ) → Passed ok xs i → ok (get_or xs i 0) ≡ true → Passed ok xs (i + 1)

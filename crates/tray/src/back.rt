@@ -1,12 +1,13 @@
 // Channels to samples.
-ghost use Rattle.std.specs.Prelude.{◌≡◌, ℕ, true, map, ◌≤◌, length};
+ghost use Rattle.std.specs.Prelude.{◌≡◌, true, ◌≤◌, length};
 ghost use Rattle.std.proofs.lemmas.List.Edits.{sets};
 ghost use Rattle.algebra.specs.Reader.{pick};
 ghost use Rattle.conversion.specs.Convert.{gives, and_then, to_sample};
 ghost use Rattle.conversion.specs.Tray.{converted_in_order, samples_of};
 ghost use Rattle.tray.specs.Answer.{told};
-ghost use Rattle.tray.specs.scaffold.Parts.{Passed, First, Gives, unit, converted, results, judged};
+ghost use Rattle.tray.specs.scaffold.Parts.{Passed, First, unit, converted, results, judged};
 
+use crate::each::store_each;
 use colour::{Model, is_channel};
 use convert::{gray_sample, rgb_sample, to_sample};
 use fault::{Fault, Refusal};
@@ -63,17 +64,6 @@ fn judge(tag: u32, bits: &[u32]) -> Result<(), Refusal>
         };
     }
     judge_first(tag, bits[0])
-}
-
-// Stores what each channel becomes, in their order.
-fn store_each<F: Fn(u32) -> u16>(bits: &[u32], out: &mut [u16], sample: F)
-    requires always { F.IsAlwaysCallable sample }
-    requires room { length bits.now ≤ length out.old }
-    ensures { (g : ℕ → ℕ) → Gives (F.post sample) g bits.now → out.new ≡ sets out.old 0 (map g bits.now) }
-{
-    for i in 0..bits.len() {
-        out[i] = sample(bits[i]);
-    }
 }
 
 // The samples of channels that were judged, a loop for each model.

@@ -3,6 +3,7 @@
 #![tactic(auto)]
 
 mod back;
+mod each;
 mod there;
 
 pub use back::to_samples;

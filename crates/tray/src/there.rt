@@ -1,11 +1,12 @@
 // Samples to channels.
-ghost use Rattle.std.specs.Prelude.{◌≡◌, ℕ, true, map, ◌≤◌, length};
+ghost use Rattle.std.specs.Prelude.{◌≡◌, true, ◌≤◌, length};
 ghost use Rattle.std.proofs.lemmas.List.Edits.{sets};
 ghost use Rattle.conversion.specs.Convert.{gives, and_then, to_channel};
 ghost use Rattle.conversion.specs.Tray.{converted_in_order, to_bits_of, channels_of};
 ghost use Rattle.tray.specs.Answer.{told};
-ghost use Rattle.tray.specs.scaffold.Parts.{Passed, First, Gives, low, results, judged};
+ghost use Rattle.tray.specs.scaffold.Parts.{Passed, First, low, results, judged};
 
+use crate::each::store_each;
 use colour::{CMYK, GRAY, Model, RGB, bits_of};
 use convert::{quotient, to_channel};
 use fault::{Fault, Refusal};
@@ -57,17 +58,6 @@ fn judge(space: u16, samples: &[u16]) -> Result<(), Refusal>
             None => Ok(()),
         },
         _ => judge_first(space, samples[0]),
-    }
-}
-
-// Stores what each sample becomes, in their order.
-fn store_each<F: Fn(u16) -> u32>(samples: &[u16], out: &mut [u32], channel: F)
-    requires always { F.IsAlwaysCallable channel }
-    requires room { length samples.now ≤ length out.old }
-    ensures { (g : ℕ → ℕ) → Gives (F.post channel) g samples.now → out.new ≡ sets out.old 0 (map g samples.now) }
-{
-    for i in 0..samples.len() {
-        out[i] = channel(samples[i]);
     }
 }
 

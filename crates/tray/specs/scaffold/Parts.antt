@@ -17,8 +17,8 @@ First ok xs (Some i) = (i < length xs) × Passed ok xs i × (ok (get_or xs i 0) 
 First ok xs None = Passed ok xs (length xs)
 
 -- what is had of each element is what g gives for it
-abbrev pub Gives : (ℕ → ℕ → Type 0) → (ℕ → ℕ) → List ℕ → Type 0
-Gives Had g xs = (j y : ℕ) → j < length xs → Had (get_or xs j 0) y → y ≡ g (get_or xs j 0)
+abbrev pub Gives : {A B : Type 0} → (A → B → Type 0) → (A → B) → List A → Type 0
+Gives {A} {B} Had g xs = (j : ℕ) (x : A) (y : B) → j < length xs → x ≡ get_or xs j x → Had x y → y ≡ g x
 
 -- a gray sample on its scale
 abbrev pub low : ℕ → Bool
