@@ -32,24 +32,21 @@ fn whole_at(run: &[u32], k: usize) -> Record
     }
 }
 
-fn no_record() -> Record
-    ensures { result ≡ taken [] }
-{
-    Record {
-        id: 0,
-        name: 0,
-        letters: 0,
-        payload: 0,
-        size: 0,
-    }
-}
+// What a run gives for a record that it does not have whole.
+const NO_RECORD: Record = Record {
+    id: 0,
+    name: 0,
+    letters: 0,
+    payload: 0,
+    size: 0,
+};
 
 /// Record k of a run, all zeros where the run does not have it whole.
 pub fn record_at(run: &[u32], k: usize) -> Record
     ensures { result ≡ record_in run.now k }
 {
     if run.len() / WIDTH <= k {
-        return no_record();
+        return NO_RECORD;
     }
     whole_at(run, k)
 }

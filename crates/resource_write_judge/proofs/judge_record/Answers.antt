@@ -7,7 +7,7 @@ pub returns-then-given-gt65535 : goal.returns-then-given-gt65535
 returns-then-given-gt65535 c = id-fault c.args.text.now c.args.given c.if-given-gt65535.true
 
 pub returns-then-given-gt255 : goal.returns-then-given-gt255
-returns-then-given-gt255 c = letters-fault c.args.text.now c.args.given (omega arith) c.if-given-gt255.true
+returns-then-given-gt255 c = letters-fault c.args.text.now c.args.given (omega arith) (omega (arith, c.if-given-gt255.true))
 
 pub returns-in_err-judge_part : goal.returns-in_err-judge_part
 returns-in_err-judge_part c =
