@@ -11,7 +11,7 @@ use lib.Seq.{get_or-set_same, get_or-set_other}
 use borrow.Author.Tests.{eq-eqb, ne_eqb, leb-true, leb-false, ltb-true, ltb-false}
 use native.Mathlib.Omega.{arith}
 use native.Mathlib.Numerals.{add-one}
-use native.Mathlib.Nat.{mul_comm, mul-suc, mul-le-mul_left, mul-le-mul_right, div-add-mod'}
+use native.Mathlib.Nat.{mul_comm, mul-suc, mul-le-mul_left, div-add-mod'}
 use Rattle.algebra.specs.Numbers.{Bytes}
 use Rattle.algebra.specs.Reader.{Res, refuse, pick}
 use Rattle.algebra.specs.Table.{refused}

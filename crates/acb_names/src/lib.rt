@@ -4,8 +4,8 @@
 
 ghost use Rattle.std.specs.Prelude.{◌≡◌, ◌+◌, ◌*◌, ◌≤◌, ◌<◌, length};
 ghost use Rattle.algebra.specs.Numbers.{nums};
-ghost use Rattle.acb_order.specs.Names.{compare_names};
 ghost use Rattle.algebra.specs.Reader.{limit};
+ghost use Rattle.acb_order.specs.Names.{compare_names};
 ghost use Rattle.acb_order.specs.Places.{units_at, name_at};
 ghost use Rattle.acb_order.specs.scaffold.Places.{next_record};
 ghost use Rattle.acb_names.specs.Answer.{told};
