@@ -19,7 +19,8 @@ use Rattle.descriptor_entry.specs.declared.Field.{Field}
 use Rattle.descriptor_entry.specs.declared.Field.TheVariants as f
 use Rattle.descriptor_entry.specs.declared.Shape.{Shape}
 use Rattle.descriptor_entry.specs.Pieces.{Piece, number, size, bytes, bytes_of, Fits}
-use Rattle.descriptor_entry.specs.Shapes.{Entry, number_in, kind_of, count_of, id_length, pieces_of, object, shape_of}
+use Rattle.std.specs.Option.{unwrap_or}
+use Rattle.descriptor_entry.specs.Shapes.{Entry, number_in, kind_of, count_of, id_length, pieces_of, object, shape_of, wanted}
 use Rattle.descriptor_entry.specs.Entries.{keyed, key_pieces, field_pieces, head_pieces, root_pieces, asks}
 use Rattle.descriptor_entry_fields.proofs.Tables.{key-pieces, no_key}
 use Rattle.descriptor_entry.proofs.Laws.{bytes-append, size-append, bytes-length, fits-left, fits-right}
@@ -303,14 +304,14 @@ module _ (text : List ℕ) (what : ℕ) (e : Entry) (kd : ℕ) (sh : Shape) (hk 
         unfolding tail
         head-fields = four-behind text kd (pick sh.known 0 4) (field_pieces 0 sh e) q₁ room₁ behind q₂ room₂ e₂ l₂
 
-        pub head-put : (o₃ : List ℕ) (q₃ a n : ℕ) → Stored text (field_pieces 0 sh e) o₂ q₂ o₃ q₃ → a ≡ number_in e 15 → n ≡ pick sh.holds (count_of e) 0
-            → PutHead text (head_pieces (due_of what 0) e) (asks (shape_of (due_of what 0) (kind_of e)) 0 0 0 e) out at o₃ (record { end = q₃; what = sh.what; objects = a; count = n })
+        pub head-put : (o₃ : List ℕ) (q₃ w a n : ℕ) → Stored text (field_pieces 0 sh e) o₂ q₂ o₃ q₃ → w ≡ unwrap_or sh.below 0 → a ≡ number_in e 15 → n ≡ wanted sh.below (count_of e)
+            → PutHead text (head_pieces (due_of what 0) e) (asks (shape_of (due_of what 0) (kind_of e)) 0 0 0 e) out at o₃ (record { end = q₃; what = w; objects = a; count = n })
         unfolding key tail
-        head-put o₃ q₃ a n s₃ ha hn = record {
+        head-put o₃ q₃ w a n s₃ hw ha hn = record {
           stored = subst (λ (ps : List Piece). Stored text ps out at o₃ q₃) (sym head-code)
               (stored-join text key tail out at o₁ q₁ o₃ q₃ head-key.fits s₁ (four-stored text kd (pick sh.known 0 4) (field_pieces 0 sh e) q₁ room₁ behind o₁ o₂ q₂ s₂ e₂ o₃ q₃ s₃));
-          below_is = ap₂ (λ (y : Shape) (z : ℕ). due_of y.what z) own ha;
-          count_is = hn ∙ ap (λ (y : Shape). pick y.holds (count_of e) 0) own;
+          below_is = ap₂ (λ (y z : ℕ). due_of y z) (hw ∙ ap (λ (y : Shape). unwrap_or y.below 0) own) ha;
+          count_is = hn ∙ ap (λ (y : Shape). wanted y.below (count_of e)) own;
         }
 
 -- ---- the root's

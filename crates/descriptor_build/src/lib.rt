@@ -142,7 +142,7 @@ fn put_head(out: &mut [u8], at: usize, text: &[u8], row: &[u32], what: u32) -> P
     let kind = number_in(row, 0);
     let shape = descriptor_entry_fields::shape_of(what, kind);
     let count = descriptor_entry_fields::members_in(row, shape);
-    let below = shape.what;
+    let below = shape.below.unwrap_or(0);
     let objects = number_in(row, 15);
     let p = put_key(out, at, text, row, what);
     let q = put_word(out, p, kind);

@@ -1,12 +1,14 @@
 -- The head of a member where the bytes of an entry stand. Assumes nothing.
 use Prim.Native.Nat.{ℕ, ◌+◌}
-use mathlib.Core.Path.{◌≡◌, refl, sym, ap, ap₂, subst, subst₂}
+use mathlib.Core.Path.{◌≡◌, refl, sym, ap, subst, subst₂}
 use mathlib.Core.List.{List, ◌∷◌, ◌++◌}
 use mathlib.Core.Bool.{Bool, true, false}
 use lib.Dec.{eqb}
 use lib.ListN.{length, length-append}
 use native.Mathlib.Omega.{arith}
 use native.Mathlib.Nat.{add-zero}
+use Rattle.std.specs.Prelude.{Option}
+use Rattle.std.specs.Option.{unwrap_or}
 use Rattle.algebra.specs.Chars.{chars}
 use Rattle.algebra.specs.Numbers.{At, Bytes}
 use Rattle.algebra.specs.Reader.{Res, ok, refuse, Reader, then, pick, field, rule, unless, judged}
@@ -21,7 +23,7 @@ use Rattle.descriptor_raw.specs.Raw.{due_of}
 use Rattle.descriptor_entry.specs.declared.Field.TheVariants as f
 use Rattle.descriptor_entry.specs.declared.Shape.{Shape}
 use Rattle.descriptor_entry.specs.Pieces.{Piece, number, size, bytes, fault, fault_of, Fits}
-use Rattle.descriptor_entry.specs.Shapes.{Entry, number_in, kind_of, count_of, objects_of, pieces_of, both, item_shapes, form_shapes, shape_in, item_shape, form_shape, column_shape, shape_of}
+use Rattle.descriptor_entry.specs.Shapes.{Entry, number_in, kind_of, count_of, objects_of, pieces_of, both, wanted, item_shapes, form_shapes, shape_in, item_shape, form_shape, column_shape, shape_of}
 use Rattle.descriptor_entry.specs.Entries.{key_pieces, field_pieces, head_pieces, asks}
 use Rattle.descriptor_entry.proofs.Laws.{bytes-append, faults-append, fits-left, fits-right, bytes-length}
 use Rattle.descriptor_entry.proofs.Meeting.{Meets, good, bad, meets-then, begins}
@@ -70,8 +72,7 @@ module _ (s text : List ℕ) (b : Bytes text) where
   form-by e depth at u w (each {a = r} {b = sh} y) fit stands =
       let z : ◌≡◌ {A = ℕ} (pick sh.known 0 4) 0 = ap (λ (t : Bool). pick t 0 4) y.known in
       let o : bare (kind_of e) at depth (at + 4) ≡ asks sh depth at (at + 4) e =
-      ap₂ (λ (c : Due) (n : ℕ). record { head = record { kind = kind_of e; first = at; depth = depth; value = at + 4 }; below = c; count = n })
-      (sym (ap (λ (k : ℕ). due_of k (objects_of e)) y.none_below)) (sym (ap (λ (t : Bool). pick t (count_of e) 0) y.no-child)) in
+      ap (λ (o : Option ℕ). record { head = record { kind = kind_of e; first = at; depth = depth; value = at + 4 }; below = due_of (unwrap_or o 0) (objects_of e); count = wanted o (count_of e) }) (sym y.no-child) in
       subst₂ (λ (n : ℕ) (p : Opened). Meets (then (ref_value r s (at + 4)) (λ o q. ok (bare (kind_of e) at depth (at + 4)) q)) n (at + 4 + length (bytes text (field_pieces 0 sh e))) p)
       (sym (first-none (pick sh.known 0 4) (fault text (field_pieces 0 sh e)) z)) o (meets-made ((y.reads e fit).meets (at + 4) stands) (λ u. bare (kind_of e) at depth (at + 4)))
   form-by e depth at u w neither fit stands = bad at 0 0 refl (omega arith)

@@ -1,10 +1,12 @@
 -- The head of a member, where the bytes of an entry stand: each kind by the two tables. Assumes nothing.
 use Prim.Native.Nat.{ℕ}
-use mathlib.Core.Path.{◌≡◌, refl, sym, ap, ◌∙◌, subst, subst₂}
+use mathlib.Core.Path.{◌≡◌, refl, sym, ap, ◌∙◌, subst}
 use mathlib.Core.List.{List, [], ◌∷◌, ◌++◌, append-nil}
 use mathlib.Core.Bool.{Bool, true, false}
 use lib.Dec.{eqb}
 use native.Mathlib.Omega.{arith}
+use Rattle.std.specs.Prelude.{Option, None}
+use Rattle.std.specs.Option.{unwrap_or}
 use Rattle.algebra.specs.Numbers.{Bytes, joined}
 use Rattle.algebra.specs.Reader.{ok, Reader, pick, field, give, ◌>>=◌, done}
 use Rattle.algebra.specs.Faults.{faults}
@@ -18,7 +20,7 @@ use Rattle.descriptor_entry.specs.declared.Field.TheVariants as f
 use Rattle.descriptor_entry.specs.declared.Shape.{Shape}
 use Rattle.descriptor_entry.specs.Pieces.{Piece, Fits}
 use Rattle.descriptor_entry.specs.Shapes as sh
-use Rattle.descriptor_entry.specs.Shapes.{Entry, number_in, wide_of, count_of, objects_of, pieces_of, only, both, classed, holding, item_shapes, form_shapes}
+use Rattle.descriptor_entry.specs.Shapes.{Entry, number_in, wide_of, count_of, objects_of, pieces_of, only, both, classed, holding, wanted, item_shapes, form_shapes}
 use Rattle.descriptor_entry.specs.Entries.{field_pieces}
 use Rattle.descriptor_entry.proofs.Meeting.{good, Reads, reads_then, reads-give, reads-field, reads-skip}
 use Rattle.descriptor_entry.proofs.Fields.{reads-id, reads_bytes, reads-unicode, reads-flag, reads-double, reads-unit-double}
@@ -46,25 +48,24 @@ paired {P = P} (row {t = u} {a = a} {b = b} {as' = as'} {bs = bs} p ps) t = go (
 module _ (s text : List ℕ) (b : Bytes text) where
   pub record Suits (sort : Sort) (sh : Shape) : Type 0 where
     pub known : sh.known ≡ true
-    pub reads : (e : Entry) → Fits text (field_pieces 0 sh e) → Reads s text (field_pieces 0 sh e) (opens sort) (due_of sh.what (objects_of e), pick sh.holds (count_of e) 0)
+    pub reads : (e : Entry) → Fits text (field_pieces 0 sh e) → Reads s text (field_pieces 0 sh e) (opens sort) (due_of (unwrap_or sh.below 0) (objects_of e), wanted sh.below (count_of e))
 
   pub record SuitsForm (r : Reader Unit) (sh : Shape) : Type 0 where
     pub known : sh.known ≡ true
-    pub no-child : sh.holds ≡ false
-    pub none_below : sh.what ≡ 0
+    pub no-child : sh.below ≡ None
     pub reads : (e : Entry) → Fits text (field_pieces 0 sh e) → Reads s text (field_pieces 0 sh e) (ref_value r) tt
 
   reads-class : (e : Entry) → Fits text (pieces_of 0 e (f.Text 3) ++ pieces_of 0 e (f.Id 5)) → Reads s text (pieces_of 0 e (f.Text 3) ++ pieces_of 0 e (f.Id 5)) class tt
   unfolding class
   reads-class e fit = reads_then s text (reads-unicode s text b (number_in e 3) (number_in e 4) fit.0 fit.1.0) (λ u. id) (reads-id s text (number_in e 5) (number_in e 6) fit.1.1.0 fit.1.1.1.0)
 
-  leaf-suits : (p : Reader Unit) (sh : Shape) → sh.known ≡ true → sh.holds ≡ false → sh.what ≡ 0 → ((e : Entry) → Fits text (field_pieces 0 sh e) → Reads s text (field_pieces 0 sh e) p tt) → Suits (leaf p) sh
-  leaf-suits p sh k n w r = record {
+  leaf-suits : (p : Reader Unit) (sh : Shape) → sh.known ≡ true → sh.below ≡ None → ((e : Entry) → Fits text (field_pieces 0 sh e) → Reads s text (field_pieces 0 sh e) p tt) → Suits (leaf p) sh
+  leaf-suits p sh k n r = record {
     known = k;
     reads = λ e fit.
         let x : Reads s text (field_pieces 0 sh e ++ []) (opens (leaf p)) (items, 0) = reads_then s text (r e fit) (λ u. give (items, 0)) (reads-give s text (items, 0)) in
         let y : Reads s text (field_pieces 0 sh e) (opens (leaf p)) (items, 0) = subst (λ (l : List Piece). Reads s text l (opens (leaf p)) (items, 0)) (append-nil (field_pieces 0 sh e)) x in
-        subst₂ (λ (a : Due) (c : ℕ). Reads s text (field_pieces 0 sh e) (opens (leaf p)) (a, c)) (sym (ap (λ (z : ℕ). due_of z (objects_of e)) w)) (sym (ap (λ (z : Bool). pick z (count_of e) 0) n)) y;
+        subst (λ (o : Option ℕ). Reads s text (field_pieces 0 sh e) (opens (leaf p)) (due_of (unwrap_or o 0) (objects_of e), wanted o (count_of e))) (sym n) y;
   }
 
   -- a field of the class, where other fields follow
@@ -139,18 +140,18 @@ module _ (s text : List ℕ) (b : Bytes text) where
 
   pub item-table : Paired Suits types item_shapes
   item-table =
-      row (leaf-suits flag _ refl refl refl flag-reads)
-      (row (leaf-suits class _ refl refl refl class-reads)
-      (row (leaf-suits class _ refl refl refl class-reads)
-      (row (leaf-suits double _ refl refl refl double-reads)
-      (row (leaf-suits enumerated _ refl refl refl enumerated-reads)
-      (row (leaf-suits raw_bytes _ refl refl refl bytes-reads)
-      (row (leaf-suits raw_bytes _ refl refl refl bytes-reads)
-      (row (leaf-suits raw_bytes _ refl refl refl bytes-reads)
-      (row (leaf-suits (skip 4) _ refl refl refl long-reads)
-      (row (leaf-suits (skip 8) _ refl refl refl comp-reads)
-      (row (leaf-suits unicode _ refl refl refl text-reads)
-      (row (leaf-suits unit_double _ refl refl refl measure-reads)
+      row (leaf-suits flag _ refl refl flag-reads)
+      (row (leaf-suits class _ refl refl class-reads)
+      (row (leaf-suits class _ refl refl class-reads)
+      (row (leaf-suits double _ refl refl double-reads)
+      (row (leaf-suits enumerated _ refl refl enumerated-reads)
+      (row (leaf-suits raw_bytes _ refl refl bytes-reads)
+      (row (leaf-suits raw_bytes _ refl refl bytes-reads)
+      (row (leaf-suits raw_bytes _ refl refl bytes-reads)
+      (row (leaf-suits (skip 4) _ refl refl long-reads)
+      (row (leaf-suits (skip 8) _ refl refl comp-reads)
+      (row (leaf-suits unicode _ refl refl text-reads)
+      (row (leaf-suits unit_double _ refl refl measure-reads)
       (row list-suits
       (row object-suits
       (row object-suits
@@ -164,7 +165,6 @@ module _ (s text : List ℕ) (b : Bytes text) where
   form-suits r c d x = record {
     known = refl;
     no-child = refl;
-    none_below = refl;
     reads = λ e fit. reads_then s text (reads-class e (class-fit e (pieces_of 0 e c ++ pieces_of 0 e d) fit)) (λ u. r) (x e fit.1.1.1.1);
   }
 

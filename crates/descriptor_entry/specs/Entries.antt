@@ -1,5 +1,6 @@
 -- A descriptor from entries: the root, then its members in file order. An entry belongs to the innermost container that still wants members.
 use Rattle.std.specs.Prelude.{ℕ, suc, ◌+◌, ◌^◌, ◌<◌, ◌≡◌, List, [], ◌∷◌, ◌++◌, Bool, true, false, leb, eqb, length, get_or}
+use Rattle.std.specs.Option.{unwrap_or}
 use Rattle.algebra.specs.Chars.{chars}
 use Rattle.algebra.specs.Reader.{pick, limit}
 use Rattle.algebra.specs.Faults.{first_of}
@@ -8,7 +9,7 @@ use Rattle.algebra.specs.Writing.{Outcome, needs, writes}
 use Rattle.descriptor_heads.specs.Heads.{Due, items, pairs, forms, columns, Opened, Stack, settled, after, deepest}
 use Rattle.descriptor_raw.specs.Raw.{due_of}
 use Rattle.descriptor_entry.specs.Pieces.{Piece, number, size, bytes, fault}
-use Rattle.descriptor_entry.specs.Shapes.{width, Entry, kind_of, count_of, objects_of, pieces_of, object, shape_of}
+use Rattle.descriptor_entry.specs.Shapes.{width, Entry, kind_of, count_of, objects_of, pieces_of, object, wanted, shape_of}
 use Rattle.descriptor_entry.specs.declared.Field.TheVariants as f
 use Rattle.descriptor_entry.specs.declared.Shape.{Shape}
 
@@ -54,8 +55,8 @@ root_pieces e = number 4 16 (pick (eqb (kind_of e) (chars "Objc")) 0 4) ∷ fiel
 abbrev pub asks : Shape → (depth first v : ℕ) → Entry → Opened
 asks sh depth first v e = record {
   head = record { kind = kind_of e; first = first; depth = depth; value = v };
-  below = due_of sh.what (objects_of e);
-  count = pick sh.holds (count_of e) 0;
+  below = due_of (unwrap_or sh.below 0) (objects_of e);
+  count = wanted sh.below (count_of e);
 }
 
 -- ---- the members in their order

@@ -1,7 +1,7 @@
 -- An entry of a descriptor to be built: 16 numbers, and which of them the head of each kind has, in the order of the file.
 -- 0 the kind; 1, 2 the key's ID; 3, 4 the class's Unicode string; 5, 6 the class's ID; 7, 8 the first part; 9, 10 the second; of each two the length or count
 -- field, and the place of its bytes in the text; 11 the unit; 12, 13 a number's high and low 32 bits; 14 the count of members; 15 the number of objects.
-use Rattle.std.specs.Prelude.{ℕ, ◌+◌, ◌*◌, List, [], ◌∷◌, true, false, leb, eqb, get_or}
+use Rattle.std.specs.Prelude.{ℕ, ◌+◌, ◌*◌, List, [], ◌∷◌, true, false, Option, Some, None, leb, eqb, get_or}
 use Rattle.std.specs.Float.{binary64}
 use Rattle.std.specs.Float.Ieee.{of_bits}
 use Rattle.std.specs.Float.Ieee.Scale.{finite}
@@ -62,11 +62,11 @@ pieces_of m e (f.Doubles i) = number 4 (number_in e i) (pick (eqb (number_in e i
 
 -- no member below
 abbrev pub bare : (a b c d : Field) → Shape
-bare a b c d = record { known = true; first = a; second = b; third = c; fourth = d; holds = false; what = 0 }
+bare a b c d = record { known = true; first = a; second = b; third = c; fourth = d; below = None }
 
 -- members below: 0 items, 1 pairs, 2 reference items, 3 the pairs of an object array
 abbrev pub holding : (what : ℕ) (a b c d : Field) → Shape
-holding what a b c d = record { known = true; first = a; second = b; third = c; fourth = d; holds = true; what = what }
+holding what a b c d = record { known = true; first = a; second = b; third = c; fourth = d; below = Some what }
 
 abbrev pub only : Field → Shape
 only a = bare a f.Nothing f.Nothing f.Nothing
@@ -103,7 +103,7 @@ column_shapes = (chars "UnFl", both f.ArrayMeasure (f.Doubles 7)) ∷ []
 
 -- a kind that may not stand there has no field and wants no members
 abbrev pub no_shape : Shape
-no_shape = record { known = false; first = f.Nothing; second = f.Nothing; third = f.Nothing; fourth = f.Nothing; holds = false; what = 0 }
+no_shape = record { known = false; first = f.Nothing; second = f.Nothing; third = f.Nothing; fourth = f.Nothing; below = None }
 
 abbrev pub shape_in : Known Shape → Shape
 shape_in (is sh) = sh
@@ -124,6 +124,11 @@ shape_of items t = item_shape t
 shape_of pairs t = item_shape t
 shape_of forms t = form_shape t
 shape_of (columns m) t = column_shape t
+
+-- so many members, where there are any
+abbrev pub wanted : Option ℕ → ℕ → ℕ
+wanted None n = 0
+wanted (Some what) n = n
 
 -- its fields in their order
 abbrev pub fields_of : Shape → List Field

@@ -25,15 +25,17 @@ pub enum Field {
     Doubles(usize),
 }
 
-/// The fields behind a kind, in their order; whether the kind is known, whether its row has children,
-/// and what they are: 0 items, 1 pairs, 2 reference items, 3 the pairs of an object array.
+/// The fields behind a kind, in their order; whether the kind is known; and what its row's children are,
+/// if it has any: 0 items, 1 pairs, 2 reference items, 3 the pairs of an object array.
 #[derive(Clone, Copy, Debug, PartialEq, Eq)]
 pub struct Shape {
+    // Kept: no plainer. A kind that is not known has no field and no children, so that nothing but the
+    // fault asks for it; as an `Option` each pass over a head would take the shape apart first.
     pub known: bool,
     pub first: Field,
     pub second: Field,
     pub third: Field,
     pub fourth: Field,
-    pub holds: bool,
-    pub what: u32,
+    // Kept: numbers, as `descriptor_raw` and `descriptor_columns` have them for heads and levels.
+    pub below: Option<u32>,
 }

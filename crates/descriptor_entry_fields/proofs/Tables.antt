@@ -1,12 +1,11 @@
 -- An entry's numbers, and the fields of a kind by the number of what is due. Assumes nothing.
 use Prim.Native.Nat.{ℕ, zero, suc, ◌≤◌, ◌<◌}
-use mathlib.Core.Path.{◌≡◌, refl, sym, ap, ◌∙◌}
+use mathlib.Core.Path.{◌≡◌, refl, ap}
 use mathlib.Core.List.{List, [], ◌∷◌}
 use mathlib.Core.Bool.{Bool, true, false}
 use lib.ListN.{length, get_or}
 use borrow.Author.Tests.{eq-eqb, ne_eqb}
 use native.Mathlib.Omega.{arith}
-use Rattle.algebra.specs.Reader.{pick}
 use Rattle.descriptor_raw.specs.Raw.{due_of}
 use Rattle.descriptor_entry.specs.Shapes.{Entry, id_length, pieces_of, item_shape, form_shape, column_shape, shape_of}
 use Rattle.descriptor_entry.specs.Entries.{keyed, key_pieces}
@@ -64,11 +63,3 @@ no_key zero e h = refl
 no_key (suc zero) e h = let z : ◌≡◌ {A = ℕ} 0 1 = cc in absurd (omega arith)
 no_key (suc (suc zero)) e h = refl
 no_key (suc (suc (suc n))) e h = let z : ◌≡◌ {A = ℕ} 0 1 = cc in absurd (omega arith)
-
--- ---- how many members
-
-pub held : (b : Bool) (n r : ℕ) → b ≡ true → r ≡ n → r ≡ pick b n 0
-held b n r e i = i ∙ sym (ap (λ (t : Bool). pick t n 0) e)
-
-pub not-held : (b : Bool) (n : ℕ) → b ≡ false → 0 ≡ pick b n 0
-not-held b n e = sym (ap (λ (t : Bool). pick t n 0) e)

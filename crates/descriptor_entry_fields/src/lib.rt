@@ -2,9 +2,8 @@
 #![tactic(auto)]
 
 ghost use Rattle.std.specs.Prelude.{◌≡◌, ◌+◌, ◌<◌};
-ghost use Rattle.algebra.specs.Reader.{pick};
 ghost use Rattle.descriptor_raw.specs.Raw.{due_of};
-ghost use Rattle.descriptor_entry.specs.Shapes.{number_in, count_of, id_length, bare, holding, object, no_shape, item_shape, form_shape, column_shape, shape_of};
+ghost use Rattle.descriptor_entry.specs.Shapes.{number_in, count_of, id_length, bare, holding, object, no_shape, wanted, item_shape, form_shape, column_shape, shape_of};
 ghost use Rattle.descriptor_entry.specs.Entries.{keyed};
 ghost use Rattle.descriptor_entry.specs.declared.Field.TheVariants as fs;
 
@@ -51,8 +50,7 @@ fn leaf(first: Field, second: Field, third: Field, fourth: Field) -> Shape
         second,
         third,
         fourth,
-        holds: false,
-        what: 0,
+        below: None,
     }
 }
 
@@ -66,8 +64,7 @@ fn holder(what: u32, first: Field, second: Field, third: Field, fourth: Field) -
         second,
         third,
         fourth,
-        holds: true,
-        what,
+        below: Some(what),
     }
 }
 
@@ -81,8 +78,7 @@ fn unknown() -> Shape
         second: Field::Nothing,
         third: Field::Nothing,
         fourth: Field::Nothing,
-        holds: false,
-        what: 0,
+        below: None,
     }
 }
 
@@ -218,7 +214,10 @@ pub fn is_keyed(what: u32) -> bool
 
 // How many members an entry wants.
 pub fn members_in(row: &[u32], shape: Shape) -> u32
-    ensures { result ≡ pick shape.holds (count_of row.now) 0 }
+    ensures { result ≡ wanted shape.below (count_of row.now) }
 {
-    if shape.holds { number_in(row, 14) } else { 0 }
+    match shape.below {
+        Some(_) => number_in(row, 14),
+        None => 0,
+    }
 }

@@ -11,6 +11,7 @@ use Rattle.algebra.specs.Reader.{pick, limit}
 use Rattle.algebra.specs.Faults.{first_of, faults}
 use Rattle.algebra.proofs.Tells.{first-none, first_some}
 use Rattle.std.specs.Prelude.{Result}
+use Rattle.std.specs.Option.{unwrap_or}
 use Rattle.fault.specs.declared.Fault.{Fault}
 use Rattle.descriptor_heads.specs.Heads.{Due}
 use Rattle.descriptor_raw.specs.Raw.{due_of}
@@ -18,7 +19,7 @@ use Rattle.descriptor_entry.specs.declared.Field.{Field}
 use Rattle.descriptor_entry.specs.declared.Field.TheVariants as f
 use Rattle.descriptor_entry.specs.declared.Shape.{Shape}
 use Rattle.descriptor_entry.specs.Pieces.{Piece, number, size, fault, fault_of}
-use Rattle.descriptor_entry.specs.Shapes.{Entry, number_in, kind_of, count_of, pieces_of, object, shape_of}
+use Rattle.descriptor_entry.specs.Shapes.{Entry, number_in, kind_of, count_of, pieces_of, object, wanted, shape_of}
 use Rattle.descriptor_entry.specs.Entries.{key_pieces, objects_due, field_pieces, head_pieces, root_pieces, asks}
 use Rattle.descriptor_entry.proofs.Laws.{size-append, faults-append}
 use Rattle.descriptor_entry_fields.proofs.Tables.{any-shape}
@@ -86,11 +87,11 @@ head-faults text c e =
     let n : Piece = number 4 (kind_of e) (pick (shape_of c (kind_of e)).known 0 4) in
     faults-append (fault_of text) (key_pieces c e) (n ∷ ps)
 
-pub judges-head : (text : List ℕ) (e : Entry) (what m kind : ℕ) (sh : Shape) (ks fs n a : ℕ) (x : Result Unit Fault) (z : ℕ) → kind ≡ number_in e 0 → sh ≡ shape_of (due_of what 0) kind
-    → Sized (size (key_pieces (due_of what 0) e)) ks → FourSized (size (field_pieces 0 sh e)) fs → n ≡ pick sh.holds (count_of e) 0 → a ≡ number_in e 15 → z ≡ ks + 4 + fs
+pub judges-head : (text : List ℕ) (e : Entry) (what m kind : ℕ) (sh : Shape) (ks fs n w a : ℕ) (x : Result Unit Fault) (z : ℕ) → kind ≡ number_in e 0 → sh ≡ shape_of (due_of what 0) kind
+    → Sized (size (key_pieces (due_of what 0) e)) ks → FourSized (size (field_pieces 0 sh e)) fs → n ≡ wanted sh.below (count_of e) → w ≡ unwrap_or sh.below 0 → a ≡ number_in e 15 → z ≡ ks + 4 + fs
     → (z ≤ limit → told_fault x ≡ head_fault text e (due_of what 0) (objects_due (due_of what m)) sh)
-    → Judges text (head_pieces (due_of what m) e) (asks (shape_of (due_of what m) (kind_of e)) 0 0 0 e) (record { size = z; sound = x; what = sh.what; objects = a; count = n })
-judges-head text e what m kind sh ks fs n a x z k i hk hf hn ha hz hx =
+    → Judges text (head_pieces (due_of what m) e) (asks (shape_of (due_of what m) (kind_of e)) 0 0 0 e) (record { size = z; sound = x; what = w; objects = a; count = n })
+judges-head text e what m kind sh ks fs n w a x z k i hk hf hn hw ha hz hx =
     let c : Due = due_of what m in
     let own : sh ≡ shape_of c (kind_of e) = i ∙ ap (shape_of (due_of what 0)) k ∙ sym (any-shape what m (kind_of e)) in
     let key : size (key_pieces c e) ≡ size (key_pieces (due_of what 0) e) = ap size (any-key what m e) in
@@ -99,8 +100,8 @@ judges-head text e what m kind sh ks fs n a x z k i hk hf hn ha hz hx =
       size_is = omega (arith, hz, hk.is, hf.is, head-size c e, key, rest);
       small = omega (arith, hz, hk.small, hf.small);
       fault_is = λ l. hx l ∙ ap₂ (λ (ps : List Piece) (y : Shape). first_of (fault text ps) (first_of (pick y.known 0 4) (fault text (field_pieces (objects_due c) y e)))) (sym (any-key what m e)) own ∙ sym (head-faults text c e);
-      below_is = ap₂ (λ (y : Shape) (q : ℕ). due_of y.what q) own ha;
-      count_is = hn ∙ ap (λ (y : Shape). pick y.holds (count_of e) 0) own;
+      below_is = ap₂ (λ (y q : ℕ). due_of y q) (hw ∙ ap (λ (y : Shape). unwrap_or y.below 0) own) ha;
+      count_is = hn ∙ ap (λ (y : Shape). wanted y.below (count_of e)) own;
     }
 
 -- in turn: the key, the kind, the fields

@@ -246,7 +246,7 @@ pub fn judge_head(row: &[u32], text: &[u8], what: u32, objects: u32) -> Judged
     let shape = descriptor_entry_fields::shape_of(what, number_in(row, 0));
     let size = key_size(row, what) + 4 + fields_size(row, shape);
     let count = members_in(row, shape);
-    let below = shape.what;
+    let below = shape.below.unwrap_or(0);
     let arity = number_in(row, 15);
     if LIMIT < size {
         return Judged {

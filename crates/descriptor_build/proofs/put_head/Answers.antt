@@ -19,4 +19,4 @@ put_fields-end-requires c =
 pub returns : goal.returns
 returns c =
     let a = c.args in
-    P.head-put a.text.now a.what a.row.now _ _ c.number_in-kind.ensures c.shape_of-shape.ensures a.at _ c.requires _ _ _ _ c.put_key-p.ensures c.put_key-p.auto.out _ _ _ c.put_word-q.ensures.0 c.put_word-q.ensures.1 c.put_word-q.auto.out _ _ _ _ c.put_fields-end.ensures c.number_in-objects.ensures c.members_in-count.ensures
+    P.head-put a.text.now a.what a.row.now _ _ c.number_in-kind.ensures c.shape_of-shape.ensures a.at _ c.requires _ _ _ _ c.put_key-p.ensures c.put_key-p.auto.out _ _ _ c.put_word-q.ensures.0 c.put_word-q.ensures.1 c.put_word-q.auto.out _ _ _ _ _ c.put_fields-end.ensures c.unwrap_or-below.ensures c.number_in-objects.ensures c.members_in-count.ensures
