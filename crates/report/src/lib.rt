@@ -215,14 +215,7 @@ fn palette_totals(kind: palette::Kind, file: &[u8]) -> FileTotals
     ensures { told_totals result ≡ report_of palette_totals (colours kind file.now) }
 {
     match palette::judge(kind, file) {
-        Err(Rejection::Refused(refusal)) => refused(refusal),
-        Err(
-            Rejection::Differ {
-                place,
-                record: _,
-                field: _,
-            },
-        ) => refused(Refusal(Fault::ListsDiffer, place)),
+        Err(rejection) => rejected(rejection),
         Ok(colours) => {
             let mut totals = [0u32; 31];
             tally(&mut totals, 0, 1);

@@ -1,4 +1,3 @@
-use Prim.Native.Nat.{◌-◌}
 use Rattle.report.specs.scaffold.Parts.{Adding}
 use Rattle.report.proofs.add_all.Given as goal
 

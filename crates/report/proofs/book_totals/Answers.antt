@@ -1,6 +1,5 @@
-use mathlib.Core.Path.{sym, ap, ◌∙◌}
+use mathlib.Core.Path.{◌∙◌}
 use native.Mathlib.Omega.{arith}
-use Rattle.acb_judge.specs.Answer.{told}
 use Rattle.report.proofs.Counting.{begun, begun-low}
 use Rattle.report.proofs.Files.{book-judged, book-few, book-refused, book-accepted}
 use Rattle.report.proofs.book_totals.Goals as goal

@@ -1,4 +1,3 @@
-use Prim.Native.Nat.{◌-◌}
 use Rattle.report.specs.scaffold.Parts.{Counting}
 use Rattle.report.proofs.count_colours.Given as goal
 

@@ -1,4 +1,3 @@
-use Prim.Native.Nat.{◌-◌}
 use Rattle.report.specs.scaffold.Parts.{Shelved}
 use Rattle.report.proofs.count_records.Given as goal
 

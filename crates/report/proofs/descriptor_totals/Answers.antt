@@ -1,6 +1,5 @@
-use mathlib.Core.Path.{sym, ap, ◌∙◌}
+use mathlib.Core.Path.{◌∙◌}
 use native.Mathlib.Omega.{arith}
-use Rattle.descriptor_judge.specs.Answer.{told}
 use Rattle.report.proofs.Counting.{begun, begun-low}
 use Rattle.report.proofs.Files.{rows_few, rows-refused, rows-accepted}
 use Rattle.report.proofs.descriptor_totals.Goals as goal

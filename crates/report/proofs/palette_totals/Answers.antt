@@ -1,5 +1,4 @@
-use mathlib.Core.Path.{sym, ap, ◌∙◌}
-use Rattle.palette.specs.Answer.{told}
+use mathlib.Core.Path.{◌∙◌}
 use Rattle.report.proofs.Counting.{begun, begun-low}
 use Rattle.report.proofs.Files.{palette-many, palette-rejected, palette-accepted}
 use Rattle.report.proofs.palette_totals.Goals as goal
