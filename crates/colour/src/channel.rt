@@ -67,6 +67,7 @@ pub fn bits_of(x: f32) -> u32
 
 impl Channels {
     /// The colour whose channels have these bits. Those that the model does not use are left alone.
+    // Kept: four numbers, as those of `is_sound`.
     pub fn from_bits(model: Model, a: u32, b: u32, c: u32, d: u32) -> Result<Channels, Fault>
         ensures { result ≡ made model a b c d }
     {

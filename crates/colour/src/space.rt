@@ -93,6 +93,7 @@ pub fn is_allowed(space: u16, position: u16, sample: u16) -> bool
 
 /// Whether a colour has no fault. RGB, HSB and CMYK are told by one comparison: a jump by the space
 /// would be harder to foresee.
+// Kept: four samples, and no array: numbers cross a call in registers, an array through memory.
 pub fn is_sound(space: u16, a: u16, b: u16, c: u16, d: u16) -> bool
     ensures { result ≡ sound space (a ∷ b ∷ c ∷ d ∷ []) }
 {

@@ -20,6 +20,7 @@ const STDOUT_FILENO: i32 = 1;
 
 /// Puts a byte into the buffer, of which n are full, and answers how many are full then. Of a full
 /// buffer all bytes are handed over first, to be written out.
+// Kept: the buffer and its count as two, since the count is also what each function answers.
 pub fn put(out: &mut [u8], n: usize, b: u8) -> usize
     ensures { (out.new, result) ≡ put_byte (out.old, n) b }
 {
