@@ -1,3 +1,4 @@
+use Prim.Native.Nat.{◌<◌}
 use mathlib.Core.Path.{◌∙◌}
 use native.Mathlib.Omega.{arith}
 use Rattle.resource_write.proofs.Puts.{put-start, put-end, put-fits, put_next}
@@ -13,7 +14,7 @@ pub put_block-p-requires : goal.put_block-p-requires
 put_block-p-requires c =
     let l = c.loop-i in
     let a = c.args in
-    let tk = c.loop-i-test.true in
+    let tk : l.i < a.n = omega arith in
     let w = record-whole a.run.now l.i (omega (arith, tk, c.requires.0)) in
     put-fits a.text.now a.run.now a.n l.i l.p _ _ _ l.invariant.1 tk _ (c.record_at.ensures ∙ w)
 
@@ -21,7 +22,7 @@ pub loop-i-preserved : goal.loop-i-preserved
 loop-i-preserved c =
     let l = c.loop-i in
     let a = c.args in
-    let tk = c.loop-i-test.true in
+    let tk : l.i < a.n = omega arith in
     let w = record-whole a.run.now l.i (omega (arith, tk, c.requires.0)) in
     let b = c.put_block-p in
     (omega (arith, tk), put_next a.text.now a.run.now a.n l.i l.p _ _ _ l.invariant.1 tk _ (c.record_at.ensures ∙ w) _ _ b.auto.out b.ensures.0 b.ensures.1)
@@ -33,4 +34,4 @@ pub returns : goal.returns
 returns c =
     let l = c.loop-i in
     let a = c.args in
-    put-end a.text.now a.run.now a.n l.i l.p _ _ _ l.invariant.1 c.loop-i-test.false
+    put-end a.text.now a.run.now a.n l.i l.p _ _ _ l.invariant.1 (omega arith)
