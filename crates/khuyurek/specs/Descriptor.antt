@@ -3,6 +3,7 @@ use Rattle.std.specs.Prelude.{ℕ, List, Bool, true, false}
 use Rattle.std.specs.Float.{binary64}
 use Rattle.std.specs.Float.Ieee.{to_bits}
 use Rattle.algebra.specs.Chars.{chars}
+use Rattle.algebra.specs.Reader.{Res, ok, refuse}
 use Rattle.descriptor_judge.specs.Answer.{Verdict, accepted, refused}
 use Rattle.descriptor_read.specs.Values.{Place, span, refusal}
 use Rattle.descriptor_read.specs.declared.Typed.{Typed}
@@ -48,4 +49,8 @@ typed_as (vt.Comp n) = kinded (chars "comp") 0 n
 typed_as (vt.Double x) = kinded (chars "doub") 0 (to_bits binary64 x)
 typed_as (vt.UnitDouble u x) = kinded (chars "UntF") u (to_bits binary64 x)
 typed_as vt.Other = kinded 0 0 0
-typed_as (vt.Refused x p) = record { number = x; kind = 0; place = p; unit = 0; bits = 0 }
+
+-- the same, or a refusal
+abbrev pub typed_answer : Res Typed → DescriptorTyped
+typed_answer (ok t q) = typed_as t
+typed_answer (refuse x p r f) = record { number = x; kind = 0; place = p; unit = 0; bits = 0 }

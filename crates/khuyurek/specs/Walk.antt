@@ -25,6 +25,10 @@ aco_given c q (refused x p) = record { number = x; done = 0; next = q; name = 0;
 abbrev pub aco_step : Colour × Call (ℕ × ℕ × ℕ) × ℕ → AcoStep
 aco_step w = aco_given w.0 w.2 w.1
 
+-- no colour
+abbrev pub aco_plain : ℕ → ℕ → ℕ → AcoStep
+aco_plain x d q = record { number = x; done = d; next = q; name = 0; units = 0; space = 0; samples = 0 ∷ 0 ∷ 0 ∷ 0 ∷ []; ink = 0 }
+
 -- ---- ASE
 
 abbrev pub ase_start : blocks.Started → AseStart

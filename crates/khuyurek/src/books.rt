@@ -14,11 +14,10 @@ ghost use Rattle.acb_write_judge.specs.Answer.{told_ending};
 ghost use Rattle.khuyurek.specs.Acb.{number_of, header_of, no_header, answer_of, read_of, to_record, four_of, shown_of, full_of, full_read_of, page_of, page_in_of, given_of, tag_of, length_of, wrote_of};
 
 use crate::{Length, exported_length};
-use acb_judge::{Answer, Header, Tag, Text};
-use acb_read::NamePlace;
-use acb_shown_file::Count;
-use acb_shown_values::Page;
+use acb_judge::{Book, Header, Tag};
 use acb_write_judge::Ending;
+use fault::Refusal;
+use names::Name;
 
 // Where a string lies in the file or text: the place of its first unit, and its units.
 #[repr(C)]
@@ -88,19 +87,19 @@ fn header_of(h: Header, t: Tag) -> AcbHeader
         space: h.space,
         tag: number_of(t),
         title: AcbText {
-            place: h.title.place,
+            place: h.title.first,
             units: h.title.units,
         },
         prefix: AcbText {
-            place: h.prefix.place,
+            place: h.prefix.first,
             units: h.prefix.units,
         },
         suffix: AcbText {
-            place: h.suffix.place,
+            place: h.suffix.first,
             units: h.suffix.units,
         },
         description: AcbText {
-            place: h.description.place,
+            place: h.description.first,
             units: h.description.units,
         },
     }
@@ -122,23 +121,18 @@ fn no_header() -> AcbHeader
     }
 }
 
-fn exported(a: Answer) -> AcbAnswer
+fn exported(a: Result<Book, Refusal>) -> AcbAnswer
     ensures { result ≡ answer_of (told a) }
 {
     match a {
-        Answer::Accepted {
-            header,
-            tag,
-            count,
-            first: _,
-        } => AcbAnswer {
+        Ok(book) => AcbAnswer {
             number: 0,
             place: 0,
-            count,
-            header: header_of(header, tag),
+            count: book.count,
+            header: header_of(book.header, book.tag),
         },
-        Answer::Refused { number, place } => AcbAnswer {
-            number,
+        Err(Refusal(fault, place)) => AcbAnswer {
+            number: fault.number(),
             place,
             count: 0,
             header: no_header(),
@@ -167,30 +161,24 @@ pub extern "C" fn khuyurek_acb_read(file: &[u8], table: &mut [u32]) -> AcbAnswer
 pub extern "C" fn khuyurek_acb_record_at(file: &[u8], i: usize) -> AcbRecord
     ensures { result ≡ to_record (places (record_at records_of (taken []) i (acb file.now))) }
 {
-    let swatch = acb_read::record_at(file, i);
-    let code = swatch.code;
-    let components = swatch.components;
-    let name = swatch.name;
-    let stated = swatch.ink;
-    let ink = stated.number();
-    match name {
-        NamePlace::At { place, units } => AcbRecord {
+    match acb_read::record_at(file, i) {
+        Ok(record) => AcbRecord {
             number: 0,
-            units,
+            units: record.name.units,
             place: 0,
-            name: place,
-            code,
-            components,
-            ink,
+            name: record.name.first,
+            code: record.code,
+            components: record.components,
+            ink: record.ink.number(),
         },
-        NamePlace::Refused { number, place } => AcbRecord {
-            number,
+        Err(Refusal(fault, place)) => AcbRecord {
+            number: fault.number(),
             units: 0,
             place,
             name: 0,
-            code,
-            components,
-            ink,
+            code: [0; 6],
+            components: [0; 4],
+            ink: 0,
         },
     }
 }
@@ -233,20 +221,11 @@ pub struct AcbPage {
     pub place: usize,
 }
 
-fn wide(x: i16) -> i32
-    ensures { result ≡ x }
-{
-    x as i32
-}
-
 fn four(values: [i16; 4]) -> [i32; 4]
     ensures { result ≡ four_of values }
 {
-    let a = wide(values[0]);
-    let b = wide(values[1]);
-    let c = wide(values[2]);
-    let d = wide(values[3]);
-    [a, b, c, d]
+    let [a, b, c, d] = values;
+    [i32::from(a), i32::from(b), i32::from(c), i32::from(d)]
 }
 
 // The shown components of record i of a book.
@@ -254,22 +233,18 @@ fn four(values: [i16; 4]) -> [i32; 4]
 pub extern "C" fn khuyurek_acb_shown_at(file: &[u8], i: usize) -> AcbShown
     ensures { result ≡ shown_of (shown_at i (acb file.now)) }
 {
-    let shown = acb_shown_file::shown_at(file, i);
-    let bytes = shown.values;
-    let values = four(bytes);
-    let count = shown.count;
-    match count {
-        Count::Is(n) => AcbShown {
+    match acb_shown_file::shown_at(file, i) {
+        Ok(shown) => AcbShown {
             number: 0,
-            count: n as u32,
+            count: shown.count as u32,
             place: 0,
-            values,
+            values: four(shown.values),
         },
-        Count::Refused { number, place } => AcbShown {
-            number,
+        Err(Refusal(fault, place)) => AcbShown {
+            number: fault.number(),
             count: 0,
             place,
-            values,
+            values: [0; 4],
         },
     }
 }
@@ -279,20 +254,20 @@ pub extern "C" fn khuyurek_acb_shown_at(file: &[u8], i: usize) -> AcbShown
 pub extern "C" fn khuyurek_acb_shown_component(space: u16, position: usize, byte: u8) -> i32
     ensures { result ≡ shown_component space position byte }
 {
-    wide(acb_shown_values::shown_component(space, position, byte))
+    i32::from(acb_shown_values::shown_component(space, position, byte))
 }
 
-fn exported_full(c: Count) -> AcbFull
+fn exported_full(c: Result<usize, Refusal>) -> AcbFull
     ensures { result ≡ full_of (told_count c) }
 {
     match c {
-        Count::Is(size) => AcbFull {
+        Ok(size) => AcbFull {
             number: 0,
             size,
             place: 0,
         },
-        Count::Refused { number, place } => AcbFull {
-            number,
+        Err(Refusal(fault, place)) => AcbFull {
+            number: fault.number(),
             size: 0,
             place,
         },
@@ -315,17 +290,17 @@ pub extern "C" fn khuyurek_acb_full_name(file: &[u8], i: usize, out: &mut [u8]) 
     exported_full(acb_shown_file::full_name(file, i, out))
 }
 
-fn exported_page(p: Page) -> AcbPage
+fn exported_page(p: Result<usize, Refusal>) -> AcbPage
     ensures { result ≡ page_of (told_page p) }
 {
     match p {
-        Page::Is(rec) => AcbPage {
+        Ok(rec) => AcbPage {
             number: 0,
             rec,
             place: 0,
         },
-        Page::Refused { number, place } => AcbPage {
-            number,
+        Err(Refusal(fault, place)) => AcbPage {
+            number: fault.number(),
             rec: 0,
             place,
         },
@@ -361,20 +336,20 @@ fn header_given(g: AcbHeader) -> Header
 {
     Header {
         identifier: g.identifier,
-        title: Text {
-            place: g.title.place,
+        title: Name {
+            first: g.title.place,
             units: g.title.units,
         },
-        prefix: Text {
-            place: g.prefix.place,
+        prefix: Name {
+            first: g.prefix.place,
             units: g.prefix.units,
         },
-        suffix: Text {
-            place: g.suffix.place,
+        suffix: Name {
+            first: g.suffix.place,
             units: g.suffix.units,
         },
-        description: Text {
-            place: g.description.place,
+        description: Name {
+            first: g.description.place,
             units: g.description.units,
         },
         size: g.size,

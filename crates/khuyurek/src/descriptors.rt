@@ -5,12 +5,12 @@ ghost use Rattle.std.specs.Float.Ieee.{to_bits};
 ghost use Rattle.descriptor.specs.Reading.{descriptor};
 ghost use Rattle.descriptor_judge.specs.Answer.{verdict, told};
 ghost use Rattle.descriptor_read.specs.Values.{row_in, place_of, told_value};
-ghost use Rattle.descriptor_read.specs.Typed.{typed_of};
-ghost use Rattle.khuyurek.specs.Descriptor.{answer_of, value_of, flag_of, kinded, typed_as};
+ghost use Rattle.descriptor_read.specs.Typed.{typed_of, told_typed};
+ghost use Rattle.khuyurek.specs.Descriptor.{answer_of, value_of, flag_of, kinded, typed_answer};
 
 use descriptor::{BOOL, COMP, DOUBLE, LONG, UNIT_DOUBLE};
-use descriptor_judge::Answer;
-use descriptor_read::{Typed, ValueAt};
+use descriptor_read::{Span, Typed};
+use fault::Refusal;
 
 // Number 0 is accepted, with the number of rows; else the refusal.
 #[repr(C)]
@@ -31,35 +31,35 @@ pub struct DescriptorValue {
     pub size: usize,
 }
 
-pub(crate) fn exported(a: Answer) -> DescriptorAnswer
+pub(crate) fn exported(a: Result<usize, Refusal>) -> DescriptorAnswer
     ensures { result ≡ answer_of (told a) }
 {
     match a {
-        Answer::Accepted { rows } => DescriptorAnswer {
+        Ok(rows) => DescriptorAnswer {
             number: 0,
             place: 0,
             rows,
         },
-        Answer::Refused { number, place } => DescriptorAnswer {
-            number,
+        Err(Refusal(fault, place)) => DescriptorAnswer {
+            number: fault.number(),
             place,
             rows: 0,
         },
     }
 }
 
-fn exported_value(v: ValueAt) -> DescriptorValue
+fn exported_value(v: Result<Span, Refusal>) -> DescriptorValue
     ensures { result ≡ value_of (told_value v) }
 {
     match v {
-        ValueAt::Is { first, length } => DescriptorValue {
+        Ok(span) => DescriptorValue {
             number: 0,
             place: 0,
-            first,
-            size: length,
+            first: span.first,
+            size: span.length,
         },
-        ValueAt::Refused { number, place } => DescriptorValue {
-            number,
+        Err(Refusal(fault, place)) => DescriptorValue {
+            number: fault.number(),
             place,
             first: 0,
             size: 0,
@@ -130,18 +130,18 @@ fn kinded(kind: u32, unit: u32, bits: u64) -> DescriptorTyped
     }
 }
 
-fn exported_typed(t: Typed) -> DescriptorTyped
-    ensures { result ≡ typed_as t }
+fn exported_typed(t: Result<Typed, Refusal>) -> DescriptorTyped
+    ensures { result ≡ typed_answer (told_typed t) }
 {
     match t {
-        Typed::Bool(b) => kinded(BOOL, 0, flag_of(b)),
-        Typed::Long(n) => kinded(LONG, 0, n as u64),
-        Typed::Comp(n) => kinded(COMP, 0, n),
-        Typed::Double(x) => kinded(DOUBLE, 0, bits_of(x)),
-        Typed::UnitDouble(unit, x) => kinded(UNIT_DOUBLE, unit, bits_of(x)),
-        Typed::Other => kinded(0, 0, 0),
-        Typed::Refused { number, place } => DescriptorTyped {
-            number,
+        Ok(Typed::Bool(b)) => kinded(BOOL, 0, flag_of(b)),
+        Ok(Typed::Long(n)) => kinded(LONG, 0, u64::from(n)),
+        Ok(Typed::Comp(n)) => kinded(COMP, 0, n),
+        Ok(Typed::Double(x)) => kinded(DOUBLE, 0, bits_of(x)),
+        Ok(Typed::UnitDouble(unit, x)) => kinded(UNIT_DOUBLE, unit, bits_of(x)),
+        Ok(Typed::Other) => kinded(0, 0, 0),
+        Err(Refusal(fault, place)) => DescriptorTyped {
+            number: fault.number(),
             kind: 0,
             place,
             unit: 0,
@@ -153,7 +153,7 @@ fn exported_typed(t: Typed) -> DescriptorTyped
 // The value of a row by its kind.
 #[unsafe(no_mangle)]
 pub extern "C" fn khuyurek_descriptor_typed_at(file: &[u8], row: usize) -> DescriptorTyped
-    ensures { result ≡ typed_as (typed_of file.now (row_in row (descriptor file.now))) }
+    ensures { result ≡ typed_answer (typed_of file.now (row_in row (descriptor file.now))) }
 {
     exported_typed(descriptor_read::typed_at(file, row))
 }

@@ -4,7 +4,8 @@ ghost use Rattle.descriptor.specs.Reading.{descriptor};
 ghost use Rattle.descriptor_find.specs.Find.{told, found};
 ghost use Rattle.khuyurek.specs.Keys.{answer_of, found_of};
 
-use descriptor_find::FindAnswer;
+use descriptor_find::Rejection;
+use fault::Refusal;
 
 // Number 0 is accepted, with the number of keys; else the refusal, of a place of the keys where
 // `in_keys` is 1.
@@ -17,24 +18,24 @@ pub struct Found {
     pub keys: usize,
 }
 
-fn exported_found(a: FindAnswer) -> Found
+fn exported_found(a: Result<usize, Rejection>) -> Found
     ensures { result ≡ answer_of (told a) }
 {
     match a {
-        FindAnswer::Answered { keys } => Found {
+        Ok(keys) => Found {
             number: 0,
             in_keys: 0,
             place: 0,
             keys,
         },
-        FindAnswer::Refused { number, place } => Found {
-            number,
+        Err(Rejection::Refused(Refusal(fault, place))) => Found {
+            number: fault.number(),
             in_keys: 0,
             place,
             keys: 0,
         },
-        FindAnswer::InKeys { number, place } => Found {
-            number,
+        Err(Rejection::InKeys(Refusal(fault, place))) => Found {
+            number: fault.number(),
             in_keys: 1,
             place,
             keys: 0,

@@ -2,7 +2,8 @@
 ghost use Rattle.std.specs.Prelude.{◌≡◌};
 ghost use Rattle.ase.specs.Reading.{ase};
 ghost use Rattle.algebra.specs.Table.{accepted, verdict, whole};
-ghost use Rattle.ase.specs.Row.{width, taken, colour_row as coloured};
+ghost use Rattle.ase.specs.Row.{width, taken};
+ghost use Rattle.ase_read.specs.Answer.{shown_colour};
 ghost use Rattle.ase_judge.specs.Answer.{report, told};
 ghost use Rattle.ase_read.specs.Table.{filled, record_at};
 ghost use Rattle.ase_writing.specs.Writing.{needed, written};
@@ -13,9 +14,9 @@ ghost use Rattle.khuyurek.specs.Written.{written_of, wrote_of};
 ghost use Rattle.khuyurek.specs.Ase.{palette_of, palette_read_of, plain, block_of};
 
 use crate::{Length, exported_length};
-use ase_judge::Answer;
-use ase_read::Record;
-use colour::{Channels, Ink};
+use ase_judge::Counts;
+use ase_read::{NamedColour, Record};
+use fault::Refusal;
 
 // Number 0 is accepted, with the number of blocks and of colours; else the refusal.
 #[repr(C)]
@@ -42,18 +43,18 @@ pub struct AseRecord {
     pub ink: u32,
 }
 
-fn exported(a: Answer) -> AseAnswer
+fn exported(a: Result<Counts, Refusal>) -> AseAnswer
     ensures { result ≡ palette_of (told a) }
 {
     match a {
-        Answer::Accepted { blocks, colours } => AseAnswer {
+        Ok(counts) => AseAnswer {
             number: 0,
             place: 0,
-            blocks,
-            colours,
+            blocks: counts.blocks,
+            colours: counts.colours,
         },
-        Answer::Refused { number, place } => AseAnswer {
-            number,
+        Err(Refusal(fault, place)) => AseAnswer {
+            number: fault.number(),
             place,
             blocks: 0,
             colours: 0,
@@ -92,18 +93,18 @@ fn no_colour(number: u32, block: u16, place: usize, name: usize, units: u32) -> 
     }
 }
 
-fn exported_colour(name: usize, units: u32, colour: Channels, ink: Ink) -> AseRecord
-    ensures { result ≡ block_of (accepted (coloured name units (traits_of (model_in colour)).tag (bits_of colour) (ink_number ink))) }
+fn exported_colour(given: NamedColour) -> AseRecord
+    ensures { result ≡ block_of (accepted (shown_colour given)) }
 {
     AseRecord {
         number: 0,
         block: ase::COLOUR as u32,
         place: 0,
-        name,
-        units,
-        model: colour.model().traits().tag,
-        channels: colour.bits(),
-        ink: ink.number(),
+        name: given.place,
+        units: given.units,
+        model: given.colour.model().traits().tag,
+        channels: given.colour.bits(),
+        ink: given.ink.number(),
     }
 }
 
@@ -113,15 +114,10 @@ pub extern "C" fn khuyurek_ase_record_at(file: &[u8], i: usize) -> AseRecord
     ensures { result ≡ block_of (record_at i (ase file.now)) }
 {
     match ase_read::record_at(file, i) {
-        Record::GroupStart { place, units } => no_colour(0, ase::GROUP_START, 0, place, units),
-        Record::GroupEnd => no_colour(0, ase::GROUP_END, 0, 0, 0),
-        Record::Colour {
-            place,
-            units,
-            colour,
-            ink,
-        } => exported_colour(place, units, colour, ink),
-        Record::Refused { number, place } => no_colour(number, 0, place, 0, 0),
+        Ok(Record::GroupStart { place, units }) => no_colour(0, ase::GROUP_START, 0, place, units),
+        Ok(Record::GroupEnd) => no_colour(0, ase::GROUP_END, 0, 0, 0),
+        Ok(Record::Colour(given)) => exported_colour(given),
+        Err(Refusal(fault, place)) => no_colour(fault.number(), 0, place, 0, 0),
     }
 }
 

@@ -1,13 +1,16 @@
 // ACO files in chunks, for C: what is kept between two chunks, in numbers.
 ghost use Rattle.std.specs.Prelude.{◌≡◌, ◌<◌};
-ghost use Rattle.aco_stream.specs.Answer.{Starts, Feeds, told as toldEnd};
+ghost use Rattle.aco_stream.specs.Answer.{Starts, Feeds, told as toldEnd, told_fed};
 ghost use Rattle.khuyurek.specs.Aco.{answer_of};
 ghost use Rattle.khuyurek.specs.Stream.{is_set, is_ended, stage_of, stream_of, ended_numbers, finished_of};
 ghost use Rattle.khuyurek.specs.scaffold.StreamParts.{flag_of, plain_of};
 
 use crate::AcoAnswer;
 use aco_chunks::Stage;
-use aco_stream::{Answer, Stream};
+use aco_items::Flaw;
+use aco_judge::Counts;
+use aco_stream::Stream;
+use fault::Fault;
 
 // What is kept between two chunks. `stage` says which item comes next, in the order of Stage; of
 // the numbers behind it those count that this stage has.
@@ -52,10 +55,7 @@ pub struct AcoFinished {
 fn is_set(n: u32) -> bool
     ensures { result ≡ is_set n }
 {
-    if n == 0 {
-        return false;
-    }
-    true
+    n != 0
 }
 
 // The stage of a number; an unknown one is the first, of a stream that has ended.
@@ -172,6 +172,16 @@ fn numbers_of(s: Stream) -> AcoStream
 
 // ---- the calls
 
+// The number of a call that takes bytes: 0 where it takes them.
+fn fed_number(answer: Result<(), Fault>) -> u32
+    ensures { result ≡ told_fed answer }
+{
+    match answer {
+        Ok(()) => 0,
+        Err(fault) => fault.number(),
+    }
+}
+
 // The stream before the first chunk; 11, and one that has ended, where the store is too short.
 #[unsafe(no_mangle)]
 pub extern "C" fn khuyurek_aco_stream_start(store: &[u8]) -> AcoFed
@@ -179,7 +189,7 @@ pub extern "C" fn khuyurek_aco_stream_start(store: &[u8]) -> AcoFed
 {
     let fed = aco_stream::start(store);
     AcoFed {
-        number: fed.number,
+        number: fed_number(fed.answer),
         stream: numbers_of(fed.state),
     }
 }
@@ -194,35 +204,33 @@ pub extern "C" fn khuyurek_aco_stream_feed(
     ensures { (Feeds (stream_of stream) store.old chunk.now (stream_of result.stream) result.number store.new) × (0 < result.number → result.stream ≡ stream) }
 {
     let fed = aco_stream::feed(stream_of(stream), store, chunk);
-    if fed.number == 0 {
+    let number = fed_number(fed.answer);
+    if number == 0 {
         return AcoFed {
-            number: 0,
+            number,
             stream: numbers_of(fed.state),
         };
     }
-    AcoFed {
-        number: fed.number,
-        stream,
-    }
+    AcoFed { number, stream }
 }
 
-fn exported_end(a: Answer) -> AcoAnswer
+fn exported_end(a: Result<Counts, Flaw>) -> AcoAnswer
     ensures { result ≡ answer_of (toldEnd a) }
 {
     match a {
-        Answer::Accepted(colours, lists) => AcoAnswer {
+        Ok(counts) => AcoAnswer {
             number: 0,
             place: 0,
             rec: 0,
             field: 0,
-            colours: colours as usize,
-            lists: lists as usize,
+            colours: counts.colours,
+            lists: counts.lists,
         },
-        Answer::Refused(number, place, record, field) => AcoAnswer {
-            number,
-            place,
-            rec: record as usize,
-            field: field as usize,
+        Err(flaw) => AcoAnswer {
+            number: flaw.fault.number(),
+            place: flaw.place,
+            rec: flaw.rec as usize,
+            field: flaw.field as usize,
             colours: 0,
             lists: 0,
         },

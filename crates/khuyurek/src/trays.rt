@@ -4,7 +4,7 @@ ghost use Rattle.conversion.specs.Tray.{channels_of, samples_of};
 ghost use Rattle.tray.specs.Answer.{told};
 ghost use Rattle.khuyurek.specs.Trays.{tray_of, filled_of};
 
-use tray::Tray;
+use fault::Refusal;
 
 // Number 0 is converted; else the refusal with the position of the first element that is refused,
 // and 0 for a lent run that is too short.
@@ -15,15 +15,18 @@ pub struct TrayAnswer {
     pub position: usize,
 }
 
-fn exported(a: Tray) -> TrayAnswer
+fn exported(a: Result<(), Refusal>) -> TrayAnswer
     ensures { result ≡ tray_of (told a) }
 {
     match a {
-        Tray::Done => TrayAnswer {
+        Ok(()) => TrayAnswer {
             number: 0,
             position: 0,
         },
-        Tray::Refused { number, position } => TrayAnswer { number, position },
+        Err(Refusal(fault, position)) => TrayAnswer {
+            number: fault.number(),
+            position,
+        },
     }
 }
 

@@ -2,19 +2,19 @@
 ghost use Rattle.std.specs.Prelude.{◌≡◌};
 ghost use Rattle.aco.specs.Reading.{aco};
 ghost use Rattle.ase.specs.Reading.{ase};
-ghost use Rattle.colour.specs.Models.{traits_of};
-ghost use Rattle.colour.specs.Channels.{bits_of, model_in};
-ghost use Rattle.colour.specs.Inks.{ink_number};
-ghost use Rattle.ase.specs.Row.{colour_row as coloured};
+ghost use Rattle.ase_read.specs.Answer.{shown_colour};
 ghost use Rattle.walk.specs.Walk.{gives};
 ghost use Rattle.aco_walk.specs.Walking.{walk, start_of};
-ghost use Rattle.aco_walk.specs.Answer.{told_next_colour, call_and_place, told_start};
+ghost use Rattle.aco_walk.specs.Answer.{call_and_place, told_start};
 ghost use Rattle.ase_walk.specs.Walking.{walk as walkAse, block_walk, start_of as startOfAse};
 ghost use Rattle.ase_walk.specs.Answer.{call_and_place as handedAse, told_start as toldStartAse};
-ghost use Rattle.khuyurek.specs.Walk.{aco_start, aco_given, aco_step, ase_start, ase_plain, ase_given, ase_step};
+ghost use Rattle.khuyurek.specs.Walk.{aco_start, aco_step, aco_plain, ase_start, ase_plain, ase_given, ase_step};
 
-use ase_walk::{Block, NextColour};
-use colour::{Channels, Colour, Ink};
+use aco_judge::Rejection;
+use aco_walk::ColourStep;
+use ase_read::{NamedColour, Record};
+use ase_walk::BlockStep;
+use fault::{Fault, Refusal};
 
 // Number 0 is accepted, with the place where the walk starts; else the refusal with its place, and
 // for 7 the record and field.
@@ -69,30 +69,30 @@ pub struct AseStep {
     pub ink: u32,
 }
 
-fn aco_started(o: aco_walk::WalkStart) -> AcoStart
+fn aco_started(o: Result<usize, Rejection>) -> AcoStart
     ensures { result ≡ aco_start (told_start o) }
 {
     match o {
-        aco_walk::WalkStart::At(at) => AcoStart {
+        Ok(at) => AcoStart {
             number: 0,
             place: 0,
             rec: 0,
             field: 0,
             at,
         },
-        aco_walk::WalkStart::Refused { number, place } => AcoStart {
-            number,
+        Err(Rejection::Refused(Refusal(fault, place))) => AcoStart {
+            number: fault.number(),
             place,
             rec: 0,
             field: 0,
             at: 0,
         },
-        aco_walk::WalkStart::Differ {
+        Err(Rejection::Differ {
             place,
             record,
             field,
-        } => AcoStart {
-            number: 7,
+        }) => AcoStart {
+            number: Fault::ListsDiffer.number(),
             place,
             rec: record,
             field,
@@ -109,42 +109,19 @@ pub extern "C" fn khuyurek_aco_walk_start(file: &[u8]) -> AcoStart
     aco_started(aco_walk::start_at(file))
 }
 
-fn aco_given(colour: Colour, given: aco_walk::NextColour, next: usize) -> AcoStep
-    ensures { result ≡ aco_given colour next (told_next_colour given) }
+// A step that gives no colour.
+fn aco_plain(number: u32, done: u32, next: usize) -> AcoStep
+    ensures { result ≡ aco_plain number done next }
 {
-    let space = colour.space;
-    let samples = colour.samples;
-    match given {
-        aco_walk::NextColour::Colour { place, units, ink } => AcoStep {
-            number: 0,
-            done: 0,
-            next,
-            name: place,
-            units,
-            space,
-            samples,
-            ink: ink.number(),
-        },
-        aco_walk::NextColour::Done => AcoStep {
-            number: 0,
-            done: 1,
-            next,
-            name: 0,
-            units: 0,
-            space,
-            samples,
-            ink: 0,
-        },
-        aco_walk::NextColour::Refused { number, place: _ } => AcoStep {
-            number,
-            done: 0,
-            next,
-            name: 0,
-            units: 0,
-            space,
-            samples,
-            ink: 0,
-        },
+    AcoStep {
+        number,
+        done,
+        next,
+        name: 0,
+        units: 0,
+        space: 0,
+        samples: [0; 4],
+        ink: 0,
     }
 }
 
@@ -153,23 +130,34 @@ fn aco_given(colour: Colour, given: aco_walk::NextColour, next: usize) -> AcoSte
 pub extern "C" fn khuyurek_aco_walk(file: &[u8], at: usize) -> AcoStep
     ensures { result ≡ aco_step (call_and_place (walk file.now at)) }
 {
-    let step = aco_walk::step_at(file, at);
-    let colour = step.colour;
-    let given = step.given;
-    aco_given(colour, given, step.next)
+    let ColourStep { given, next } = aco_walk::step_at(file, at);
+    match given {
+        Ok(Some(swatch)) => AcoStep {
+            number: 0,
+            done: 0,
+            next,
+            name: swatch.name.first,
+            units: swatch.name.units,
+            space: swatch.colour.space,
+            samples: swatch.colour.samples,
+            ink: swatch.ink.number(),
+        },
+        Ok(None) => aco_plain(0, 1, next),
+        Err(Refusal(fault, _)) => aco_plain(fault.number(), 0, next),
+    }
 }
 
-fn ase_started(o: ase_walk::WalkStart) -> AseStart
+fn ase_started(o: Result<usize, Refusal>) -> AseStart
     ensures { result ≡ ase_start (toldStartAse o) }
 {
     match o {
-        ase_walk::WalkStart::At(at) => AseStart {
+        Ok(at) => AseStart {
             number: 0,
             place: 0,
             at,
         },
-        ase_walk::WalkStart::Refused { number, place } => AseStart {
-            number,
+        Err(Refusal(fault, place)) => AseStart {
+            number: fault.number(),
             place,
             at: 0,
         },
@@ -184,19 +172,19 @@ pub extern "C" fn khuyurek_ase_walk_start(file: &[u8]) -> AseStart
     ase_started(ase_walk::start_at(file))
 }
 
-fn ase_colour(name: usize, units: u32, colour: Channels, ink: Ink, next: usize) -> AseStep
-    ensures { result ≡ ase_given next (gives (coloured name units (traits_of (model_in colour)).tag (bits_of colour) (ink_number ink))) }
+fn ase_colour(given: NamedColour, next: usize) -> AseStep
+    ensures { result ≡ ase_given next (gives (shown_colour given)) }
 {
     AseStep {
         number: 0,
         done: 0,
         block: ase::COLOUR as u32,
-        units,
+        units: given.units,
         next,
-        name,
-        model: colour.model().traits().tag,
-        channels: colour.bits(),
-        ink: ink.number(),
+        name: given.place,
+        model: given.colour.model().traits().tag,
+        channels: given.colour.bits(),
+        ink: given.ink.number(),
     }
 }
 
@@ -222,17 +210,10 @@ pub extern "C" fn khuyurek_ase_walk(file: &[u8], at: usize) -> AseStep
     ensures { result ≡ ase_step (handedAse (walkAse file.now at)) }
 {
     let step = ase_walk::step_at(file, at);
-    let given = step.given;
-    let next = step.next;
-    match given {
-        NextColour::Colour {
-            place,
-            units,
-            colour,
-            ink,
-        } => ase_colour(place, units, colour, ink, next),
-        NextColour::Done => ase_plain(0, 1, 0, 0, 0, next),
-        NextColour::Refused { number, place: _ } => ase_plain(number, 0, 0, 0, 0, next),
+    match step.given {
+        Ok(Some(given)) => ase_colour(given, step.next),
+        Ok(None) => ase_plain(0, 1, 0, 0, 0, step.next),
+        Err(Refusal(fault, _)) => ase_plain(fault.number(), 0, 0, 0, 0, step.next),
     }
 }
 
@@ -241,19 +222,14 @@ pub extern "C" fn khuyurek_ase_walk(file: &[u8], at: usize) -> AseStep
 pub extern "C" fn khuyurek_ase_walk_block(file: &[u8], at: usize) -> AseStep
     ensures { result ≡ ase_step (handedAse (block_walk file.now at)) }
 {
-    let step = ase_walk::block_at(file, at);
-    let block = step.block;
-    let next = step.next;
+    let BlockStep { block, next } = ase_walk::block_at(file, at);
     match block {
-        Block::GroupStart { place, units } => ase_plain(0, 0, ase::GROUP_START, place, units, next),
-        Block::GroupEnd => ase_plain(0, 0, ase::GROUP_END, 0, 0, next),
-        Block::Colour {
-            place,
-            units,
-            colour,
-            ink,
-        } => ase_colour(place, units, colour, ink, next),
-        Block::Done => ase_plain(0, 1, 0, 0, 0, next),
-        Block::Refused { number, place: _ } => ase_plain(number, 0, 0, 0, 0, next),
+        Ok(Some(Record::GroupStart { place, units })) => {
+            ase_plain(0, 0, ase::GROUP_START, place, units, next)
+        }
+        Ok(Some(Record::GroupEnd)) => ase_plain(0, 0, ase::GROUP_END, 0, 0, next),
+        Ok(Some(Record::Colour(given))) => ase_colour(given, next),
+        Ok(None) => ase_plain(0, 1, 0, 0, 0, next),
+        Err(Refusal(fault, _)) => ase_plain(fault.number(), 0, 0, 0, 0, next),
     }
 }
