@@ -27,8 +27,8 @@ pub struct SwatchRecord {
     pub ink: Ink,
 }
 
-// The colour in the ten bytes from `at`. A part of known length is loaded from without tests.
-fn colour_at(file: &[u8], at: usize) -> Colour
+/// The colour in the ten bytes from `at`, as it stands there. A part of known length is loaded from without tests.
+pub fn colour_at(file: &[u8], at: usize) -> Colour
     requires { at + 10 ≤ length file.now }
     ensures { result ≡ raw_colour file.now at }
 {

@@ -4,7 +4,7 @@ use mathlib.Core.Path.{◌≡◌, refl, sym, ap, ap₂, ◌∙◌}
 use mathlib.Core.List.{List, [], ◌∷◌}
 use mathlib.Core.Bool.{Bool, true, false, true≢false}
 use lib.Dec.{leb, eqb}
-use lib.ListN.{length}
+use lib.ListN.{length, get_or}
 use borrow.Author.Tests.{le-leb, lt-leb}
 use native.Mathlib.Omega.{arith}
 use Rattle.algebra.specs.Numbers.{num}
@@ -21,7 +21,8 @@ use Rattle.aco_judge.specs.declared.Rejection.{Rejection}
 use Rattle.aco_judge.specs.declared.Rejection.TheVariants as rejection
 use Rattle.aco.proofs.Raw.{Good, colour-inv}
 use Rattle.aco_judge.proofs.Judging.{colour-sound, rejecting}
-use Rattle.aco_read.proofs.Filling.{five}
+use Rattle.aco.specs.scaffold.Raw.{raw_colour}
+use Rattle.algebra.proofs.Places.{getD-nums}
 use Rattle.algebra.proofs.Table.{accepted-of, refused-of}
 use Rattle.walk.specs.Walk as w
 use Rattle.walk.proofs.Calls.{step-over, step-elsewhere}
@@ -39,26 +40,36 @@ tested-short s at h = go (colour s at) refl
     go (ok c q) e = absurd (h (colour-inv s at e).2.inside)
     go (refuse x p r f) e = refl
 
-module _ (s : List ℕ) (at x a b c d : ℕ) (h : at + 10 ≤ length s) (ex : x ≡ num 2 s at) (ea : a ≡ num 2 s (at + 2)) (eb : b ≡ num 2 s (at + 4)) (ec : c ≡ num 2 s (at + 6)) (ed : d ≡ num 2 s (at + 8)) where
-  good-sound : Good s at → sound x (a ∷ b ∷ c ∷ d ∷ []) ≡ true
-  good-sound g =
-      fine-sound x a b c d (ap known ex ∙ g.is_known) (allow 0 a (at + 2) (omega arith) ea (omega arith)) (allow 1 b (at + 4) (omega arith) eb (omega arith))
-      (allow 2 c (at + 6) (omega arith) ec (omega arith)) (allow 3 d (at + 8) (omega arith) ed (omega arith))
-    where
-      allow : (k v n : ℕ) → k < 4 → v ≡ num 2 s n → n ≡ at + 2 + 2 * k → allowed x k v ≡ true
-      allow k v n l e p = ap₂ (λ (y z : ℕ). allowed y k z) ex (e ∙ ap (num 2 s) p) ∙ g.are_allowed k l
+-- the colour that stands there
+module _ (s : List ℕ) (at : ℕ) (c : Colour) (h : at + 10 ≤ length s) (is : c ≡ raw_colour s at) where
+  abbrev sample : ℕ → ℕ
+  sample k = get_or c.samples k 0
 
-  pub tested-unsound : sound x (a ∷ b ∷ c ∷ d ∷ []) ≡ false → None ≡ tested (colour s at)
+  space-is : c.space ≡ num 2 s at
+  space-is = ap (λ (c : Colour). c.space) is
+
+  sample-is : (k n : ℕ) → k < 4 → at + 2 + 2 * k ≡ n → sample k ≡ num 2 s n
+  sample-is k n l e = ap (λ (c : Colour). get_or c.samples k 0) is ∙ getD-nums 2 s 4 (at + 2) k l ∙ ap (num 2 s) e
+
+  good-sound : Good s at → sound c.space (sample 0 ∷ sample 1 ∷ sample 2 ∷ sample 3 ∷ []) ≡ true
+  good-sound g = fine-sound c.space (sample 0) (sample 1) (sample 2) (sample 3) (ap known space-is ∙ g.is_known) (allow 0 (omega arith)) (allow 1 (omega arith)) (allow 2 (omega arith)) (allow 3 (omega arith))
+    where
+      allow : (k : ℕ) → k < 4 → allowed c.space k (sample k) ≡ true
+      allow k l = ap₂ (λ (y z : ℕ). allowed y k z) space-is (sample-is k _ l refl) ∙ g.are_allowed k l
+
+  pub tested-unsound : sound c.space (sample 0 ∷ sample 1 ∷ sample 2 ∷ sample 3 ∷ []) ≡ false → None ≡ tested (colour s at)
   tested-unsound u = go (colour s at) refl
     where
       go : (m : Res Colour) → colour s at ≡ m → None ≡ tested m
       go (ok y q) e = absurd (true≢false (sym (good-sound (colour-inv s at e).2) ∙ u))
       go (refuse y p r f) e = refl
 
-  pub tested-sound : sound x (a ∷ b ∷ c ∷ d ∷ []) ≡ true → Some (record { space = x; samples = a ∷ b ∷ c ∷ d ∷ [] }) ≡ tested (colour s at)
+  pub tested-sound : sound c.space (sample 0 ∷ sample 1 ∷ sample 2 ∷ sample 3 ∷ []) ≡ true → Some c ≡ tested (colour s at)
   tested-sound u =
-      let i = done-inv (colour s at) (colour-sound s at x a b c d h ex ea eb ec ed u) in
-      ap (λ (y : Colour). Some y) (five s at x a b c d ex ea eb ec ed ∙ (colour-inv s at i.1).0) ∙ sym (ap tested i.1)
+      let i =
+      done-inv (colour s at) (colour-sound s at c.space (sample 0) (sample 1) (sample 2) (sample 3) h space-is
+      (sample-is 0 _ (omega arith) (omega arith)) (sample-is 1 _ (omega arith) (omega arith)) (sample-is 2 _ (omega arith) (omega arith)) (sample-is 3 _ (omega arith) (omega arith)) u) in
+      ap (λ (y : Colour). Some y) (is ∙ (colour-inv s at i.1).0) ∙ sym (ap tested i.1)
 
 -- ---- what follows it
 

@@ -34,20 +34,12 @@ fn colour_at(file: &[u8], at: usize) -> Option<Colour>
     if n - 10 < at {
         return None;
     }
-    let end = at + 10;
-    let part = &file[at..end];
-    let space = fields::number_or_zero::<u16>(part, 0);
-    let a = fields::number_or_zero::<u16>(part, 2);
-    let b = fields::number_or_zero::<u16>(part, 4);
-    let c = fields::number_or_zero::<u16>(part, 6);
-    let d = fields::number_or_zero::<u16>(part, 8);
-    if !colour::is_sound(space, a, b, c, d) {
+    let found = aco_read::colour_at(file, at);
+    let samples = found.samples;
+    if !colour::is_sound(found.space, samples[0], samples[1], samples[2], samples[3]) {
         return None;
     }
-    Some(Colour {
-        space,
-        samples: [a, b, c, d],
-    })
+    Some(found)
 }
 
 // Whether the file is list 1 and no more.
