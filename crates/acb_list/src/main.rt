@@ -8,8 +8,8 @@ ghost use Rattle.acb.specs.Reading.{components_of, acb};
 ghost use Rattle.acb_judge.specs.Answer.{told_text, told_header, told_tag};
 ghost use Rattle.acb_shown_values.specs.Answer.{told_page};
 ghost use Rattle.listing.specs.Buffer.{put_all};
-ghost use Rattle.acb_read.specs.Answer.{told_record};
-ghost use Rattle.acb_read.specs.Walked.{given_in, walked};
+ghost use Rattle.acb_read.specs.Answer.{told_given};
+ghost use Rattle.acb_read.specs.Walked.{walked};
 ghost use Rattle.acb_shown_file.specs.View.{dummies_in};
 ghost use Rattle.listing.specs.Text.{word, lines, taken};
 ghost use Rattle.acb_list.specs.Listing.{ending, numbers, heading, texts, pages, listing};
@@ -17,10 +17,11 @@ ghost use Rattle.acb_list.specs.scaffold.Parts.{record_text, given_line};
 ghost use Rattle.acb_list.specs.Listing.{text as Listing·text, page as Listing·page};
 
 use acb::WIDTH;
-use acb_judge::{Answer, Header, Tag, Text};
+use acb_judge::{Header, Tag};
 use acb_read::BookRecord;
-use acb_shown_values::Page;
+use fault::{Fault, Refusal};
 use listing::{finish, put, put_name, put_number, put_refusal, put_text, put_word, take_input};
+use names::Name;
 use walk::name_part;
 
 // The longest input that is listed.
@@ -60,14 +61,14 @@ fn put_heading(out: &mut [u8], header: Header, tag: Tag, count: usize) -> usize
 }
 
 // A header string as it is shown, behind a label.
-fn put_shown(out: &mut [u8], n: usize, label: &[u8], file: &[u8], text: Text) -> usize
+fn put_shown(out: &mut [u8], n: usize, label: &[u8], file: &[u8], text: Name) -> usize
     ensures { (out.new, result) ≡ put_all (out.old, n) (Listing·text file.now label.now (told_text text)) }
 {
     let mut at = put_text(out, n, label);
     at = put_name(
         out,
         at,
-        acb_shown_values::shown_text(name_part(file, text.place, text.units)),
+        acb_shown_values::shown_text(name_part(file, text.first, text.units)),
     );
     put(out, at, b'\n')
 }
@@ -85,42 +86,32 @@ fn put_texts(out: &mut [u8], n: usize, file: &[u8], header: Header) -> usize
     put_shown(out, at, b"description ", file, description)
 }
 
-fn number(x: u8) -> u64
-    ensures { result ≡ x }
-{
-    x as u64
-}
-
 // So many of some components, as far as there are.
 fn put_components(out: &mut [u8], n: usize, values: &[u8], components: usize) -> usize
     ensures { (out.new, result) ≡ put_all (out.old, n) (joined word (take components values.now)) }
 {
     let mut at = n;
-    let mut k: usize = 0;
-    while k < components {
+    for k in 0..components {
         if values.len() <= k {
             return at;
         }
-        at = put_word(out, at, number(values[k]));
-        k += 1;
+        at = put_word(out, at, u64::from(values[k]));
     }
     at
 }
 
 // What stands in a record's line after its number. The six bytes of the code are listed as those of a name
 // would be.
-fn put_record(out: &mut [u8], n: usize, file: &[u8], swatch: BookRecord, components: usize) -> usize
-    ensures { (out.new, result) ≡ put_all (out.old, n) (record_text file.now components (given_in (told_record swatch))) }
+fn put_record(out: &mut [u8], n: usize, file: &[u8], given: BookRecord, components: usize) -> usize
+    ensures { (out.new, result) ≡ put_all (out.old, n) (record_text file.now components (told_given given)) }
 {
-    let code = swatch.code;
-    let values = swatch.components;
-    let name = swatch.name;
-    let string = acb_read::text_place(name);
+    let code = given.code;
+    let values = given.components;
     let mut at = put(out, n, b' ');
     at = put_name(out, at, &code);
     at = put_components(out, at, &values, components);
     at = put(out, at, b' ');
-    at = put_name(out, at, name_part(file, string.place, string.units));
+    at = put_name(out, at, name_part(file, given.name.first, given.name.units));
     put(out, at, b'\n')
 }
 
@@ -137,33 +128,28 @@ fn put_records(
 {
     let components = acb_judge::components_of(space);
     let mut at = n;
-    let mut i: usize = 0;
     let mut p = first;
-    while i < count {
+    for i in 0..count {
         let step = acb_read::step_at(file, p, space);
         at = put_number(out, at, i as u64);
-        at = put_record(out, at, file, step.swatch, components);
+        at = put_record(out, at, file, acb_read::given(step.swatch), components);
         p = step.next;
-        i += 1;
     }
     at
 }
 
 // A page's number, and the record that it shows, or `-` where it shows none.
-fn put_page(out: &mut [u8], n: usize, page: usize, shown: Page) -> usize
+fn put_page(out: &mut [u8], n: usize, page: usize, shown: Result<usize, Refusal>) -> usize
     ensures { (out.new, result) ≡ put_all (out.old, n) (Listing·page page (told_page shown)) }
 {
     let mut at = put_text(out, n, b"page");
     at = put_word(out, at, page as u64);
     match shown {
-        Page::Is(i) => {
+        Ok(i) => {
             at = put_word(out, at, i as u64);
             put(out, at, b'\n')
         }
-        Page::Refused {
-            number: _,
-            place: _,
-        } => put_text(out, at, b" -\n"),
+        Err(_) => put_text(out, at, b" -\n"),
     }
 }
 
@@ -193,24 +179,17 @@ fn put_listing(out: &mut [u8], file: &[u8]) -> usize
     ensures { (out.new, result) ≡ put_all (out.old, 0) (taken 65536 file.now (listing file.now (acb file.now))) }
 {
     if TAKEN < file.len() {
-        return put_refusal(out, 1, 0);
+        return put_refusal(out, Refusal(Fault::TooLong, 0));
     }
     let mut table = [0u32; WIDTH * RECORDS];
     match acb_read::read(file, &mut table) {
-        Answer::Refused { number, place } => put_refusal(out, number, place),
-        Answer::Accepted {
-            header,
-            tag,
-            count,
-            first,
-        } => {
-            let space = header.space;
-            let size = header.size;
-            let offset = header.offset;
-            let mut at = put_heading(out, header, tag, count);
+        Err(refused) => put_refusal(out, refused),
+        Ok(book) => {
+            let header = book.header;
+            let mut at = put_heading(out, header, book.tag, book.count);
             at = put_texts(out, at, file, header);
-            at = put_records(out, at, file, first, space, count);
-            at = put_pages(out, at, &table, count, size, offset);
+            at = put_records(out, at, file, book.first, header.space, book.count);
+            at = put_pages(out, at, &table, book.count, header.size, header.offset);
             put_text(out, at, b"end\n")
         }
     }

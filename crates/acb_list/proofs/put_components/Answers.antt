@@ -26,7 +26,7 @@ loop-k-preserved c =
     let h = c.loop-k-test.true in
     let some = length-take a.components a.values.now in
     let same = get_or-take a.components a.values.now l.k 0 h in
-    let x = c.put_word-at.ensures ∙ ap (λ (v : ℕ). put_all (l.out, l.at) (word v)) (c.number.ensures ∙ sym same) in
+    let x = c.put_word-at.ensures ∙ ap (λ (v : ℕ). put_all (l.out, l.at) (word v)) (c.from.ensures ∙ sym same) in
     (omega arith, search rules, items-turn word _ (take a.components a.values.now) (l.out, l.at) l.k l.invariant.2 (omega (arith, h, c.if-values-k.false)) x)
 
 pub returns : goal.returns

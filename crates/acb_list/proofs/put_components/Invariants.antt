@@ -1,4 +1,4 @@
-use Prim.Native.Nat.{◌-◌, ◌≤◌}
+use Prim.Native.Nat.{◌≤◌}
 use lib.ListN.{length, take, drop}
 use mathlib.Core.Path.{◌≡◌}
 use Rattle.algebra.specs.Numbers.{joined}
@@ -8,6 +8,3 @@ use Rattle.acb_list.proofs.put_components.Given as goal
 
 abbrev pub invariant-loop-k : goal.invariant-loop-k
 invariant-loop-k l = (l.k ≤ l.components) × (length l.out ≡ length l.initial.out) × (put_all (l.initial.out, l.n) (joined word (take l.components l.values)) ≡ put_all (l.out, l.at) (joined word (drop l.k (take l.components l.values))))
-
-abbrev pub decreases-loop-k : goal.decreases-loop-k
-decreases-loop-k l = l.components - l.k

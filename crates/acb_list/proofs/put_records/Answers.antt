@@ -31,7 +31,7 @@ loop-i-preserved c =
     let s = a.file.now in
     let n = ap (λ (w : RecordPlaces × ℕ). w.1) st.ensures in
     let e = walked-turn a.space s l.p a.count l.i h ∙ ap (λ (q : ℕ). given_in (step a.space s l.p).0 ∷ walked a.space s q (a.count - (l.i + 1))) (sym n) in
-    let x = put_both _ _ _ num.ensures (put.ensures ∙ ap₂ (λ (k : ℕ) (w : RecordPlaces × ℕ). put_all (num.new.out, num.result) (record_text s k (given_in w.0))) c.components_of-components.ensures st.ensures) in
+    let x = put_both _ _ _ num.ensures (put.ensures ∙ ap₂ (λ (k : ℕ) (g : RecordRow). put_all (num.new.out, num.result) (record_text s k g)) c.components_of-components.ensures (c.given.ensures ∙ ap (λ (w : RecordPlaces × ℕ). given_in w.0) st.ensures)) in
     (omega arith, search rules, line-put (given_line s (components_of a.space)) _ (l.out, l.at) l.i l.invariant.2 e x)
 
 pub returns : goal.returns

@@ -10,6 +10,3 @@ use Rattle.acb_list.proofs.put_records.Given as goal
 
 abbrev pub invariant-loop-i : goal.invariant-loop-i
 invariant-loop-i l = (l.i ≤ l.count) × (length l.out ≡ length l.initial.out) × (put_all (l.initial.out, l.n) (lines (given_line l.file (components_of l.space)) 0 (walked l.space l.file l.first l.count)) ≡ put_all (l.out, l.at) (lines (given_line l.file (components_of l.space)) l.i (walked l.space l.file l.p (l.count - l.i))))
-
-abbrev pub decreases-loop-i : goal.decreases-loop-i
-decreases-loop-i l = l.count - l.i
