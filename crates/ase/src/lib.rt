@@ -7,8 +7,7 @@ pub const LIMIT: usize = 16777216;
 pub const WIDTH: usize = 9;
 /// The most groups that stand open.
 pub const DEEPEST: usize = 16;
-// Kept: the types are matched as the numbers that files and rows have, and a type that no block has is
-// refused by the match; an enum would be one table more, and no match less.
+// Kept: matches name these numbers of files and rows; an enum would be one more table of them.
 /// The type of a block that starts a group.
 pub const GROUP_START: u16 = 0xC001;
 /// The type of a block that ends a group.
@@ -18,8 +17,7 @@ pub const COLOUR: u16 = 0x0001;
 /// `ASEF`.
 pub const SIGNATURE: u32 = 0x4153_4546;
 
-// Kept: four channels and no array, since each is one number of a row, stored, taken and judged by
-// itself.
+// Kept: four channels and no array: each is one number of a row, and is judged and stored alone.
 /// A record's numbers in the order of a row: its block's type, where its name lies, and of a colour
 /// the tag of its model, the bits of its channels, and its ink.
 #[derive(Clone, Copy, Debug, PartialEq, Eq)]

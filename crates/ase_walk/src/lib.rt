@@ -36,8 +36,7 @@ const LOST: Refusal = Refusal(Fault::OutOfRange, 0);
 
 // ---- a block
 
-// Kept: `numbers_in` of `ase_read` loads the same numbers, but for a row, whose place has 32 bits; a
-// walk goes over files of any length.
+// Kept: not `numbers_in` of `ase_read`, whose places have 32 bits; a walk goes over any length.
 // The block from `at` to `end`, which is judged. All is loaded from the file up to its end, so that
 // what a shorter payload does not have is 0.
 fn block_of(file: &[u8], at: usize, end: usize) -> Record
@@ -195,8 +194,7 @@ pub fn start<'a>(file: &'a [u8]) -> Walker<'a>
     Walker { file: part, at }
 }
 
-// Kept: a walker is taken and handed back by value, so that the one that was passed stays as it was
-// (docs/DECISIONS.md).
+// Kept: by value (docs/DECISIONS.md), so that the walker that was passed stays as it was.
 /// What a call of `next` hands back: what it gave, and the walker that follows.
 #[derive(Clone, Copy)]
 pub struct WalkerStep<'a> {

@@ -1,7 +1,7 @@
 -- When an ink is refused: after every other fault, before the room. Assumes nothing.
 -- Few imports, and first by its name: another order is refused here, and by nothing before it.
 use Prim.Native.Nat.{ℕ, ◌≤◌}
-use mathlib.Core.Path.{◌≡◌, sym, ◌∙◌}
+use mathlib.Core.Path.{◌≡◌, sym}
 use mathlib.Core.List.{List}
 use borrow.Author.Tests.{le-leb, ne_eqb}
 use Rattle.algebra.specs.Reader.{limit}

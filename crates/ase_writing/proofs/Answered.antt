@@ -2,7 +2,7 @@
 -- Few imports, and first by its name: a number outside these is refused here, and by nothing before it.
 use Prim.Native.Nat.{ℕ, ◌+◌}
 use mathlib.Core.Path.{◌≡◌, refl}
-use mathlib.Core.List.{List, map, [], ◌∷◌}
+use mathlib.Core.List.{List, map, ◌∷◌}
 use lib.Dec.{leb, ltb, eqb}
 use Rattle.algebra.specs.Reader.{limit, state_after}
 use Rattle.algebra.specs.Text.{any_zero}
