@@ -10,7 +10,7 @@ ghost use Rattle.descriptor_list.specs.scaffold.Held.{Given, Held};
 ghost use Rattle.descriptor_list.specs.Listing.{heading, line, listing};
 ghost use Rattle.descriptor_list.specs.Listing.{kind as Listing·kind};
 
-use descriptor_judge::Answer;
+use fault::{Fault, Refusal};
 use listing::{finish, put, put_number, put_refusal, put_text, put_word, take_input};
 
 // The longest input that is listed.
@@ -21,18 +21,12 @@ fn put_kind(out: &mut [u8], n: usize, kind: u32) -> usize
     ensures { (out.new, result) ≡ put_all (out.old, n) (Listing·kind kind) }
 {
     let mut tag = [0u8; 4];
-    fields::put_u32(&mut tag, 0, kind);
+    fields::put_number(&mut tag, 0, kind);
     let mut k: usize = 4;
     while 0 < k && tag[k - 1] == b' ' {
         k -= 1;
     }
     put_text(out, n, &tag[..k])
-}
-
-fn wide(x: u32) -> u64
-    ensures { result ≡ x }
-{
-    x as u64
 }
 
 // Parent, first byte, length and depth.
@@ -41,10 +35,8 @@ fn put_places(out: &mut [u8], n: usize, row: &[u32]) -> usize
     ensures { (out.new, result) ≡ put_all (out.old, n) (joined word (take 4 (drop 1 row.now))) }
 {
     let mut at = n;
-    let mut k: usize = 1;
-    while k < 5 {
-        at = put_word(out, at, wide(row[k]));
-        k += 1;
+    for k in 1..5 {
+        at = put_word(out, at, u64::from(row[k]));
     }
     at
 }
@@ -85,10 +77,8 @@ fn put_rows(
     ensures { (rs : List Row) → Held rs first.now size.now depth.now kind.now parent.now rows → (out.new, result) ≡ put_all (out.old, n) (lines line 0 rs) }
 {
     let mut at = n;
-    let mut i: usize = 0;
-    while i < rows {
+    for i in 0..rows {
         at = put_row(out, at, i, kind[i], parent[i], first[i], size[i], depth[i]);
-        i += 1;
     }
     at
 }
@@ -106,7 +96,7 @@ fn put_accepted(
     ensures { (rs : List Row) → Given rs first.now size.now depth.now kind.now rows → (out.new, result) ≡ put_all (out.old, 0) (heading rows ++ lines line 0 rs ++ ascii "end\n") }
 {
     let mut parent = [0u32; 3276];
-    descriptor_columns::parents(&depth[..rows], &mut parent);
+    let _rows = descriptor_columns::parents(&depth[..rows], &mut parent);
     let mut at = put_text(out, 0, b"DESC");
     at = put_word(out, at, rows as u64);
     at = put(out, at, b'\n');
@@ -119,7 +109,7 @@ fn put_listing(out: &mut [u8], file: &[u8]) -> usize
     ensures { (out.new, result) ≡ put_all (out.old, 0) (taken 16384 file.now (listing (descriptor file.now))) }
 {
     if TAKEN < file.len() {
-        return put_refusal(out, 1, 0);
+        return put_refusal(out, Refusal(Fault::TooLong, 0));
     }
     let mut first = [0u32; 3276];
     let mut size = [0u32; 3276];
@@ -129,8 +119,8 @@ fn put_listing(out: &mut [u8], file: &[u8]) -> usize
     match descriptor_columns::read(
         file, &mut first, &mut size, &mut next, &mut depth, &mut kind,
     ) {
-        Answer::Refused { number, place } => put_refusal(out, number, place),
-        Answer::Accepted { rows } => put_accepted(out, &first, &size, &depth, &kind, rows),
+        Err(refusal) => put_refusal(out, refusal),
+        Ok(rows) => put_accepted(out, &first, &size, &depth, &kind, rows),
     }
 }
 

@@ -237,12 +237,12 @@ pub fn root_head(file: &[u8]) -> RawHead
     opens(file, OBJECT, 1, 0, 4, class_end(file, 4))
 }
 
-// ---- heads, for four loops. Each loop has a reader of its own, called from it alone, which so becomes a
-// part of it; what they share is above, and small enough to become a part of each (docs/DECISIONS.md)
+// ---- heads, for four loops. Each has an instance of its own of the two functions that follow, called from it
+// alone, which so becomes a part of it; what they call is above, and small enough to become a part of each
+// (docs/DECISIONS.md)
 
-// For the loop that looks for one row: an item of this type, whose value begins at `v`; and the head at a
-// place where such members are due.
-fn item_at(file: &[u8], kind: u32, v: usize) -> RawHead
+// An item of this type, whose value begins at `v`.
+fn item<const LOOP: u32>(file: &[u8], kind: u32, v: usize) -> RawHead
     requires { v < 288230376151711744 }
     ensures { Values file.now kind v result }
 {
@@ -264,135 +264,47 @@ fn item_at(file: &[u8], kind: u32, v: usize) -> RawHead
     }
 }
 
+// The head at a place where such members are due.
+fn head<const LOOP: u32>(file: &[u8], what: u32, objects: u32, at: usize) -> RawHead
+    ensures { at ≤ 16777216 → Sees (λ d. member_head d (due_of what objects) file.now at) result }
+{
+    if LIMIT < at {
+        return leaf(0, at, at);
+    }
+    if what < 2 {
+        let start = key_end(file, what == 1, at);
+        return item::<LOOP>(file, fields::number_or_zero::<u32>(file, start), start + 4);
+    }
+    if what == 2 {
+        return form_head(file, at);
+    }
+    column_head(file, objects, at)
+}
+
+/// For the loop that looks for one row: the head at a place where such members are due.
 pub fn head_at(file: &[u8], what: u32, objects: u32, at: usize) -> RawHead
     ensures { at ≤ 16777216 → Sees (λ d. member_head d (due_of what objects) file.now at) result }
 {
-    if LIMIT < at {
-        return leaf(0, at, at);
-    }
-    if what < 2 {
-        let start = key_end(file, what == 1, at);
-        return item_at(file, fields::number_or_zero::<u32>(file, start), start + 4);
-    }
-    if what == 2 {
-        return form_head(file, at);
-    }
-    column_head(file, objects, at)
+    head::<0>(file, what, objects, at)
 }
 
-// For the loop that fills columns.
-fn item_to_fill(file: &[u8], kind: u32, v: usize) -> RawHead
-    requires { v < 288230376151711744 }
-    ensures { Values file.now kind v result }
-{
-    match kind {
-        BOOL => fixed(kind, v, 1),
-        LONG => fixed(kind, v, 4),
-        COMP => fixed(kind, v, 8),
-        DOUBLE => fixed(kind, v, 8),
-        UNIT_DOUBLE => fixed(kind, v, 12),
-        ALIAS | PATH | RAW => run_head(file, kind, v),
-        TEXT => text_head(file, kind, v),
-        ENUMERATED => enumerated_head(file, kind, v),
-        CLASS | GLOBAL_CLASS => class_head(file, kind, v),
-        LIST => list_head(file, kind, 0, v),
-        REFERENCE => list_head(file, kind, 2, v),
-        OBJECT | GLOBAL_OBJECT => object_head(file, kind, v),
-        ARRAY => array_head(file, kind, fields::number_or_zero::<u32>(file, v), v),
-        _ => fixed(kind, v, 0),
-    }
-}
-
+/// The same for the loop that fills columns.
 pub fn head_to_fill(file: &[u8], what: u32, objects: u32, at: usize) -> RawHead
     ensures { at ≤ 16777216 → Sees (λ d. member_head d (due_of what objects) file.now at) result }
 {
-    if LIMIT < at {
-        return leaf(0, at, at);
-    }
-    if what < 2 {
-        let start = key_end(file, what == 1, at);
-        return item_to_fill(file, fields::number_or_zero::<u32>(file, start), start + 4);
-    }
-    if what == 2 {
-        return form_head(file, at);
-    }
-    column_head(file, objects, at)
+    head::<1>(file, what, objects, at)
 }
 
-// For the loop that stores where values begin.
-fn item_to_value(file: &[u8], kind: u32, v: usize) -> RawHead
-    requires { v < 288230376151711744 }
-    ensures { Values file.now kind v result }
-{
-    match kind {
-        BOOL => fixed(kind, v, 1),
-        LONG => fixed(kind, v, 4),
-        COMP => fixed(kind, v, 8),
-        DOUBLE => fixed(kind, v, 8),
-        UNIT_DOUBLE => fixed(kind, v, 12),
-        ALIAS | PATH | RAW => run_head(file, kind, v),
-        TEXT => text_head(file, kind, v),
-        ENUMERATED => enumerated_head(file, kind, v),
-        CLASS | GLOBAL_CLASS => class_head(file, kind, v),
-        LIST => list_head(file, kind, 0, v),
-        REFERENCE => list_head(file, kind, 2, v),
-        OBJECT | GLOBAL_OBJECT => object_head(file, kind, v),
-        ARRAY => array_head(file, kind, fields::number_or_zero::<u32>(file, v), v),
-        _ => fixed(kind, v, 0),
-    }
-}
-
+/// The same for the loop that stores where values begin.
 pub fn head_to_value(file: &[u8], what: u32, objects: u32, at: usize) -> RawHead
     ensures { at ≤ 16777216 → Sees (λ d. member_head d (due_of what objects) file.now at) result }
 {
-    if LIMIT < at {
-        return leaf(0, at, at);
-    }
-    if what < 2 {
-        let start = key_end(file, what == 1, at);
-        return item_to_value(file, fields::number_or_zero::<u32>(file, start), start + 4);
-    }
-    if what == 2 {
-        return form_head(file, at);
-    }
-    column_head(file, objects, at)
+    head::<2>(file, what, objects, at)
 }
 
-// For the loop that compares a table.
-fn item_to_compare(file: &[u8], kind: u32, v: usize) -> RawHead
-    requires { v < 288230376151711744 }
-    ensures { Values file.now kind v result }
-{
-    match kind {
-        BOOL => fixed(kind, v, 1),
-        LONG => fixed(kind, v, 4),
-        COMP => fixed(kind, v, 8),
-        DOUBLE => fixed(kind, v, 8),
-        UNIT_DOUBLE => fixed(kind, v, 12),
-        ALIAS | PATH | RAW => run_head(file, kind, v),
-        TEXT => text_head(file, kind, v),
-        ENUMERATED => enumerated_head(file, kind, v),
-        CLASS | GLOBAL_CLASS => class_head(file, kind, v),
-        LIST => list_head(file, kind, 0, v),
-        REFERENCE => list_head(file, kind, 2, v),
-        OBJECT | GLOBAL_OBJECT => object_head(file, kind, v),
-        ARRAY => array_head(file, kind, fields::number_or_zero::<u32>(file, v), v),
-        _ => fixed(kind, v, 0),
-    }
-}
-
+/// The same for the loop that compares a table.
 pub fn head_to_compare(file: &[u8], what: u32, objects: u32, at: usize) -> RawHead
     ensures { at ≤ 16777216 → Sees (λ d. member_head d (due_of what objects) file.now at) result }
 {
-    if LIMIT < at {
-        return leaf(0, at, at);
-    }
-    if what < 2 {
-        let start = key_end(file, what == 1, at);
-        return item_to_compare(file, fields::number_or_zero::<u32>(file, start), start + 4);
-    }
-    if what == 2 {
-        return form_head(file, at);
-    }
-    column_head(file, objects, at)
+    head::<3>(file, what, objects, at)
 }

@@ -14,5 +14,5 @@ slice_bounds-parents-end c =
 pub returns : goal.returns
 returns c =
     λ rs g.
-    let h = held rs g c.requires.4 (replicate 3276 0) _ (search rules) _ c.parents.ensures in
+    let h = held rs g c.requires.4 (replicate 3276 0) _ (search rules) _ c.parents-rows.ensures in
     put_both _ _ _ (put_both _ _ _ (put_last _ _ _ (put_both _ _ _ c.put_text-at.ensures c.put_word-at.ensures) c.put-at.ensures) (c.put_rows-at.ensures rs h)) c.put_text.ensures

@@ -18,12 +18,12 @@ loop-k-init c = (omega arith, refl)
 pub loop-k-preserved : goal.loop-k-preserved
 loop-k-preserved c =
     let l = c.loop-k in
-    (omega arith, l.invariant.1 ∙ kept-space c.put_u32.new.out l.k c.loop-k-test.true c.if-tag-k-eq32.true)
+    (omega arith, l.invariant.1 ∙ kept-space c.put_number.new.out l.k c.loop-k-test.true c.if-tag-k-eq32.true)
 
 pub returns : goal.returns
 returns c =
     let l = c.loop-k in
-    let u = c.put_u32 in
+    let u = c.put_number in
     let a = c.args in
     let last : kept u.new.out l.k ≡ l.k =
     elim c.loop-k-test.branch [ then-loop-k-test+else-tag-k-eq32 w ↦ kept-all u.new.out l.k (λ h e. w.if-tag-k-eq32.false e) | else-loop-k-test w ↦ kept-all u.new.out l.k (λ h e. omega (arith, w.loop-k-test.false)) ] in

@@ -14,16 +14,16 @@ returns-then-file-gt-TAKEN c =
 pub put_accepted-requires : goal.put_accepted-requires
 put_accepted-requires c =
     let a = c.args in
-    (listed-accepted a.file.now c.read.ensures.1 (search rules) (search rules) (search rules) (search rules) (search rules) c.if-file-gt-TAKEN.false (sym (ap told c.in-Accepted.is) ∙ c.read.ensures.0)).2
+    (listed-accepted a.file.now c.read.ensures.1 (search rules) (search rules) (search rules) (search rules) (search rules) c.if-file-gt-TAKEN.false (sym (ap told c.in-Ok.is) ∙ c.read.ensures.0)).2
 
-pub returns-in-Refused : goal.returns-in-Refused
-returns-in-Refused c =
+pub returns-in-Err : goal.returns-in-Err
+returns-in-Err c =
     let a = c.args in
-    c.put_refusal-in-Refused.ensures
-    ∙ ap (put_all (a.out.now, 0)) (listed-refused a.file.now c.read.ensures.1 (search rules) (search rules) (search rules) (search rules) (search rules) c.if-file-gt-TAKEN.false (sym (ap told c.in-Refused.is) ∙ c.read.ensures.0) ∙ taken-within 16384 a.file.now _ c.if-file-gt-TAKEN.false)
+    c.put_refusal-in-Err.ensures
+    ∙ ap (put_all (a.out.now, 0)) (listed-refused a.file.now c.read.ensures.1 (search rules) (search rules) (search rules) (search rules) (search rules) c.if-file-gt-TAKEN.false (sym (ap told c.in-Err.is) ∙ c.read.ensures.0) ∙ taken-within 16384 a.file.now _ c.if-file-gt-TAKEN.false)
 
-pub returns-in-Accepted : goal.returns-in-Accepted
-returns-in-Accepted c =
+pub returns-in-Ok : goal.returns-in-Ok
+returns-in-Ok c =
     let a = c.args in
-    let x = listed-accepted a.file.now c.read.ensures.1 (search rules) (search rules) (search rules) (search rules) (search rules) c.if-file-gt-TAKEN.false (sym (ap told c.in-Accepted.is) ∙ c.read.ensures.0) in
+    let x = listed-accepted a.file.now c.read.ensures.1 (search rules) (search rules) (search rules) (search rules) (search rules) c.if-file-gt-TAKEN.false (sym (ap told c.in-Ok.is) ∙ c.read.ensures.0) in
     c.put_accepted.ensures x.0 x.1 ∙ ap (put_all (a.out.now, 0)) (x.3 ∙ taken-within 16384 a.file.now _ c.if-file-gt-TAKEN.false)

@@ -13,7 +13,7 @@ loop-k-init c = (omega arith, omega arith, refl, refl)
 pub loop-k-preserved : goal.loop-k-preserved
 loop-k-preserved c =
     let l = c.loop-k in
-    let x = c.put_word-at.ensures ∙ ap (λ (v : ℕ). put_all (l.out, l.at) (word v)) c.wide.ensures in
+    let x = c.put_word-at.ensures ∙ ap (λ (v : ℕ). put_all (l.out, l.at) (word v)) c.from.ensures in
     (omega arith, omega arith, search rules, place-turn c.args.row.now c.requires _ (l.out, l.at) l.k l.invariant.0 (omega (arith, c.loop-k-test.true)) l.invariant.3 x)
 
 pub returns : goal.returns

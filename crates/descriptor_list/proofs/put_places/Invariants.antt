@@ -8,6 +8,3 @@ use Rattle.descriptor_list.proofs.put_places.Given as goal
 
 abbrev pub invariant-loop-k : goal.invariant-loop-k
 invariant-loop-k l = (1 ≤ l.k) × (l.k ≤ 5) × (length l.out ≡ length l.initial.out) × (put_all (l.initial.out, l.n) (joined word (take 4 (drop 1 l.row))) ≡ put_all (l.out, l.at) (joined word (drop (l.k - 1) (take 4 (drop 1 l.row)))))
-
-abbrev pub decreases-loop-k : goal.decreases-loop-k
-decreases-loop-k l = 5 - l.k
