@@ -14,14 +14,14 @@ use descriptor::{
 };
 use descriptor_entry::{Field, Shape};
 
-// Number i of an entry; 0 where there is none.
+/// Number i of an entry; 0 where there is none.
 pub fn number_in(row: &[u32], i: usize) -> u32
     ensures { result ≡ number_in row.now i }
 {
     row.get(i).copied().unwrap_or(0)
 }
 
-// The number behind number i of an entry: where the bytes of its length or count lie.
+/// The number behind number i of an entry: where the bytes of its length or count lie.
 pub fn place_in(row: &[u32], i: usize) -> usize
     ensures { (result ≡ number_in row.now (i + 1)) × (result < 4294967296) }
 {
@@ -31,7 +31,7 @@ pub fn place_in(row: &[u32], i: usize) -> usize
     0
 }
 
-// How many bytes stand behind an ID's length.
+/// How many bytes stand behind an ID's length.
 pub fn id_length(n: u32) -> usize
     ensures { (result ≡ id_length n) × (result < 4294967296) }
 {
@@ -177,7 +177,7 @@ fn column_shape(kind: u32) -> Shape
     unknown()
 }
 
-// The fields of a kind, where such members are due.
+/// The fields of a kind, where such members are due.
 pub fn shape_of(what: u32, kind: u32) -> Shape
     ensures { result ≡ shape_of (due_of what 0) kind }
 {
@@ -190,7 +190,7 @@ pub fn shape_of(what: u32, kind: u32) -> Shape
     column_shape(kind)
 }
 
-// The root's.
+/// The root's.
 pub fn root_shape() -> Shape
     ensures { result ≡ object }
 {
@@ -205,14 +205,14 @@ pub fn root_shape() -> Shape
 
 // ---- what a head has besides
 
-// Whether a pair is due, which has a key.
+/// Whether a pair is due, which has a key.
 pub fn is_keyed(what: u32) -> bool
     ensures { result ≡ keyed (due_of what 0) }
 {
     what == 1 || 2 < what
 }
 
-// How many members an entry wants.
+/// How many members an entry wants.
 pub fn members_in(row: &[u32], shape: Shape) -> u32
     ensures { result ≡ wanted shape.below (count_of row.now) }
 {

@@ -239,7 +239,7 @@ fn head_fault(text: &[u8], row: &[u32], what: u32, objects: u32, shape: Shape) -
     Err(Fault::Unknown)
 }
 
-// A member's head. One that is over the limit by itself is not judged further.
+/// A member's head. One that is over the limit by itself is not judged further.
 pub fn judge_head(row: &[u32], text: &[u8], what: u32, objects: u32) -> Judged
     ensures { Judges text.now (head_pieces (due_of what objects) row.now) (asks (shape_of (due_of what objects) (kind_of row.now)) 0 0 0 row.now) result }
 {
@@ -277,7 +277,7 @@ fn root_fault(text: &[u8], row: &[u32], shape: Shape) -> Result<(), Fault>
     Err(Fault::Unknown)
 }
 
-// The root's head.
+/// The root's head.
 pub fn judge_root(row: &[u32], text: &[u8]) -> Judged
     ensures { Judges text.now (root_pieces row.now) (asks object 0 0 0 row.now) result }
 {
