@@ -64,11 +64,13 @@ fn exported(a: Result<Counts, Rejection>) -> AcoAnswer
             colours: 0,
             lists: 0,
         },
-        Err(Rejection::Differ {
-            place,
-            record,
-            field,
-        }) => AcoAnswer {
+        Err(
+            Rejection::Differ {
+                place,
+                record,
+                field,
+            },
+        ) => AcoAnswer {
             number: Fault::ListsDiffer.number(),
             place,
             rec: record,
@@ -135,11 +137,13 @@ pub extern "C" fn khuyurek_aco_record_at(file: &[u8], i: usize) -> AcoRecord
     match aco_read::record_at(file, i) {
         Ok(swatch) => found(swatch),
         Err(Rejection::Refused(Refusal(fault, place))) => missing(fault.number(), place, 0, 0),
-        Err(Rejection::Differ {
-            place,
-            record,
-            field,
-        }) => missing(Fault::ListsDiffer.number(), place, record, field),
+        Err(
+            Rejection::Differ {
+                place,
+                record,
+                field,
+            },
+        ) => missing(Fault::ListsDiffer.number(), place, record, field),
     }
 }
 

@@ -87,11 +87,13 @@ fn aco_started(o: Result<usize, Rejection>) -> AcoStart
             field: 0,
             at: 0,
         },
-        Err(Rejection::Differ {
-            place,
-            record,
-            field,
-        }) => AcoStart {
+        Err(
+            Rejection::Differ {
+                place,
+                record,
+                field,
+            },
+        ) => AcoStart {
             number: Fault::ListsDiffer.number(),
             place,
             rec: record,

@@ -3,8 +3,8 @@ use Rattle.khuyurek.specs.Acb.{page_of}
 use Rattle.acb_shown_values.specs.Answer.{told_page}
 use Rattle.khuyurek.proofs.books.exported_page.Goals as goal
 
-pub returns-in-Is : goal.returns-in-Is
-returns-in-Is c = sym (ap (λ (v : _). page_of (told_page v)) c.in-Is.is)
+pub returns-in-Ok : goal.returns-in-Ok
+returns-in-Ok c = sym (ap (λ (v : _). page_of (told_page v)) c.in-Ok.is)
 
-pub returns-in-Refused : goal.returns-in-Refused
-returns-in-Refused c = sym (ap (λ (v : _). page_of (told_page v)) c.in-Refused.is)
+pub returns-in-Err : goal.returns-in-Err
+returns-in-Err c = rw c.number.ensures (sym (ap (λ (v : _). page_of (told_page v)) c.in-Err.is))

@@ -42,16 +42,16 @@ overflow_cast-result c =
     in
     record { fits = fitting (subst (λ (k : CountAnswer). count_of k ≤ 4) (sym told) (few a.i (acb a.file.now))) }
 
-pub returns-in-Is : goal.returns-in-Is
-returns-in-Is c =
+pub returns-in-Ok : goal.returns-in-Ok
+returns-in-Ok c =
     let four = c.four-values in
-    ap (λ (vs : List ℤ). showing vs (counted c.in-Is.n)) four.ensures
-    ∙ sym (ap (λ (v : _). showing (four_of c.shown_at-shown.result.values) (told_count v)) c.in-Is.is)
+    ap (λ (vs : List ℤ). showing vs (counted c.in-Ok.n)) four.ensures
+    ∙ sym (ap (λ (v : _). showing (four_of c.shown_at-shown.result.values) (told_count v)) c.in-Ok.is)
     ∙ ap shown_of c.shown_at-shown.ensures
 
-pub returns-in-Refused : goal.returns-in-Refused
-returns-in-Refused c =
-    let four = c.four-values in
-    ap (λ (vs : List ℤ). showing vs (refusal c.in-Refused.number c.in-Refused.place)) four.ensures
-    ∙ sym (ap (λ (v : _). showing (four_of c.shown_at-shown.result.values) (told_count v)) c.in-Refused.is)
-    ∙ ap shown_of c.shown_at-shown.ensures
+pub returns-in-Err : goal.returns-in-Err
+returns-in-Err c =
+    rw c.number.ensures (let four = c.four-values in
+    ap (λ (vs : List ℤ). showing vs (refusal c.in-Err.number c.in-Err.place)) four.ensures
+    ∙ sym (ap (λ (v : _). showing (four_of c.shown_at-shown.result.values) (told_count v)) c.in-Err.is)
+    ∙ ap shown_of c.shown_at-shown.ensures)

@@ -4,11 +4,11 @@ use Rattle.khuyurek.specs.Descriptor.{parents_of}
 use Rattle.khuyurek.proofs.columns.exported_parents.Goals as goal
 
 -- src/columns.rt:19:1
-pub returns-in-Accepted : goal.returns-in-Accepted
-returns-in-Accepted c =
-    sym (ap (λ (v : _). parents_of (told v)) c.in-Accepted.is)
+pub returns-in-Ok : goal.returns-in-Ok
+returns-in-Ok c =
+    sym (ap (λ (v : _). parents_of (told v)) c.in-Ok.is)
 
 -- src/columns.rt:19:1
-pub returns-in-Refused : goal.returns-in-Refused
-returns-in-Refused c =
-    sym (ap (λ (v : _). parents_of (told v)) c.in-Refused.is)
+pub returns-in-Err : goal.returns-in-Err
+returns-in-Err c =
+    rw c.number.ensures (sym (ap (λ (v : _). parents_of (told v)) c.in-Err.is))

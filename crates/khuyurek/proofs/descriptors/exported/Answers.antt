@@ -3,8 +3,8 @@ use Rattle.khuyurek.specs.Descriptor.{answer_of}
 use Rattle.descriptor_judge.specs.Answer.{told}
 use Rattle.khuyurek.proofs.descriptors.exported.Goals as goal
 
-pub returns-in-Accepted : goal.returns-in-Accepted
-returns-in-Accepted c = sym (ap (λ (v : _). answer_of (told v)) c.in-Accepted.is)
+pub returns-in-Ok : goal.returns-in-Ok
+returns-in-Ok c = sym (ap (λ (v : _). answer_of (told v)) c.in-Ok.is)
 
-pub returns-in-Refused : goal.returns-in-Refused
-returns-in-Refused c = sym (ap (λ (v : _). answer_of (told v)) c.in-Refused.is)
+pub returns-in-Err : goal.returns-in-Err
+returns-in-Err c = rw c.number.ensures (sym (ap (λ (v : _). answer_of (told v)) c.in-Err.is))

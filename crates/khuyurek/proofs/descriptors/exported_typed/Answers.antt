@@ -22,5 +22,5 @@ returns-in-UnitDouble c = c.kinded-in-UnitDouble.ensures ∙ ap (λ (b : ℕ). k
 pub returns-in-Other : goal.returns-in-Other
 returns-in-Other c = c.kinded-in-Other.ensures ∙ sym (ap typed_as c.in-Other.is)
 
-pub returns-in-Refused : goal.returns-in-Refused
-returns-in-Refused c = sym (ap typed_as c.in-Refused.is)
+pub returns-in-Err : goal.returns-in-Err
+returns-in-Err c = rw c.number.ensures (sym (ap typed_as c.in-Err.is))

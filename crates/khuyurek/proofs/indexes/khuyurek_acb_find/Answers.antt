@@ -3,8 +3,8 @@ use Rattle.acb_find.specs.Answer.{told}
 use Rattle.khuyurek.specs.Names.{found_of}
 use Rattle.khuyurek.proofs.indexes.khuyurek_acb_find.Goals as goal
 
-pub returns-in-Is : goal.returns-in-Is
-returns-in-Is c = ap found_of (sym (ap told c.in-Is.is) ∙ c.find.ensures)
+pub returns-in-Ok : goal.returns-in-Ok
+returns-in-Ok c = ap found_of c.in-Ok.ensures
 
-pub returns-in-Refused : goal.returns-in-Refused
-returns-in-Refused c = ap found_of (sym (ap told c.in-Refused.is) ∙ c.find.ensures)
+pub returns-in-Err : goal.returns-in-Err
+returns-in-Err c = rw c.number.ensures (ap found_of c.in-Err.ensures)

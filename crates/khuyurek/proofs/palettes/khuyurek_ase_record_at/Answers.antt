@@ -12,5 +12,5 @@ returns-in-GroupEnd c = c.no_colour-in-GroupEnd.ensures ∙ ap block_of (sym (ap
 pub returns-in-Colour : goal.returns-in-Colour
 returns-in-Colour c = c.exported_colour.ensures ∙ ap block_of (sym (ap told_record c.in-Colour.is) ∙ c.record_at.ensures)
 
-pub returns-in-Refused : goal.returns-in-Refused
-returns-in-Refused c = c.no_colour-in-Refused.ensures ∙ ap block_of (sym (ap told_record c.in-Refused.is) ∙ c.record_at.ensures)
+pub returns-in-Err : goal.returns-in-Err
+returns-in-Err c = rw c.number.ensures (c.no_colour-in-Refused.ensures ∙ ap block_of c.in-Err.ensures)

@@ -15,10 +15,10 @@ pub returns-in-Colour : goal.returns-in-Colour
 returns-in-Colour c =
     c.ase_colour.ensures ∙ sym (ap (λ (v : _). ase_given c.block_at-step.result.next (told_block v)) c.in-Colour.is) ∙ ap ase_step c.block_at-step.ensures
 
-pub returns-in-Done : goal.returns-in-Done
-returns-in-Done c =
-    c.ase_plain-in-Done.ensures ∙ sym (ap (λ (v : _). ase_given c.block_at-step.result.next (told_block v)) c.in-Done.is) ∙ ap ase_step c.block_at-step.ensures
+pub returns-in-Ok : goal.returns-in-Ok
+returns-in-Ok c =
+    c.ase_plain-in-Done.ensures ∙ sym (ap (λ (v : _). ase_given c.block_at-step.result.next (told_block v)) c.in-Ok.is) ∙ ap ase_step c.block_at-step.ensures
 
-pub returns-in-Refused : goal.returns-in-Refused
-returns-in-Refused c =
-    c.ase_plain-in-Refused.ensures ∙ sym (ap (λ (v : _). ase_given c.block_at-step.result.next (told_block v)) c.in-Refused.is) ∙ ap ase_step c.block_at-step.ensures
+pub returns-in-Err : goal.returns-in-Err
+returns-in-Err c =
+    rw c.number.ensures (c.ase_plain-in-Refused.ensures ∙ sym (ap (λ (v : _). ase_given c.block_at-step.result.next (told_block v)) c.in-Err.is) ∙ ap ase_step c.block_at-step.ensures)
