@@ -1,5 +1,5 @@
 -- However a palette is cut into chunks, `start`, `feed` and `finish` come to what reading the whole file gives, and the store holds the colours that are sound. Assumes nothing.
-use Prim.Native.Nat.{ℕ, ◌+◌, ◌*◌, ◌≤◌, ◌<◌}
+use Prim.Native.Nat.{ℕ, ◌+◌, ◌*◌, ◌≤◌}
 use mathlib.Core.Path.{◌≡◌, refl, sym, ap, ap₂, ◌∙◌, subst}
 use mathlib.Core.List.{List, [], ◌∷◌, ◌++◌, append_assoc}
 use mathlib.Core.Bool.{Bool, true}
@@ -9,10 +9,7 @@ use native.Mathlib.Omega.{arith}
 use Rattle.algebra.specs.Numbers.{All}
 use Rattle.algebra.specs.Store.{part}
 use Rattle.algebra.specs.Reader.{Res, ok, refuse}
-use Rattle.algebra.specs.Refusal.{Of}
-use Rattle.algebra.proofs.Placed.{of-each}
 use Rattle.aco.specs.Reading.{Contents, aco}
-use Rattle.aco.specs.Refusals.{refusals}
 use Rattle.aco.proofs.Placed.{refused-placed}
 use Rattle.algebra.specs.Table.{verdict}
 use Rattle.aco_judge.specs.Answer.{report}

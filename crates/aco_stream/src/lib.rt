@@ -57,12 +57,7 @@ fn settle(stage: Stage, store: &mut [u8], bytes: &[u8], from: usize) -> Stage
     ensures { (result ≡ after stage from (item store.old stage bytes.now 0)) × (store.new ≡ kept stage (item store.old stage bytes.now 0) bytes.now store.old) }
 {
     match aco_items::item_of(stage, store, bytes) {
-        Err(flaw) => Stage::Fault(
-            flaw.fault.number(),
-            from + flaw.place,
-            flaw.rec,
-            flaw.field,
-        ),
+        Err(flaw) => Stage::Fault(flaw.fault.number(), from + flaw.place, flaw.rec, flaw.field),
         Ok((u, _)) => {
             aco_items::keep(stage, store, bytes);
             next_of(stage, from, u)

@@ -17,6 +17,9 @@ returns c =
     let w : a.at + 14 - a.at ≡ 14 = omega arith in
     let n = length_part a.bytes.now a.at (a.at + 14 - a.at) (omega (arith, i, c.requires)) ∙ w in (
       h,
-      (omega (arith, i, c.requires), subst (λ (k : ℕ). entry_head a.index (loaded a.store.now (10 * a.index)) (take k (drop a.at a.bytes.now)) 0 ≡ ok c.number_or_zero-m.result 14) w
-          (head-is a.index a.store.now (take (a.at + 14 - a.at) (drop a.at a.bytes.now)) n (c.is_same.ensures c.if-not-is_same.false) c.number_or_zero-m.result c.number_or_zero-m.ensures h)),
+      (
+        omega (arith, i, c.requires),
+        subst (λ (k : ℕ). entry_head a.index (loaded a.store.now (10 * a.index)) (take k (drop a.at a.bytes.now)) 0 ≡ ok c.number_or_zero-m.result 14) w
+            (head-is a.index a.store.now (take (a.at + 14 - a.at) (drop a.at a.bytes.now)) n (c.is_same.ensures c.if-not-is_same.false) c.number_or_zero-m.result c.number_or_zero-m.ensures h),
+      ),
     )

@@ -1,11 +1,11 @@
 -- Scaffolding: what passing promises of the bytes that are passed; no rule of the format.
 use Rattle.std.specs.Prelude.{ℕ, zero, suc, ◌+◌, ◌*◌, ◌-◌, ◌≤◌, ◌<◌, ◌≡◌, List, [], Bool, true, false, length, drop}
-use Rattle.algebra.specs.Reader.{Res, ok, refuse, limit}
+use Rattle.algebra.specs.Reader.{Res, ok, refuse}
 use Rattle.algebra.specs.Store.{part}
 use Rattle.algebra.specs.Numbers.{num, nums}
 use Rattle.algebra.specs.Text.{any_zero}
 use Rattle.aco_chunks.specs.declared.Stage.{Stage}
-use Rattle.aco_chunks.specs.Chunks.{Progress, size, is_fault, colour_item, entry_head, loaded, chunk}
+use Rattle.aco_chunks.specs.Chunks.{Progress, is_fault, colour_item, entry_head, loaded, chunk}
 
 -- what is left of the bytes from `at`, taken
 abbrev pub Rest : Stage → ℕ → List ℕ → List ℕ → ℕ → List ℕ → Progress
