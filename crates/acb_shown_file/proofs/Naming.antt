@@ -210,14 +210,8 @@ module _ (s : List ℕ) {h : HeaderPlaces} {n : ℕ} (o : Opened s h n) (i : ℕ
 
 -- a refused file
 module _ (m : Res Contents) (i : ℕ) {x p r f : ℕ} (e : refused x p r f ≡ verdict report m) where
-  pub values-refused : (no_values, refusal x p) ≡ shown_at i m
-  values-refused = sym (ap (shown_at i) (refused-of report m e))
-
   pub length-refused : (s : List ℕ) → refusal x p ≡ full_length s i m
   length-refused s = sym (ap (full_length s i) (refused-of report m e))
-
-  pub name-refused : (s out : List ℕ) → (refusal x p, out) ≡ full_name_at s i m out
-  name-refused s out = sym (ap (λ (y : Res Contents). full_name_at s i y out) (refused-of report m e))
 
 -- ---- the shown components of a record of a space, one by one
 

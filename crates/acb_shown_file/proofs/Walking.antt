@@ -8,14 +8,12 @@ use lib.Dec.{eqb, eqb-suc-zero}
 use native.Mathlib.Omega.{arith}
 use native.Mathlib.Nat.{add-zero}
 use Rattle.algebra.specs.Numbers.{counted}
-use Rattle.algebra.specs.Reader.{Res}
-use Rattle.algebra.specs.Table.{refused, verdict, rows}
+use Rattle.algebra.specs.Table.{rows}
 use Rattle.algebra.specs.Filling.{Accepted}
 use Rattle.algebra.specs.Text.{is_empty}
 use Rattle.algebra.proofs.Counted.{length-counted}
 use Rattle.algebra.proofs.Exact.{length-map}
-use Rattle.algebra.proofs.Table.{refused-of}
-use Rattle.acb.specs.Reading.{Entry, Contents, acb}
+use Rattle.acb.specs.Reading.{Entry, acb}
 use Rattle.acb.specs.Row.{width, taken, given_of}
 use Rattle.acb_judge.specs.Answer.{Report, report}
 use Rattle.acb_read.specs.Walked.{passed, walked}
@@ -62,9 +60,6 @@ same-dummies [] = refl
 same-dummies (e ∷ es) = ap₂ (λ (d : Bool) (ds : List Bool). d ∷ ds) (few-units e.name.units) (same-dummies es)
 
 -- ---- what a page of a file shows
-
-pub page-refuses : (m : Res Contents) (page : ℕ) {x p r f : ℕ} → refused x p r f ≡ verdict report m → page-refused x p ≡ page_at page m
-page-refuses m page e = sym (ap (page_at page) (refused-of report m e))
 
 module _ (s : List ℕ) (page : ℕ) {b : Report} (a : Accepted report (acb s) b) where
   abbrev ds : List Bool

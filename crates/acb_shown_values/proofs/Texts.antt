@@ -1,12 +1,11 @@
 -- The shown text of a header string is a part of it: all after the first `=`, and no other, where it begins with `$$$/` and holds one; else all of it.
-use Prim.Native.Nat.{ℕ, zero, suc, ◌+◌, ◌-◌, ◌*◌, ◌/◌, ◌≤◌, ◌<◌}
+use Prim.Native.Nat.{ℕ, zero, suc, ◌+◌, ◌*◌, ◌/◌, ◌≤◌, ◌<◌}
 use mathlib.Core.Path.{◌≡◌, refl, sym, ap, ◌∙◌}
 use mathlib.Core.List.{List, ◌++◌}
 use mathlib.Core.Bool.{Bool, true, false}
 use mathlib.Core.Logic.{◌⊎◌, inl, inr}
 use lib.Dec.{leb, eqb}
-use lib.ListN.{length, take, drop, take-append-drop, length-drop}
-use lib.Seq.{take_all}
+use lib.ListN.{length, take, drop, take-append-drop}
 use borrow.Author.Count.{below_more}
 use borrow.Author.Tests.{le-leb, leb-true, eq-eqb, ne_eqb, eqb-true, eqb-false}
 use native.Mathlib.Omega.{arith}
@@ -67,10 +66,6 @@ module _ (s : List ℕ) where
 
   pub shown-part : take (shown_start s) s ++ shown_text s ≡ s
   shown-part = take-append-drop (shown_start s) s
-
-  -- the same as the part from a place to the end
-  pub shown_rest : (r : ℕ) → r ≡ shown_start s → take (length s - r) (drop r s) ≡ shown_text s
-  shown_rest r e = take_all (length s - r) (drop r s) (omega (arith, length-drop r s)) ∙ ap (λ (k : ℕ). drop k s) e
 
   -- all after the first `=`, and after no other
   pub shown-after-first : has_key s ≡ true → (k : ℕ) → First s k → shown_text s ≡ drop (2 * k + 2) s
