@@ -11,7 +11,7 @@ use Rattle.aco_judge.specs.Answer.{report}
 use Rattle.aco_chunks.specs.Chunks.{FileVerdict, answer}
 use Rattle.aco_chunks.specs.Promise.{join, sound_colours, held}
 use Rattle.aco_stream.specs.declared.Stream.{Stream}
-use Rattle.aco_stream.specs.Answer.{progress, usable, roomy, room, ended, known, Starts, Feeds, Finishes, FinishesBy}
+use Rattle.aco_stream.specs.Answer.{progress, usable, roomy, room, ended, known, Starts, Finishes, FinishesBy}
 use Rattle.aco_stream.specs.Promise.{Runs}
 use Rattle.aco_stream.proofs.AnyCutting.{calls-agree}
 use Rattle.khuyurek.specs.declared.stream.AcoStream.{AcoStream}

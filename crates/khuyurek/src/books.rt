@@ -162,15 +162,19 @@ pub extern "C" fn khuyurek_acb_record_at(file: &[u8], i: usize) -> AcbRecord
     ensures { result ≡ to_record (places (record_at records_of (taken []) i (acb file.now))) }
 {
     match acb_read::record_at(file, i) {
-        Ok(record) => AcbRecord {
-            number: 0,
-            units: record.name.units,
-            place: 0,
-            name: record.name.first,
-            code: record.code,
-            components: record.components,
-            ink: record.ink.number(),
-        },
+        Ok(record) => {
+            let code = record.code;
+            let components = record.components;
+            AcbRecord {
+                number: 0,
+                units: record.name.units,
+                place: 0,
+                name: record.name.first,
+                code,
+                components,
+                ink: record.ink.number(),
+            }
+        }
         Err(Refusal(fault, place)) => AcbRecord {
             number: fault.number(),
             units: 0,
@@ -234,12 +238,15 @@ pub extern "C" fn khuyurek_acb_shown_at(file: &[u8], i: usize) -> AcbShown
     ensures { result ≡ shown_of (shown_at i (acb file.now)) }
 {
     match acb_shown_file::shown_at(file, i) {
-        Ok(shown) => AcbShown {
-            number: 0,
-            count: shown.count as u32,
-            place: 0,
-            values: four(shown.values),
-        },
+        Ok(shown) => {
+            let values = shown.values;
+            AcbShown {
+                number: 0,
+                count: shown.count as u32,
+                place: 0,
+                values: four(values),
+            }
+        }
         Err(Refusal(fault, place)) => AcbShown {
             number: fault.number(),
             count: 0,

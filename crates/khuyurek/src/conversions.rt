@@ -1,7 +1,7 @@
 // Conversions for C.
 ghost use Rattle.std.specs.Prelude.{◌≡◌};
 ghost use Rattle.conversion.specs.Convert.{to_channel, to_sample};
-ghost use Rattle.convert.specs.Answer.{told_channel, told_sample};
+ghost use Rattle.convert.specs.Answer.{told};
 ghost use Rattle.khuyurek.specs.Convert.{channel_of, sample_of};
 
 use fault::Fault;
@@ -23,7 +23,7 @@ pub struct SampleValue {
 }
 
 fn exported_channel(c: Result<f32, Fault>) -> ChannelBits
-    ensures { result ≡ channel_of (told_channel c) }
+    ensures { result ≡ channel_of (told c) }
 {
     match c {
         Ok(x) => ChannelBits {
@@ -38,7 +38,7 @@ fn exported_channel(c: Result<f32, Fault>) -> ChannelBits
 }
 
 fn exported_sample(s: Result<u16, Fault>) -> SampleValue
-    ensures { result ≡ sample_of (told_sample s) }
+    ensures { result ≡ sample_of (told s) }
 {
     match s {
         Ok(sample) => SampleValue { number: 0, sample },

@@ -51,12 +51,13 @@ fn merged_of(before: [u32; 31], after: Result<Report, Fault>) -> MergedReport
     ensures { result ≡ merged_of (told_merged before after) }
 {
     match after {
-        Ok(report) => MergedReport {
-            number: 0,
-            report: SeasonReport {
-                totals: report.totals,
-            },
-        },
+        Ok(report) => {
+            let totals = report.totals;
+            MergedReport {
+                number: 0,
+                report: SeasonReport { totals },
+            }
+        }
         Err(fault) => MergedReport {
             number: fault.number(),
             report: SeasonReport { totals: before },

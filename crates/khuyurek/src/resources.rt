@@ -4,7 +4,6 @@ ghost use Rattle.algebra.specs.Table.{verdict};
 ghost use Rattle.resource.specs.Reading.{resources};
 ghost use Rattle.resource_judge.specs.Answer.{told};
 ghost use Rattle.resource_read.specs.Table.{tabled, record_in, found_in};
-ghost use Rattle.resource_read.specs.Answer.{told_record_answer, told_index};
 ghost use Rattle.resource_writing.specs.Writing.{given, needed, written};
 ghost use Rattle.resource_document.specs.Reading.{document as documentIn};
 ghost use Rattle.resource_document.specs.Answer.{told as told_place};

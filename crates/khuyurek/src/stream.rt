@@ -207,7 +207,7 @@ pub extern "C" fn khuyurek_aco_stream_feed(
     let number = fed_number(fed.answer);
     if number == 0 {
         return AcoFed {
-            number,
+            number: 0,
             stream: numbers_of(fed.state),
         };
     }

@@ -100,6 +100,7 @@ pub extern "C" fn khuyurek_aco_read(file: &[u8], table: &mut [u32]) -> AcoAnswer
 fn found(swatch: SwatchRecord) -> AcoRecord
     ensures { result ≡ to_record (told_swatch swatch) }
 {
+    let samples = swatch.colour.samples;
     AcoRecord {
         number: 0,
         units: swatch.name.units,
@@ -108,7 +109,7 @@ fn found(swatch: SwatchRecord) -> AcoRecord
         field: 0,
         name: swatch.name.first,
         space: swatch.colour.space,
-        samples: swatch.colour.samples,
+        samples,
         ink: swatch.ink.number(),
     }
 }

@@ -134,16 +134,19 @@ pub extern "C" fn khuyurek_aco_walk(file: &[u8], at: usize) -> AcoStep
 {
     let ColourStep { given, next } = aco_walk::step_at(file, at);
     match given {
-        Ok(Some(swatch)) => AcoStep {
-            number: 0,
-            done: 0,
-            next,
-            name: swatch.name.first,
-            units: swatch.name.units,
-            space: swatch.colour.space,
-            samples: swatch.colour.samples,
-            ink: swatch.ink.number(),
-        },
+        Ok(Some(swatch)) => {
+            let samples = swatch.colour.samples;
+            AcoStep {
+                number: 0,
+                done: 0,
+                next,
+                name: swatch.name.first,
+                units: swatch.name.units,
+                space: swatch.colour.space,
+                samples,
+                ink: swatch.ink.number(),
+            }
+        }
         Ok(None) => aco_plain(0, 1, next),
         Err(Refusal(fault, _)) => aco_plain(fault.number(), 0, next),
     }

@@ -1,4 +1,3 @@
-use Prim.Native.Nat.{◌-◌}
 use Rattle.palette_compare.specs.scaffold.Parts.{Both}
 use Rattle.palette_compare.proofs.fill_both.Given as goal
 

@@ -1,6 +1,5 @@
 use lib.Dec.{eqb}
 use mathlib.Core.Path.{◌≡◌, ap₂, ◌∙◌}
-use Rattle.std.proofs.Common.{rules}
 use Rattle.palette.specs.PaletteStep.{told_numbers}
 use Rattle.palette_compare.specs.Compare.{same_numbers, kind_by}
 use Rattle.palette_compare.proofs.Same.{five-tests}

@@ -1,5 +1,4 @@
-use mathlib.Core.Path.{sym, ap, ◌∙◌}
-use Rattle.acb_find.specs.Answer.{told}
+use mathlib.Core.Path.{ap}
 use Rattle.khuyurek.specs.Names.{found_of}
 use Rattle.khuyurek.proofs.indexes.khuyurek_acb_find.Goals as goal
 

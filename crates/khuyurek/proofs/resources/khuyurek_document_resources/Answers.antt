@@ -1,5 +1,4 @@
-use Rattle.resource_document.specs.Answer.{told as told_place}
-use mathlib.Core.Path.{sym, ap, ◌∙◌}
+use mathlib.Core.Path.{ap}
 use Rattle.khuyurek.specs.Resource.{section_of}
 use Rattle.khuyurek.proofs.resources.khuyurek_document_resources.Goals as goal
 
