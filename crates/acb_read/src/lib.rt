@@ -5,7 +5,7 @@ ghost use Rattle.std.specs.Prelude.{◌≡◌, ◌∷◌, [], map, ◌+◌, ◌*
 ghost use Rattle.std.proofs.lemmas.List.Edits.{sets};
 ghost use Rattle.algebra.specs.Numbers.{joined};
 ghost use Rattle.algebra.specs.Reader.{limit};
-ghost use Rattle.algebra.specs.Table.{refused, filled, record_at};
+ghost use Rattle.algebra.specs.Table.{accepted, refused, filled, record_at};
 ghost use Rattle.acb.specs.Reading.{acb};
 ghost use Rattle.colour.specs.Inks.{ink_number};
 ghost use Rattle.acb.specs.Row.{width, numbers, taken, tag_ink, stated, records_of};
@@ -13,7 +13,7 @@ ghost use Rattle.acb_judge.specs.Answer.{report, told, told_tag};
 ghost use Rattle.acb_read.specs.Table.{entries_of, blank, name_bytes_in};
 ghost use Rattle.acb_read.specs.Answer.{record_places, told_given, told_record, told_record_step, places};
 ghost use Rattle.acb_read.specs.Walked.{step, passed, given_in, walked};
-ghost use Rattle.acb_read.specs.scaffold.Parts.{fourth_at, whole_at};
+ghost use Rattle.acb_read.specs.scaffold.Parts.{fourth_at, whole_at, Named};
 
 use acb::WIDTH;
 use acb_judge::Book;
@@ -61,10 +61,11 @@ fn fourth_at(file: &[u8], code: usize, n: usize) -> u8
     0
 }
 
-// The record of n components whose name has so many units from `first` on, which is whole.
-fn whole_at(file: &[u8], first: usize, units: u32, n: usize) -> RecordStep
+// The record of n components whose name has so many units from `first` on, which is whole, and the
+// place behind it.
+fn whole_at(file: &[u8], first: usize, units: u32, n: usize) -> (BookRecord, usize)
     requires { (3 ≤ n) × (first + 2 * units + 6 + n ≤ length file.now) }
-    ensures { told_record_step result ≡ whole_at n file.now first units }
+    ensures { (places (accepted (told_given result.0)), result.1) ≡ whole_at n file.now first units }
 {
     let code = first + 2 * (units as usize);
     let last = fourth_at(file, code, n);
@@ -81,10 +82,25 @@ fn whole_at(file: &[u8], first: usize, units: u32, n: usize) -> RecordStep
         name: Name { first, units },
         ink: Ink::NotStated,
     };
-    RecordStep {
-        swatch: Ok(swatch),
-        next: code + 6 + n,
+    (swatch, code + 6 + n)
+}
+
+// Where the name of the record at `at` lies, if the record is whole.
+fn name_of(file: &[u8], at: usize, space: u16) -> Option<Name>
+    ensures { Named space file.now at result }
+{
+    let Ok((units, first)) = fields::number_at::<u32>(file, at) else {
+        return None;
+    };
+    let n = acb_judge::components_of(space);
+    let left = file.len() - first;
+    if left < 6 + n {
+        return None;
     }
+    if (left - (6 + n)) / 2 < units as usize {
+        return None;
+    }
+    Some(Name { first, units })
 }
 
 /// The record at `at` of a book of a space, and the place behind it; 5 and the place itself where no
@@ -92,18 +108,17 @@ fn whole_at(file: &[u8], first: usize, units: u32, n: usize) -> RecordStep
 pub fn step_at(file: &[u8], at: usize, space: u16) -> RecordStep
     ensures { told_record_step result ≡ step space file.now at }
 {
-    let Ok((units, first)) = fields::number_at::<u32>(file, at) else {
-        return lost(at);
-    };
-    let n = acb_judge::components_of(space);
-    let left = file.len() - first;
-    if left < 6 + n {
-        return lost(at);
+    match name_of(file, at, space) {
+        Some(name) => {
+            let n = acb_judge::components_of(space);
+            let (swatch, next) = whole_at(file, name.first, name.units, n);
+            RecordStep {
+                swatch: Ok(swatch),
+                next,
+            }
+        }
+        None => lost(at),
     }
-    if (left - (6 + n)) / 2 < units as usize {
-        return lost(at);
-    }
-    whole_at(file, first, units, n)
 }
 
 /// The place behind i records from `at`.
@@ -119,19 +134,47 @@ pub fn place_at(file: &[u8], at: usize, space: u16, i: usize) -> usize
 
 // ---- the table
 
+// Zeros, and a name at place 0 without units.
+const NONE: BookRecord = BookRecord {
+    code: [0; 6],
+    components: [0; 4],
+    name: Name { first: 0, units: 0 },
+    ink: Ink::Global,
+};
+
 /// The record of a step; zeros, and a name at place 0 without units, where none stands there.
 pub fn given(swatch: Result<BookRecord, Refusal>) -> BookRecord
     ensures { told_given result ≡ given_in (told_record swatch) }
 {
-    swatch.unwrap_or(BookRecord {
-        code: [0; 6],
-        components: [0; 4],
-        name: Name { first: 0, units: 0 },
-        ink: Ink::Global,
-    })
+    swatch.unwrap_or(NONE)
 }
 
-// Stores a record as a row, with an ink; no other function stores one.
+// The same of the record at `at`, and the place behind it. It makes no `Result` on the way: a record
+// in one is copied through memory, and reading a book of short names takes 1.7 times as long.
+fn given_at(file: &[u8], at: usize, space: u16) -> (BookRecord, usize)
+    ensures given { told_given result.0 ≡ given_in (step space file.now at).0 }
+    ensures next { result.1 ≡ (step space file.now at).1 }
+{
+    match name_of(file, at, space) {
+        Some(name) => {
+            let n = acb_judge::components_of(space);
+            whole_at(file, name.first, name.units, n)
+        }
+        None => (NONE, at),
+    }
+}
+
+// Stores the numbers of a row; no other function stores one.
+fn put_numbers(table: &mut [u32], to: usize, row: [u32; 13])
+    requires { to + width ≤ length table.old }
+    ensures { table.new ≡ sets table.old to row }
+{
+    for i in 0..WIDTH {
+        table[to + i] = row[i];
+    }
+}
+
+// Stores a record as a row, with an ink.
 fn put_row(table: &mut [u32], to: usize, given: BookRecord, ink: Ink)
     requires { (to + width ≤ length table.old) × (given.name.first < 2 ^ 32) }
     ensures { table.new ≡ sets table.old to (numbers (stated (ink_number ink) (told_given given))) }
@@ -153,7 +196,7 @@ fn put_row(table: &mut [u32], to: usize, given: BookRecord, ink: Ink)
         u32::from(ks[3]),
         ink.number(),
     ];
-    table[to..to + WIDTH].copy_from_slice(&row);
+    put_numbers(table, to, row);
 }
 
 // Stores the records of a book.
@@ -164,9 +207,9 @@ fn fill(file: &[u8], book: Book, table: &mut [u32])
     let ink = acb_judge::ink_of(book.tag);
     let mut at = book.first;
     for i in 0..book.count {
-        let step = step_at(file, at, book.header.space);
-        put_row(table, WIDTH * i, given(step.swatch), ink);
-        at = step.next;
+        let (record, next) = given_at(file, at, book.header.space);
+        put_row(table, WIDTH * i, record, ink);
+        at = next;
     }
 }
 

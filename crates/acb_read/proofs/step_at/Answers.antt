@@ -1,51 +1,19 @@
 use Prim.Native.Nat.{ℕ}
-use mathlib.Core.Path.{ap, ◌∙◌}
+use mathlib.Core.Path.{sym, ap, ◌∙◌}
 use native.Mathlib.Omega.{arith}
-use Rattle.algebra.proofs.Laws.{field_next}
 use Rattle.acb.proofs.Laws.{components-some}
-use Rattle.fault.proofs.Exit.{short}
 use Rattle.acb_read.specs.scaffold.Parts.{whole_at}
-use Rattle.acb_read.proofs.Records.{step-short, step_cut, step-whole}
 use Rattle.acb_read.proofs.step_at.Goals as goal
 
-pub returns-in_default : goal.returns-in_default
-returns-in_default c =
-    let a = c.args in
-    c.lost.ensures ∙ step-short a.space a.file.now a.at (short 4 a.file.now a.at c.in_default.ensures)
-
-pub overflow_sub-left : goal.overflow_sub-left
-overflow_sub-left c =
-    let f = field_next 4 c.args.file.now c.args.at _ _ c.in-Ok.ensures in
-    omega arith
-
-pub overflow_add-n : goal.overflow_add-n
-overflow_add-n c = omega (arith, c.components_of-n.ensures, (components-some c.args.space).1)
-
-pub returns-then-left-n : goal.returns-then-left-n
-returns-then-left-n c =
-    let a = c.args in
-    let e = c.in-Ok.ensures in
-    let f = field_next 4 a.file.now a.at _ _ e in
-    c.lost-then-left-n.ensures ∙ step_cut a.space a.file.now a.at _ _ e (omega (arith, c.if-left-n.true, c.components_of-n.ensures))
-
-pub returns-then-left-n-2 : goal.returns-then-left-n-2
-returns-then-left-n-2 c =
-    let a = c.args in
-    let e = c.in-Ok.ensures in
-    let f = field_next 4 a.file.now a.at _ _ e in
-    c.lost-then-left-n-2.ensures ∙ step_cut a.space a.file.now a.at _ _ e (omega (arith, c.if-left-n-2.true, c.if-left-n.false, c.components_of-n.ensures))
-
-pub whole_at-requires : goal.whole_at-requires
-whole_at-requires c =
-    let a = c.args in
-    let f = field_next 4 a.file.now a.at _ _ c.in-Ok.ensures in
+pub whole_at-next-requires : goal.whole_at-next-requires
+whole_at-next-requires c =
     let n = c.components_of-n.ensures in
-    (omega (arith, n, (components-some a.space).0), omega (arith, n, c.if-left-n-2.false, c.if-left-n.false))
+    (omega (arith, n, (components-some c.args.space).0), omega (arith, n, c.in-Some.ensures.1))
 
-pub returns : goal.returns
-returns c =
+pub returns-in-Some : goal.returns-in-Some
+returns-in-Some c =
     let a = c.args in
-    let e = c.in-Ok.ensures in
-    let f = field_next 4 a.file.now a.at _ _ e in
-    let n = c.components_of-n.ensures in
-    c.whole_at.ensures ∙ ap (λ (k : ℕ). whole_at k a.file.now c.in-Ok.first c.in-Ok.units) n ∙ step-whole a.space a.file.now a.at _ _ e (omega (arith, n, c.if-left-n-2.false, c.if-left-n.false))
+    c.whole_at-next.ensures ∙ ap (λ (k : ℕ). whole_at k a.file.now c.in-Some.name.first c.in-Some.name.units) c.components_of-n.ensures ∙ sym c.in-Some.ensures.0
+
+pub returns-in-None : goal.returns-in-None
+returns-in-None c = c.lost.ensures ∙ sym c.in-None.ensures

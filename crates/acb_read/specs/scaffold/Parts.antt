@@ -1,10 +1,13 @@
 -- Scaffolding: the form in which the code goes; cited by private contracts and by proofs.
 -- A whole record as it is loaded, for private contracts.
-use Rattle.std.specs.Prelude.{ℕ, ◌+◌, ◌*◌, List, [], ◌∷◌, eqb, get_or}
+use Rattle.std.specs.Prelude.{ℕ, ◌+◌, ◌*◌, ◌≤◌, ◌≡◌, List, [], ◌∷◌, Option, Some, None, eqb, get_or, length}
 use Rattle.algebra.specs.Reader.{pick}
-use Rattle.algebra.specs.Table.{accepted}
+use Rattle.algebra.specs.Table.{accepted, refused}
+use Rattle.names.specs.declared.Name.{Name}
+use Rattle.acb.specs.Reading.{components_of}
 use Rattle.acb.specs.Row.{six}
-use Rattle.acb_read.specs.Answer.{RecordPlaces}
+use Rattle.acb_read.specs.Answer.{RecordPlaces, record_places}
+use Rattle.acb_read.specs.Walked.{step}
 
 -- the fourth component of the record whose code stands at c, where it has n
 abbrev pub fourth_at : ℕ → List ℕ → ℕ → ℕ
@@ -16,3 +19,8 @@ coded_at n s p u c = (record { name = accepted (p, u); code = six s c; component
 
 abbrev pub whole_at : ℕ → List ℕ → ℕ → ℕ → RecordPlaces × ℕ
 whole_at n s p u = coded_at n s p u (p + 2 * u)
+
+-- where the name of a whole record lies; none where no whole record stands
+abbrev pub Named : ℕ → List ℕ → ℕ → Option Name → Type 0
+Named x s at (Some m) = (step x s at ≡ whole_at (components_of x) s m.first m.units) × (m.first + 2 * m.units + 6 + components_of x ≤ length s)
+Named x s at None = step x s at ≡ (record_places (refused 5 0 0 0), at)
