@@ -163,6 +163,7 @@ fn put_pages(out: &mut [u8], n: usize, table: &[u32], count: usize, size: u16, o
     }
     let mut left = count;
     let mut page: usize = 0;
+    // Kept: pages are gone over until no record is left, and the last may be short.
     while 0 < left {
         let shown = acb_shown_file::page_in(table, count, size, offset, page);
         at = put_page(out, at, page, shown);

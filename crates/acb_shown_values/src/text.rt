@@ -15,6 +15,7 @@ fn behind_equals(string: &[u8]) -> usize
     ensures { result ≡ behind_equals (length string.now / 2) string.now 0 }
 {
     let mut at: usize = 0;
+    // Kept: a turn takes the next unit as a reader gives it, up to the first that is not whole.
     while let Ok((unit, next)) = number_at::<u16>(string, at) {
         if unit == EQUALS {
             return next;

@@ -89,6 +89,7 @@ fn feed_within(state: Stream, store: &mut [u8], bytes: &[u8]) -> Stream
     let mut got = state.got;
     let mut carry = state.carry;
     let mut at: usize = 0;
+    // Kept: a turn takes as many bytes as stand whole, which only the item tells.
     while at < end {
         let next = aco_pass::pass(stage, got, start, store, bytes, at);
         stage = next.stage;

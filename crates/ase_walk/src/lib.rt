@@ -129,6 +129,7 @@ pub fn step_at(file: &[u8], at: usize) -> ColourStep
     ensures { told_colour_step result ≡ call_and_place (walk file.now at) }
 {
     let mut p = at;
+    // Kept: a turn goes to the place behind a block, which only the block tells.
     while p < file.len() {
         let step = block_at(file, p);
         match given_of(step.block) {

@@ -47,6 +47,7 @@ fn count_keys(keys: &[u8]) -> Result<usize, Refusal>
 {
     let mut at: usize = 0;
     let mut n: usize = 0;
+    // Kept: a turn goes to the place behind a key, which only the key tells.
     while at < keys.len() {
         at = descriptor_fields::id_at(keys, at)?;
         n += 1;
@@ -126,6 +127,7 @@ fn row_of(
     ensures { (result ≡ row_of file.now (rows_in (descriptor file.now)) (tag, nums 1 size keys.now body)) × (result ≤ rows) }
 {
     let mut j: usize = 1;
+    // Kept: a turn goes to the next sibling, which only the row tells.
     while j < rows {
         if same_key(file, first[j] as usize, keys, tag, body, size) {
             return j;
@@ -149,6 +151,7 @@ fn answer_all(
 {
     let mut at: usize = 0;
     let mut i: usize = 0;
+    // Kept: a turn goes to the place behind a key, which only the key tells.
     while at < keys.len() {
         let tag = fields::number_or_zero::<u32>(keys, at);
         let size = body_size(tag);

@@ -23,6 +23,7 @@ fn put_kind(out: &mut [u8], n: usize, kind: u32) -> usize
     let mut tag = [0u8; 4];
     fields::put_number(&mut tag, 0, kind);
     let mut k: usize = 4;
+    // Kept: the spaces at the end are left out one by one.
     while 0 < k && tag[k - 1] == b' ' {
         k -= 1;
     }

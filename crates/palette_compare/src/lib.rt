@@ -32,6 +32,7 @@ pub enum CompareError {
 }
 
 // Only in the first, and only in the second.
+// Kept: kinds as the numbers of a row, which C reads; the rules give them as numbers.
 const FIRST: u32 = 4;
 
 const SECOND: u32 = 5;

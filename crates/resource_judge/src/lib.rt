@@ -120,6 +120,7 @@ fn blocks_in(file: &[u8]) -> Result<usize, Refusal>
 {
     let mut at: usize = 0;
     let mut n: usize = 0;
+    // Kept: a turn goes to the place behind a block, which only the block tells.
     while at != file.len() {
         at = block_end(file, at)?;
         n += 1;

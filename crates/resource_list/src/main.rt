@@ -56,6 +56,7 @@ fn put_blocks(out: &mut [u8], n: usize, section: &[u8], first: usize) -> usize
     let mut full = n;
     let mut at: usize = 0;
     let mut i: usize = 0;
+    // Kept: a turn goes to the place behind a block, which only the block tells.
     while at < section.len() {
         let Ok((given, next)) = resource_judge::block_at(section, at) else {
             return full;

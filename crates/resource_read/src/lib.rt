@@ -59,6 +59,7 @@ fn fill(file: &[u8], table: &mut [u32])
 {
     let mut at: usize = 0;
     let mut to: usize = 0;
+    // Kept: a turn goes to the place behind a block, which only the block tells.
     while at < file.len() {
         let (given, next) = given_at(file, at);
         put_row(table, to, given);
@@ -74,6 +75,7 @@ fn nth(file: &[u8], i: usize) -> Result<Record, Refusal>
 {
     let mut at: usize = 0;
     let mut k = i;
+    // Kept: a turn goes to the place behind a block, which only the block tells.
     while at < file.len() {
         let (given, next) = given_at(file, at);
         if k == 0 {
@@ -92,6 +94,7 @@ fn index_of(file: &[u8], id: u32) -> Result<usize, Refusal>
 {
     let mut at: usize = 0;
     let mut i: usize = 0;
+    // Kept: a turn goes to the place behind a block, which only the block tells.
     while at < file.len() {
         let (given, next) = given_at(file, at);
         if given.id == id {
