@@ -1,5 +1,5 @@
 -- Which way the readers of Reading go, on plain values. Assumes nothing.
-use Prim.Native.Nat.{ℕ, ◌+◌, ◌-◌, ◌*◌, ◌≤◌, ◌<◌}
+use Prim.Native.Nat.{ℕ, ◌+◌, ◌*◌, ◌≤◌, ◌<◌}
 use mathlib.Core.Path.{◌≡◌, refl, sym, ap, ◌∙◌}
 use mathlib.Core.List.{List, [], ◌∷◌}
 use mathlib.Core.Bool.{true, false}
@@ -7,18 +7,15 @@ use lib.ListN.{length, get_or, length-map}
 use lib.Dec.{eqb}
 use borrow.Author.Tests.{le-leb, lt-leb, eq-eqb, ne_eqb}
 use native.Mathlib.Omega.{arith}
-use native.Mathlib.Nat.{add-zero}
 use Rattle.algebra.specs.Numbers.{num}
-use Rattle.algebra.specs.Reader.{Res, ok, refuse, Reader, then, pick, rule, field, done, or_zero, each, judged, Judged, fine, fault, limit}
-use Rattle.algebra.specs.Text.{Name, name, place}
+use Rattle.algebra.specs.Reader.{Res, ok, refuse, Reader, then, pick, rule, field, done, each, judged, Judged, fine, fault, limit}
 use Rattle.algebra.proofs.Laws.{field_in, judged-short, judged-bad, judged-ok, then_ok, done-refuse, done-const, ended-done, turn-ok, turn_end}
-use Rattle.algebra.proofs.Texts.{done-place}
 use Rattle.algebra.proofs.Inverse.{then-inv, field-inv, judged-inv, ended-inv, done-inv, each-length}
 use Rattle.colour.specs.declared.space.Colour.{Colour}
 use Rattle.colour.specs.Spaces.{known, allowed, sound}
 use Rattle.colour.proofs.Laws.{sound-inv}
 use Rattle.aco.specs.Reading.{most, space, sample, samples, colour, heading, field_of, repeated_field, Entry, entry, Contents, zero_colour, second, unnamed, after, lists, aco, version, first_count}
-use Rattle.aco.specs.scaffold.Raw.{raw_colour, raw_colours, headed, after_heading}
+use Rattle.aco.specs.scaffold.Raw.{raw_colours, headed, after_heading}
 use Rattle.algebra.specs.Table.{Verdict, accepted, refused, verdict}
 use Rattle.fault.specs.Fault.{number_of}
 use Rattle.aco_judge.specs.Answer.{report, rejected, told}
@@ -26,7 +23,7 @@ use Rattle.aco_judge.specs.scaffold.Answer.{refused_as, told_repeated}
 use Rattle.aco_judge.specs.declared.Counts.{Counts}
 use Rattle.aco_judge.specs.declared.Rejection.{Rejection}
 use Rattle.aco_judge.specs.declared.Rejection.TheVariants as rejection
-use Rattle.aco.proofs.Raw.{colours-raw, colours-inside, length-raw, field-raw, get_d-raw}
+use Rattle.aco.proofs.Raw.{colours-raw, colours-inside, length-raw}
 use Rattle.std.specs.Prelude.{Result, Err}
 use Rattle.std.specs.Result.{IsErrAnd}
 use Rattle.std.proofs.lemmas.Result.{err_from_is_err_and}
@@ -95,25 +92,7 @@ repeated-exit r e h is go = let z = rejecting e in err-exit told_repeated r e h 
 pub judged-exit : (r : Result Counts Rejection) (e : Rejection) {m : Res Unit} {all : Verdict (ℕ × ℕ)} → IsErrAnd r (λ y. y ≡ e) → refused_as e ≡ m → ((x p r f : ℕ) → m ≡ refuse x p r f → all ≡ refused x p r f) → told r ≡ all
 judged-exit r e h is go = let z = rejecting e in err-exit told r e h (z.judging ∙ sym (go _ _ _ _ (sym is ∙ z.reading)))
 
--- ---- a record of list 2, where list 1 has the colour c
-
-abbrev with-name : Colour → Name → Entry
-with-name c nm = record { colour = c; name = nm }
-
-entry-done-by : {A : Type 0} (m : Res A) (nm : ℕ → Res Name) (c : Colour) → done (then m (λ vs a. then (nm a) (λ x q. ok (with-name c x) q))) ≡ then (done m) (λ u a. done (nm a))
-entry-done-by (ok vs a) nm c = then_ok (λ (x : Name). with-name c x) (nm a)
-entry-done-by (refuse x p r f) nm c = refl
-
-module _ (s : List ℕ) (i : ℕ) (c : Colour) (at : ℕ) where
-  entry-parts : done (entry i c s at) ≡ then (done (each 5 0 (repeated_field i c) s at)) (λ u a. done (name 4 s a))
-  unfolding entry
-  entry-parts = entry-done-by (each 5 0 (repeated_field i c) s at) (λ a. name 4 s a) c
-
-  pub entry-refused : {x p r f : ℕ} → done (each 5 0 (repeated_field i c) s at) ≡ refuse x p r f → done (entry i c s at) ≡ refuse x p r f
-  entry-refused e = entry-parts ∙ rw e
-
-  pub entry-named : {a : ℕ} → ok tt a ≡ done (each 5 0 (repeated_field i c) s at) → done (place (name 4 s a)) ≡ done (entry i c s at)
-  entry-named {a = a} e = done-place (name 4 s a) ∙ sym (entry-parts ∙ rw (sym e))
+-- ---- a field of list 2, where list 1 has the colour c
 
 module _ (s : List ℕ) (c : Colour) (i f at : ℕ) where
   pub repeat-refused : {x p r g : ℕ} → refuse x p r g ≡ field 2 s at → done (repeated_field i c f s at) ≡ refuse x p r g
@@ -125,32 +104,10 @@ module _ (s : List ℕ) (c : Colour) (i f at : ℕ) where
   pub repeat-same : (v n : ℕ) → ok v n ≡ field 2 s at → v ≡ field_of c f → done (repeated_field i c f s at) ≡ ok tt n
   repeat-same v n e h = rw (← e) (simp (eq-eqb _ _ h))
 
--- the five fields where all are the same
-module _ (s : List ℕ) (c : Colour) (i at : ℕ) (h : at + 10 ≤ length s) (same : (f : ℕ) → f < 5 → num 2 s (at + 2 * f) ≡ field_of c f) where
-  repeats-turn : (all : Res Unit) (f : ℕ) → f < 5 → all ≡ done (each (5 - f) f (repeated_field i c) s (at + 2 * f)) → all ≡ done (each (5 - (f + 1)) (f + 1) (repeated_field i c) s (at + 2 * (f + 1)))
-  repeats-turn all f l inv =
-      let p : at + 2 * f + 2 ≡ at + 2 * (f + 1) = omega arith in
-      turn-ok (repeated_field i c) s all 5 f (at + 2 * f) inv l _ (repeat-same s c i f (at + 2 * f) _ _ (sym (field_in 2 s (at + 2 * f) (omega arith))) (same f l) ∙ ap (λ (n : ℕ). ok tt n) p)
-
-  pub repeats-same : done (each 5 0 (repeated_field i c) s at) ≡ ok tt (at + 10)
-  repeats-same =
-      let all = done (each 5 0 (repeated_field i c) s at) in
-      let start = ap (λ (p : ℕ). done (each 5 0 (repeated_field i c) s p)) (sym (add-zero at)) in
-      turn_end (repeated_field i c) s all 5 5 (at + 10)
-      (repeats-turn all 4 (omega arith) (repeats-turn all 3 (omega arith) (repeats-turn all 2 (omega arith) (repeats-turn all 1 (omega arith) (repeats-turn all 0 (omega arith) start))))) (omega arith)
-
--- field f of the colour at a place, as it is loaded
-pub loaded-field : (s : List ℕ) (at f v : ℕ) → at + 10 ≤ length s → f < 5 → v ≡ or_zero (field 2 s (at + 2 * f)) → v ≡ field_of (raw_colour s at) f
-loaded-field s at f v h k e = e ∙ ap or_zero (field_in 2 s (at + 2 * f) (omega arith)) ∙ sym (field-raw s at f k)
-
 -- ---- the records of list 2, where list 1 has the colours cs
 
 abbrev pub entry_of : List Colour → ℕ → Reader Entry
 entry_of cs i = entry i (get_or cs i zero_colour)
-
--- record i by the colour that stands at its place in list 1
-pub entry-raw : (n : ℕ) (s : List ℕ) (i at : ℕ) → i < n → done (entry_of (raw_colours n s 4) i s at) ≡ done (entry i (raw_colour s (4 + 10 * i)) s at)
-entry-raw n s i at h = ap (λ (c : Colour). done (entry i c s at)) (get_d-raw n s 4 i h)
 
 -- ---- a heading
 

@@ -5,8 +5,8 @@ ghost use Rattle.std.specs.Prelude.{◌≡◌, true, ◌+◌, ◌*◌, ◌≤◌
 ghost use Rattle.algebra.specs.Reader.{done, each};
 ghost use Rattle.algebra.specs.Table.{verdict};
 ghost use Rattle.fault.specs.Answer.{told_end, told_at};
-ghost use Rattle.aco.specs.Reading.{samples, colour, repeated_field, entry, zero_colour, second, aco};
-ghost use Rattle.aco.specs.scaffold.Raw.{raw_colour, raw_colours, headed, after_heading, SoundAt, SameAt};
+ghost use Rattle.aco.specs.Reading.{samples, colour, entry, zero_colour, second, aco};
+ghost use Rattle.aco.specs.scaffold.Raw.{raw_colours, headed, after_heading, SoundAt, SameAt};
 ghost use Rattle.aco_judge.specs.Answer.{told, report};
 ghost use Rattle.aco_judge.specs.scaffold.Answer.{told_repeated};
 ghost use Rattle.aco_judge.specs.declared.Rejection.TheVariants as rejection;
@@ -131,56 +131,49 @@ fn is_same(file: &[u8], at: usize, first: usize) -> bool
     fields::number_or_zero::<u16>(a, 8) == fields::number_or_zero::<u16>(b, 8)
 }
 
-// The five fields at `at` of record i of list 2, each compared with that of list 1, which stands
-// at 4.
-fn compared_at(file: &[u8], at: usize, i: usize) -> Result<usize, Rejection>
-    requires { 4 + 10 * i + 10 ≤ length file.now }
-    ensures { told_repeated result ≡ done (each 5 0 (repeated_field i (raw_colour file.now (4 + 10 * i))) file.now at) }
-{
-    let mut p = at;
-    for f in 0..5 {
-        let (v, next) = fields::number_at::<u16>(file, p)?;
-        if v != fields::number_or_zero::<u16>(file, 4 + 10 * i + 2 * f) {
-            return Err(Rejection::Differ {
-                place: p,
-                record: i,
-                field: f,
-            });
-        }
-        p = next;
-    }
-    Ok(p)
-}
-
-// The same. Nearly all are those of list 1, and only in another is a field looked for that differs.
-fn repeated_at(file: &[u8], at: usize, i: usize) -> Result<usize, Rejection>
-    requires { 4 + 10 * i + 10 ≤ length file.now }
-    ensures { told_repeated result ≡ done (each 5 0 (repeated_field i (raw_colour file.now (4 + 10 * i))) file.now at) }
-{
-    if is_same(file, at, 4 + 10 * i) {
-        return Ok(at + 10);
-    }
-    compared_at(file, at, i)
-}
-
-// Record i of list 2.
-fn entry_at(file: &[u8], at: usize, i: usize) -> Result<usize, Rejection>
-    requires { 4 + 10 * i + 10 ≤ length file.now }
-    ensures { told_repeated result ≡ done (entry i (raw_colour file.now (4 + 10 * i)) file.now at) }
-{
-    let name = repeated_at(file, at, i)?;
-    let (_, next) = names::name_at::<u32>(file, name)?;
-    Ok(next)
-}
-
-// The n records of list 2 from `at`.
+// The n records of list 2 from `at`, compared with list 1, which stands at 4. Nearly all are the
+// same, and only in another is a field looked for that differs.
 fn entries_at(file: &[u8], at: usize, n: u16) -> Result<usize, Rejection>
     requires { 4 + 10 * n ≤ length file.now }
     ensures { told_repeated result ≡ done (each n 0 (λ i. entry i (get_or (raw_colours n file.now 4) i zero_colour)) file.now at) }
 {
+    let count = n as usize;
+    let mut i: usize = 0;
+    let mut f: usize = 0;
     let mut p = at;
-    for i in 0..n as usize {
-        p = entry_at(file, p, i)?;
+    // Kept: the form that rule F3 names; record and field stand behind the label.
+    'records: while i < count {
+        f = 0;
+        if is_same(file, p, 4 + 10 * i) {
+            f = 5;
+            p += 10;
+        }
+        while f < 5 {
+            let Ok((v, next)) = fields::number_at::<u16>(file, p) else {
+                return Err(Rejection::Refused(Refusal(Fault::Short, p)));
+            };
+            if v != fields::number_or_zero::<u16>(file, 4 + 10 * i + 2 * f) {
+                break 'records;
+            }
+            p = next;
+            f += 1;
+        }
+        match names::name_at::<u32>(file, p) {
+            Ok((_, next)) => {
+                p = next;
+            }
+            Err(refusal) => {
+                return Err(Rejection::Refused(refusal));
+            }
+        }
+        i += 1;
+    }
+    if i < count {
+        return Err(Rejection::Differ {
+            place: p,
+            record: i,
+            field: f,
+        });
     }
     Ok(p)
 }
