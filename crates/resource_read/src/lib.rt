@@ -52,19 +52,16 @@ fn put_row(table: &mut [u32], to: usize, given: Record)
     table[to + 4] = given.size as u32;
 }
 
-// Stores the rows of a section that was accepted.
-fn fill(file: &[u8], table: &mut [u32])
-    requires { Sound file.now 0 × (width * length (rest file.now 0) ≤ length table.old) }
+// Stores the rows of a section that was accepted, of so many blocks.
+fn fill(file: &[u8], blocks: usize, table: &mut [u32])
+    requires { Sound file.now 0 × (length (rest file.now 0) ≡ blocks) × (width * blocks ≤ length table.old) }
     ensures { table.new ≡ sets table.old 0 (joined entry_row (rest file.now 0)) }
 {
     let mut at: usize = 0;
-    let mut to: usize = 0;
-    // Kept: a turn goes to the place behind a block, which only the block tells.
-    while at < file.len() {
+    for i in 0..blocks {
         let (given, next) = given_at(file, at);
-        put_row(table, to, given);
+        put_row(table, WIDTH * i, given);
         at = next;
-        to += WIDTH;
     }
 }
 
@@ -114,7 +111,7 @@ pub fn read(file: &[u8], table: &mut [u32]) -> Result<usize, Refusal>
     if table.len() / WIDTH < blocks {
         return Err(Refusal(Fault::NoRoom, 0));
     }
-    fill(file, table);
+    fill(file, blocks, table);
     Ok(blocks)
 }
 
