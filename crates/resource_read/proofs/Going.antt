@@ -5,7 +5,7 @@ use mathlib.Core.List.{List, [], ◌∷◌, ◌++◌, map}
 use mathlib.Core.Bool.{Bool, true, false}
 use lib.ListN.{length, get_or}
 use lib.Seq.{sets, length-sets}
-use borrow.Author.Tests.{eq-eqb, ne_eqb, le-ltb, lt-ltb, ltb-true, ltb-false}
+use borrow.Author.Tests.{eq-eqb, ne_eqb, lt-ltb, ltb-true, ltb-false}
 use lib.Dec.{ltb, is_le}
 use Prim.Native.Nat.compare.{suc-suc}
 use native.Mathlib.Omega.{arith}
@@ -129,9 +129,6 @@ record-next : (k : ℕ) (e : Entry) (es : List Entry) → record_in (suc k) (ok 
 record-next k e es = ap (λ (b : Bool). pick b (accepted (get_or (map to_record es) k empty_record)) (refused 12 0 0 0)) (ltb-suc k (length (map to_record es)))
 
 module _ (s : List ℕ) (at k : ℕ) (fit : Sound s at) (all : Verdict Record) (inv : all ≡ record_in k (ok (rest s at) 0)) where
-  pub nth_end : length s ≤ at → refused 12 0 0 0 ≡ all
-  nth_end e = sym (inv ∙ ap (λ (l : List Entry). record_in k (ok l 0)) (none_left s at fit e) ∙ simp (le-ltb k 0 (omega arith)))
-
   module _ (more : at < length s) {r : Record} {q : ℕ} (x : Turned s at fit more r q) where
     pub nth_here : k ≡ 0 → accepted r ≡ all
     nth_here z = sym (inv ∙ ap₂ (λ (l : List Entry) (n : ℕ). record_in n (ok l 0)) x.all z ∙ record-first x.entry (rest s q) ∙ ap accepted x.is)

@@ -6,6 +6,7 @@ ghost use Rattle.std.specs.Prelude.{◌≡◌, ◌+◌, ◌*◌, ◌≤◌, ◌<
 ghost use Rattle.std.proofs.lemmas.List.Edits.{sets};
 ghost use Rattle.algebra.specs.Numbers.{joined};
 ghost use Rattle.algebra.specs.Reader.{ok, map_res};
+ghost use Rattle.algebra.specs.Table.{accepted};
 ghost use Rattle.resource.specs.Reading.{block, resources};
 ghost use Rattle.resource.specs.Rows.{to_record, width, row};
 ghost use Rattle.resource_judge.specs.Answer.{told};
@@ -65,23 +66,18 @@ fn fill(file: &[u8], blocks: usize, table: &mut [u32])
     }
 }
 
-// Record i of a section that was accepted.
-fn nth(file: &[u8], i: usize) -> Result<Record, Refusal>
-    requires { Sound file.now 0 }
-    ensures { told result ≡ record_in i (ok (rest file.now 0) 0) }
+// Record i of a section that was accepted, which has it.
+fn nth(file: &[u8], i: usize) -> Record
+    requires { Sound file.now 0 × (i < length (rest file.now 0)) }
+    ensures { accepted result ≡ record_in i (ok (rest file.now 0) 0) }
 {
     let mut at: usize = 0;
-    let mut k = i;
-    // Kept: a turn goes to the place behind a block, which only the block tells.
-    while at < file.len() {
-        let (given, next) = given_at(file, at);
-        if k == 0 {
-            return Ok(given);
-        }
+    for _k in 0..i {
+        let (_, next) = given_at(file, at);
         at = next;
-        k -= 1;
     }
-    Err(Refusal(Fault::NoRecord, 0))
+    let (given, _) = given_at(file, at);
+    given
 }
 
 // The number of the first block with an ID in a section that was accepted.
@@ -119,8 +115,11 @@ pub fn read(file: &[u8], table: &mut [u32]) -> Result<usize, Refusal>
 pub fn record_at(file: &[u8], i: usize) -> Result<Record, Refusal>
     ensures { told result ≡ record_in i (resources file.now) }
 {
-    judge(file)?;
-    nth(file, i)
+    let blocks = judge(file)?;
+    if blocks <= i {
+        return Err(Refusal(Fault::NoRecord, 0));
+    }
+    Ok(nth(file, i))
 }
 
 /// The bytes of the name of record i, a part of the section; none where `record_at` refuses.
