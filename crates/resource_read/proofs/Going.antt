@@ -168,8 +168,8 @@ found-later i id e es h =
     ∙ ap (λ (b : Bool). pick b (accepted (i + 1 + n)) (refused 12 0 0 0)) (ltb-suc n (length es))
 
 module _ (s : List ℕ) (at i id : ℕ) (all : Verdict ℕ) (fit : Sound s at) (inv : all ≡ found_from i id (rest s at)) where
-  pub index-end : length s ≤ at → refused 12 0 0 0 ≡ all
-  index-end e = sym (inv ∙ ap (found_from i id) (none_left s at fit e) ∙ found-none i id)
+  pub index-end : length (rest s at) ≡ 0 → refused 12 0 0 0 ≡ all
+  index-end e = sym (inv ∙ ap (found_from i id) (none-counted (rest s at) e) ∙ found-none i id)
 
   module _ (more : at < length s) {r : Record} {q : ℕ} (x : Turned s at fit more r q) where
     same_id : x.entry.id ≡ r.id

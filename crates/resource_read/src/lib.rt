@@ -80,21 +80,18 @@ fn nth(file: &[u8], i: usize) -> Record
     given
 }
 
-// The number of the first block with an ID in a section that was accepted.
-fn index_of(file: &[u8], id: u32) -> Result<usize, Refusal>
-    requires { Sound file.now 0 }
+// The number of the first block with an ID in a section that was accepted, of so many blocks.
+fn index_of(file: &[u8], blocks: usize, id: u32) -> Result<usize, Refusal>
+    requires { Sound file.now 0 × (length (rest file.now 0) ≡ blocks) }
     ensures { told result ≡ found_in id (ok (rest file.now 0) 0) }
 {
     let mut at: usize = 0;
-    let mut i: usize = 0;
-    // Kept: a turn goes to the place behind a block, which only the block tells.
-    while at < file.len() {
+    for i in 0..blocks {
         let (given, next) = given_at(file, at);
         if given.id == id {
             return Ok(i);
         }
         at = next;
-        i += 1;
     }
     Err(Refusal(Fault::NoRecord, 0))
 }
@@ -154,6 +151,6 @@ pub fn data_at(file: &[u8], i: usize) -> &[u8]
 pub fn find(file: &[u8], id: u16) -> Result<usize, Refusal>
     ensures { told result ≡ found_in id (resources file.now) }
 {
-    judge(file)?;
-    index_of(file, u32::from(id))
+    let blocks = judge(file)?;
+    index_of(file, blocks, u32::from(id))
 }
