@@ -33,7 +33,7 @@ use Rattle.resource_document.proofs.Inside.{section-inside}
 use Rattle.resource_judge.proofs.Judging.{map-ok}
 use Rattle.resource_read.specs.scaffold.Parts.{rest, entries_of, Sound}
 use Rattle.resource_read.proofs.Answers.{refused-of, accepted-of, part_of}
-use Rattle.resource_read.proofs.Going.{none_left, turned}
+use Rattle.resource_read.proofs.Going.{none-counted, turned}
 use Rattle.listing.specs.Buffer.{Buffer, put_all}
 use Rattle.listing.specs.Text.{ascii, decimal, word, name, lines, refusal}
 use Rattle.listing.proofs.Putting.{lines-turn, lines_none}
@@ -194,8 +194,8 @@ module _ (s : List ℕ) where
 -- ---- a loop over the blocks of an accepted section, which begins at `first`
 
 module _ (s : List ℕ) (first : ℕ) (ends : first + length s ≤ most) (at : ℕ) (fit : Sound s at) where
-  pub lines_end : (all o : Buffer) (i : ℕ) → length s ≤ at → all ≡ put_all o (lines (line first) i (rest s at)) → all ≡ o
-  lines_end all o i e f = lines_none (line first) all o i (f ∙ ap (λ (l : List Entry). put_all o (lines (line first) i l)) (none_left s at fit e))
+  pub lines_end : (all o : Buffer) (i : ℕ) → length (rest s at) ≡ 0 → all ≡ put_all o (lines (line first) i (rest s at)) → all ≡ o
+  lines_end all o i e f = lines_none (line first) all o i (f ∙ ap (λ (l : List Entry). put_all o (lines (line first) i l)) (none-counted (rest s at) e))
 
   module _ (more : at < length s) {r : Record} {q : ℕ} (h : ok r q ≡ map_res to_record (block s at)) where
     -- the block's record, where its parts lie, and what is left

@@ -48,22 +48,19 @@ fn put_block(
     put(out, at, b'\n')
 }
 
-// The lines of the blocks of a section that was accepted.
-fn put_blocks(out: &mut [u8], n: usize, section: &[u8], first: usize) -> usize
-    requires { Sound section.now 0 × (first + length section.now ≤ most) }
+// The lines of the blocks of a section that was accepted, of so many blocks.
+fn put_blocks(out: &mut [u8], n: usize, section: &[u8], blocks: usize, first: usize) -> usize
+    requires { Sound section.now 0 × (length (rest section.now 0) ≡ blocks) × (first + length section.now ≤ most) }
     ensures { (out.new, result) ≡ put_all (out.old, n) (lines (line first) 0 (rest section.now 0)) }
 {
     let mut full = n;
     let mut at: usize = 0;
-    let mut i: usize = 0;
-    // Kept: a turn goes to the place behind a block, which only the block tells.
-    while at < section.len() {
+    for i in 0..blocks {
         let Ok((given, next)) = resource_judge::block_at(section, at) else {
             return full;
         };
         full = put_block(out, full, section, first, i, given);
         at = next;
-        i += 1;
     }
     full
 }
@@ -79,7 +76,7 @@ fn put_section(out: &mut [u8], section: &[u8], first: usize) -> usize
             let mut at = put_text(out, 0, b"8BIM");
             at = put_word(out, at, blocks as u64);
             at = put(out, at, b'\n');
-            at = put_blocks(out, at, section, first);
+            at = put_blocks(out, at, section, blocks, first);
             put_text(out, at, b"end\n")
         }
     }

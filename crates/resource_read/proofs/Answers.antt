@@ -6,7 +6,7 @@ use mathlib.Core.Bool.{Bool, true, false}
 use lib.Dec.{leb, ltb}
 use lib.ListN.{length, get_or, take, drop}
 use lib.Seq.{sets, sets-eq}
-use borrow.Author.Tests.{le-leb, lt-leb, leb-true, ltb-true}
+use borrow.Author.Tests.{le-leb, le-ltb, lt-leb, leb-true, ltb-true}
 use native.Mathlib.Omega.{arith}
 use Rattle.algebra.specs.Numbers.{joined}
 use Rattle.algebra.specs.Reader.{Res, ok, refuse, pick, limit}
@@ -93,6 +93,11 @@ module _ (s : List ℕ) where
   found-refused i e = sym (ap (found_in i) (refused-of (resources s) e))
 
   module _ {n : ℕ} (v : accepted n ≡ verdict length (resources s)) where
+    pub record-none : (i : ℕ) → n ≤ i → refused 12 0 0 0 ≡ record_in i (resources s)
+    record-none i h =
+        let a = accepted-of s v in
+        sym (ap (record_in i) a.reads ∙ simp (le-ltb i (length (map to_record (rest s 0))) (omega (arith, a.count, length-map to_record (rest s 0)))))
+
     pub record_is : (i : ℕ) {r : Verdict Record} → r ≡ record_in i (ok (rest s 0) 0) → r ≡ record_in i (resources s)
     record_is i e = e ∙ sym (ap (record_in i) (accepted-of s v).reads)
 

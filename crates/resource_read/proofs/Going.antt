@@ -2,10 +2,10 @@
 use Prim.Native.Nat.{ℕ, suc, ◌+◌, ◌-◌, ◌*◌, ◌≤◌, ◌<◌}
 use mathlib.Core.Path.{◌≡◌, refl, sym, ap, ap₂, ◌∙◌, subst}
 use mathlib.Core.List.{List, [], ◌∷◌, ◌++◌, map}
-use mathlib.Core.Bool.{Bool}
+use mathlib.Core.Bool.{Bool, true, false}
 use lib.ListN.{length, get_or}
 use lib.Seq.{sets, length-sets}
-use borrow.Author.Tests.{eq-eqb, ne_eqb, le-ltb, lt-ltb}
+use borrow.Author.Tests.{eq-eqb, ne_eqb, lt-ltb, ltb-true, ltb-false}
 use lib.Dec.{ltb, is_le}
 use Prim.Native.Nat.compare.{suc-suc}
 use native.Mathlib.Omega.{arith}
@@ -28,6 +28,14 @@ module _ (s : List ℕ) (at : ℕ) (fit : Sound s at) where
   -- at the end nothing is left
   pub none_left : length s ≤ at → rest s at ≡ []
   none_left e = ap entries_of (blocks-stop s at (omega (arith, fit.inside)))
+
+  -- where blocks are left the end is not reached
+  pub some-left : 0 < length (rest s at) → at < length s
+  some-left h = go (ltb at (length s)) refl
+    where
+      go : (b : Bool) → ltb at (length s) ≡ b → at < length s
+      go true e = ltb-true at (length s) e
+      go false e = absurd (omega (arith, h, ap length (none_left (ltb-false at (length s) e))))
 
   module _ (more : at < length s) where
     apart : at ≡ length s → ⊥
@@ -71,37 +79,43 @@ module _ (s : List ℕ) (at : ℕ) (fit : Sound s at) where
           small = subst Small x.2 sm;
         }
 
+-- none are left where their number is 0
+pub none-counted : (es : List Entry) → length es ≡ 0 → es ≡ []
+none-counted [] e = refl
+none-counted (e ∷ es) h = absurd (omega arith)
+
 -- ---- rows stored
 
--- what a table will hold, where the rows from `at` are still to be stored from `to`
-pub record Filling (s : List ℕ) (at to : ℕ) (all t : List ℕ) : Type 0 where
+-- what a table will hold, where the rows from `at` are still to be stored, as rows i and on
+pub record Filling (s : List ℕ) (at i : ℕ) (all t : List ℕ) : Type 0 where
   pub sound : Sound s at
-  pub room : to + width * length (rest s at) ≤ length t
-  pub is : all ≡ sets t to (joined entry_row (rest s at))
+  pub room : width * i + width * length (rest s at) ≤ length t
+  pub is : all ≡ sets t (width * i) (joined entry_row (rest s at))
 
-module _ (s : List ℕ) (at to : ℕ) (all t : List ℕ) (f : Filling s at to all t) where
-  pub fill_end : length s ≤ at → t ≡ all
+module _ (s : List ℕ) (at i : ℕ) (all t : List ℕ) (f : Filling s at i all t) where
+  pub fill_end : length (rest s at) ≡ 0 → t ≡ all
   unfolding joined
-  fill_end e = sym (f.is ∙ ap (λ (l : List Entry). sets t to (joined entry_row l)) (none_left s at f.sound e))
+  fill_end e = sym (f.is ∙ ap (λ (l : List Entry). sets t (width * i) (joined entry_row l)) (none-counted (rest s at) e))
 
   module _ (more : at < length s) {r : Record} {q : ℕ} (x : Turned s at f.sound more r q) where
-    pub fill-room : to + width ≤ length t
+    pub fill-room : width * i + width ≤ length t
     fill-room = omega (arith, f.room, ap length x.all)
 
-    pub fill-kept : (t' : List ℕ) → t' ≡ sets t to (row r) → length t' ≡ length t
-    fill-kept t' e = ap length e ∙ length-sets t to (row r)
+    pub fill-kept : (t' : List ℕ) → t' ≡ sets t (width * i) (row r) → length t' ≡ length t
+    fill-kept t' e = ap length e ∙ length-sets t (width * i) (row r)
 
-    pub fill-next : (t' : List ℕ) → t' ≡ sets t to (row r) → Filling s q (to + width) all t'
+    pub fill-next : (t' : List ℕ) → t' ≡ sets t (width * i) (row r) → Filling s q (i + 1) all t'
     unfolding joined
-    fill-next t' e = record {
-      sound = x.sound;
-      room = omega (arith, f.room, ap length x.all, fill-kept t' e);
-      is =
-          f.is ∙ ap (λ (y : List Entry). sets t to (joined entry_row y)) x.all
-          ∙ ap (λ (y : Record). sets t to (row y ++ joined entry_row (rest s q))) x.is
-          ∙ sets-append (row r) (joined entry_row (rest s q)) t to
-          ∙ ap (λ (y : List ℕ). sets y (to + width) (joined entry_row (rest s q))) (sym e);
-    }
+    fill-next t' e =
+        let to : width * i + width ≡ width * (i + 1) = omega arith in record {
+          sound = x.sound;
+          room = omega (arith, f.room, ap length x.all, fill-kept t' e);
+          is =
+              f.is ∙ ap (λ (y : List Entry). sets t (width * i) (joined entry_row y)) x.all
+              ∙ ap (λ (y : Record). sets t (width * i) (row y ++ joined entry_row (rest s q))) x.is
+              ∙ sets-append (row r) (joined entry_row (rest s q)) t (width * i)
+              ∙ ap₂ (λ (y : List ℕ) (k : ℕ). sets y k (joined entry_row (rest s q))) (sym e) to;
+        }
 
 -- ---- a record by its number
 
@@ -115,9 +129,6 @@ record-next : (k : ℕ) (e : Entry) (es : List Entry) → record_in (suc k) (ok 
 record-next k e es = ap (λ (b : Bool). pick b (accepted (get_or (map to_record es) k empty_record)) (refused 12 0 0 0)) (ltb-suc k (length (map to_record es)))
 
 module _ (s : List ℕ) (at k : ℕ) (fit : Sound s at) (all : Verdict Record) (inv : all ≡ record_in k (ok (rest s at) 0)) where
-  pub nth_end : length s ≤ at → refused 12 0 0 0 ≡ all
-  nth_end e = sym (inv ∙ ap (λ (l : List Entry). record_in k (ok l 0)) (none_left s at fit e) ∙ simp (le-ltb k 0 (omega arith)))
-
   module _ (more : at < length s) {r : Record} {q : ℕ} (x : Turned s at fit more r q) where
     pub nth_here : k ≡ 0 → accepted r ≡ all
     nth_here z = sym (inv ∙ ap₂ (λ (l : List Entry) (n : ℕ). record_in n (ok l 0)) x.all z ∙ record-first x.entry (rest s q) ∙ ap accepted x.is)
@@ -157,8 +168,8 @@ found-later i id e es h =
     ∙ ap (λ (b : Bool). pick b (accepted (i + 1 + n)) (refused 12 0 0 0)) (ltb-suc n (length es))
 
 module _ (s : List ℕ) (at i id : ℕ) (all : Verdict ℕ) (fit : Sound s at) (inv : all ≡ found_from i id (rest s at)) where
-  pub index-end : length s ≤ at → refused 12 0 0 0 ≡ all
-  index-end e = sym (inv ∙ ap (found_from i id) (none_left s at fit e) ∙ found-none i id)
+  pub index-end : length (rest s at) ≡ 0 → refused 12 0 0 0 ≡ all
+  index-end e = sym (inv ∙ ap (found_from i id) (none-counted (rest s at) e) ∙ found-none i id)
 
   module _ (more : at < length s) {r : Record} {q : ℕ} (x : Turned s at fit more r q) where
     same_id : x.entry.id ≡ r.id

@@ -6,6 +6,7 @@ ghost use Rattle.std.specs.Prelude.{◌≡◌, ◌+◌, ◌*◌, ◌≤◌, ◌<
 ghost use Rattle.std.proofs.lemmas.List.Edits.{sets};
 ghost use Rattle.algebra.specs.Numbers.{joined};
 ghost use Rattle.algebra.specs.Reader.{ok, map_res};
+ghost use Rattle.algebra.specs.Table.{accepted};
 ghost use Rattle.resource.specs.Reading.{block, resources};
 ghost use Rattle.resource.specs.Rows.{to_record, width, row};
 ghost use Rattle.resource_judge.specs.Answer.{told};
@@ -52,56 +53,45 @@ fn put_row(table: &mut [u32], to: usize, given: Record)
     table[to + 4] = given.size as u32;
 }
 
-// Stores the rows of a section that was accepted.
-fn fill(file: &[u8], table: &mut [u32])
-    requires { Sound file.now 0 × (width * length (rest file.now 0) ≤ length table.old) }
+// Stores the rows of a section that was accepted, of so many blocks.
+fn fill(file: &[u8], blocks: usize, table: &mut [u32])
+    requires { Sound file.now 0 × (length (rest file.now 0) ≡ blocks) × (width * blocks ≤ length table.old) }
     ensures { table.new ≡ sets table.old 0 (joined entry_row (rest file.now 0)) }
 {
     let mut at: usize = 0;
-    let mut to: usize = 0;
-    // Kept: a turn goes to the place behind a block, which only the block tells.
-    while at < file.len() {
+    for i in 0..blocks {
         let (given, next) = given_at(file, at);
-        put_row(table, to, given);
+        put_row(table, WIDTH * i, given);
         at = next;
-        to += WIDTH;
     }
 }
 
-// Record i of a section that was accepted.
-fn nth(file: &[u8], i: usize) -> Result<Record, Refusal>
-    requires { Sound file.now 0 }
-    ensures { told result ≡ record_in i (ok (rest file.now 0) 0) }
+// Record i of a section that was accepted, which has it.
+fn nth(file: &[u8], i: usize) -> Record
+    requires { Sound file.now 0 × (i < length (rest file.now 0)) }
+    ensures { accepted result ≡ record_in i (ok (rest file.now 0) 0) }
 {
     let mut at: usize = 0;
-    let mut k = i;
-    // Kept: a turn goes to the place behind a block, which only the block tells.
-    while at < file.len() {
-        let (given, next) = given_at(file, at);
-        if k == 0 {
-            return Ok(given);
-        }
+    for _k in 0..i {
+        let (_, next) = given_at(file, at);
         at = next;
-        k -= 1;
     }
-    Err(Refusal(Fault::NoRecord, 0))
+    let (given, _) = given_at(file, at);
+    given
 }
 
-// The number of the first block with an ID in a section that was accepted.
-fn index_of(file: &[u8], id: u32) -> Result<usize, Refusal>
-    requires { Sound file.now 0 }
+// The number of the first block with an ID in a section that was accepted, of so many blocks.
+fn index_of(file: &[u8], blocks: usize, id: u32) -> Result<usize, Refusal>
+    requires { Sound file.now 0 × (length (rest file.now 0) ≡ blocks) }
     ensures { told result ≡ found_in id (ok (rest file.now 0) 0) }
 {
     let mut at: usize = 0;
-    let mut i: usize = 0;
-    // Kept: a turn goes to the place behind a block, which only the block tells.
-    while at < file.len() {
+    for i in 0..blocks {
         let (given, next) = given_at(file, at);
         if given.id == id {
             return Ok(i);
         }
         at = next;
-        i += 1;
     }
     Err(Refusal(Fault::NoRecord, 0))
 }
@@ -114,7 +104,7 @@ pub fn read(file: &[u8], table: &mut [u32]) -> Result<usize, Refusal>
     if table.len() / WIDTH < blocks {
         return Err(Refusal(Fault::NoRoom, 0));
     }
-    fill(file, table);
+    fill(file, blocks, table);
     Ok(blocks)
 }
 
@@ -122,8 +112,11 @@ pub fn read(file: &[u8], table: &mut [u32]) -> Result<usize, Refusal>
 pub fn record_at(file: &[u8], i: usize) -> Result<Record, Refusal>
     ensures { told result ≡ record_in i (resources file.now) }
 {
-    judge(file)?;
-    nth(file, i)
+    let blocks = judge(file)?;
+    if blocks <= i {
+        return Err(Refusal(Fault::NoRecord, 0));
+    }
+    Ok(nth(file, i))
 }
 
 /// The bytes of the name of record i, a part of the section; none where `record_at` refuses.
@@ -158,6 +151,6 @@ pub fn data_at(file: &[u8], i: usize) -> &[u8]
 pub fn find(file: &[u8], id: u16) -> Result<usize, Refusal>
     ensures { told result ≡ found_in id (resources file.now) }
 {
-    judge(file)?;
-    index_of(file, u32::from(id))
+    let blocks = judge(file)?;
+    index_of(file, blocks, u32::from(id))
 }

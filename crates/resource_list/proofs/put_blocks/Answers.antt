@@ -1,49 +1,39 @@
 use borrow.Author.Rules.{rules}
+use lib.ListN.{length}
 use native.Mathlib.Omega.{arith}
-use mathlib.Core.Path.{refl, sym}
-use Rattle.resource_read.proofs.Going.{never}
+use mathlib.Core.Path.{refl, sym, ap}
+use Rattle.resource_read.proofs.Going.{never, some-left}
 use Rattle.resource_list.proofs.Listed.{lines_end, listed_next, lines_next}
 use Rattle.resource_list.proofs.put_blocks.Goals as goal
 
-pub loop-at-init : goal.loop-at-init
-loop-at-init c = (c.requires.0, omega arith, refl, refl)
+pub loop-i-init : goal.loop-i-init
+loop-i-init c = (c.requires.0, omega (arith, c.requires.1), refl, refl)
 
 pub returns-in_default : goal.returns-in_default
 returns-in_default c =
-    let l = c.loop-at in
+    let l = c.loop-i in
     let a = c.args in
-    never a.section.now l.at l.invariant.0 c.loop-at-test.true c.in_default.ensures
+    let more = some-left a.section.now l.at l.invariant.0 (omega (arith, l.invariant.1, c.loop-i-test.true)) in
+    never a.section.now l.at l.invariant.0 more c.in_default.ensures
 
 pub put_block-full-requires : goal.put_block-full-requires
 put_block-full-requires c =
-    let l = c.loop-at in
+    let l = c.loop-i in
     let a = c.args in
-    let x = listed_next a.section.now a.first c.requires.1 l.at l.invariant.0 c.loop-at-test.true c.in-Ok.ensures in
+    let more = some-left a.section.now l.at l.invariant.0 (omega (arith, l.invariant.1, c.loop-i-test.true)) in
+    let x = listed_next a.section.now a.first c.requires.2 l.at l.invariant.0 more c.in-Ok.ensures in
     x.lying
 
-pub overflow_add-i : goal.overflow_add-i
-overflow_add-i c =
-    let l = c.loop-at in
+pub loop-i-preserved : goal.loop-i-preserved
+loop-i-preserved c =
+    let l = c.loop-i in
     let a = c.args in
-    let x = listed_next a.section.now a.first c.requires.1 l.at l.invariant.0 c.loop-at-test.true c.in-Ok.ensures in
-    omega (arith, l.invariant.1, l.invariant.0.inside, l.invariant.0.short)
-
-pub loop-at-smaller : goal.loop-at-smaller
-loop-at-smaller c =
-    let l = c.loop-at in
-    let a = c.args in
-    let x = listed_next a.section.now a.first c.requires.1 l.at l.invariant.0 c.loop-at-test.true c.in-Ok.ensures in
-    omega (arith, x.moved, x.sound.inside)
-
-pub loop-at-preserved : goal.loop-at-preserved
-loop-at-preserved c =
-    let l = c.loop-at in
-    let a = c.args in
-    let x = listed_next a.section.now a.first c.requires.1 l.at l.invariant.0 c.loop-at-test.true c.in-Ok.ensures in
-    (x.sound, omega (arith, l.invariant.1, x.moved), search rules, lines_next a.section.now a.first c.requires.1 l.at l.invariant.0 c.loop-at-test.true _ x _ (l.out, l.full) l.i l.invariant.3 c.put_block-full.ensures)
+    let more = some-left a.section.now l.at l.invariant.0 (omega (arith, l.invariant.1, c.loop-i-test.true)) in
+    let x = listed_next a.section.now a.first c.requires.2 l.at l.invariant.0 more c.in-Ok.ensures in
+    (x.sound, omega (arith, l.invariant.1, ap length x.all), search rules, lines_next a.section.now a.first c.requires.2 l.at l.invariant.0 more _ x _ (l.out, l.full) l.i l.invariant.3 c.put_block-full.ensures)
 
 pub returns : goal.returns
 returns c =
-    let l = c.loop-at in
+    let l = c.loop-i in
     let a = c.args in
-    sym (lines_end a.section.now a.first c.requires.1 l.at l.invariant.0 _ (l.out, l.full) l.i c.loop-at-test.false l.invariant.3)
+    sym (lines_end a.section.now a.first c.requires.2 l.at l.invariant.0 _ (l.out, l.full) l.i (omega (arith, l.invariant.1, c.loop-i-test.false)) l.invariant.3)

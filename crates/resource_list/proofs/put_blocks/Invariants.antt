@@ -1,4 +1,4 @@
-use Prim.Native.Nat.{◌-◌, ◌≤◌}
+use Prim.Native.Nat.{◌+◌}
 use lib.ListN.{length}
 use mathlib.Core.Path.{◌≡◌}
 use Rattle.resource_read.specs.scaffold.Parts.{rest, Sound}
@@ -7,8 +7,5 @@ use Rattle.listing.specs.Text.{lines}
 use Rattle.resource_list.specs.Listing.{line}
 use Rattle.resource_list.proofs.put_blocks.Given as goal
 
-abbrev pub invariant-loop-at : goal.invariant-loop-at
-invariant-loop-at l = Sound l.section l.at × (l.i ≤ l.at) × (length l.out ≡ length l.initial.out) × (put_all (l.initial.out, l.n) (lines (line l.first) 0 (rest l.section 0)) ≡ put_all (l.out, l.full) (lines (line l.first) l.i (rest l.section l.at)))
-
-abbrev pub decreases-loop-at : goal.decreases-loop-at
-decreases-loop-at l = length l.section - l.at
+abbrev pub invariant-loop-i : goal.invariant-loop-i
+invariant-loop-i l = Sound l.section l.at × (l.i + length (rest l.section l.at) ≡ l.blocks) × (length l.out ≡ length l.initial.out) × (put_all (l.initial.out, l.n) (lines (line l.first) 0 (rest l.section 0)) ≡ put_all (l.out, l.full) (lines (line l.first) l.i (rest l.section l.at)))

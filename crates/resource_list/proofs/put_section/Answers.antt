@@ -14,7 +14,8 @@ overflow_add-first c =
 
 pub put_blocks-at-requires : goal.put_blocks-at-requires
 put_blocks-at-requires c =
-    ((accepted-of c.args.section.now c.in-Ok.ensures).sound, c.requires)
+    let a = accepted-of c.args.section.now c.in-Ok.ensures in
+    (a.sound, a.count, c.requires)
 
 pub returns-in-Err : goal.returns-in-Err
 returns-in-Err c =

@@ -1,4 +1,4 @@
-use Prim.Native.Nat.{◌-◌, ◌≤◌}
+use Prim.Native.Nat.{◌+◌}
 use lib.ListN.{length}
 use mathlib.Core.Path.{◌≡◌}
 use Rattle.resource_read.specs.scaffold.Parts.{rest, Sound}
@@ -7,8 +7,5 @@ use Rattle.resource_read.proofs.Going.{found_from}
 use Rattle.algebra.specs.Reader.{ok}
 use Rattle.resource_read.proofs.index_of.Given as goal
 
-abbrev pub invariant-loop-at : goal.invariant-loop-at
-invariant-loop-at l = Sound l.file l.at × (l.i ≤ l.at) × (found_in l.id (ok (rest l.file 0) 0) ≡ found_from l.i l.id (rest l.file l.at))
-
-abbrev pub decreases-loop-at : goal.decreases-loop-at
-decreases-loop-at l = length l.file - l.at
+abbrev pub invariant-loop-i : goal.invariant-loop-i
+invariant-loop-i l = Sound l.file l.at × (l.i + length (rest l.file l.at) ≡ l.blocks) × (found_in l.id (ok (rest l.file 0) 0) ≡ found_from l.i l.id (rest l.file l.at))

@@ -1,6 +1,5 @@
 use Prim.Native.Nat.{ℕ}
 use mathlib.Core.Path.{refl, ap, ◌∙◌}
-use native.Mathlib.Omega.{arith}
 use Rattle.algebra.specs.Table.{Verdict}
 use Rattle.resource_judge.proofs.Judging.{told-no}
 use Rattle.resource_read.proofs.Answers.{accepted-of, room-enough, table-refused, table-short, table_filled}
@@ -17,7 +16,7 @@ returns-then-table-blocks c = table-short c.args.file.now c.args.table.now c.in_
 pub fill-requires : goal.fill-requires
 fill-requires c =
     let x = accepted-of c.args.file.now c.in_ok-blocks.ensures in
-    (x.sound, omega (arith, room-enough _ _ c.if-table-blocks.false, x.count))
+    (x.sound, x.count, room-enough _ _ c.if-table-blocks.false)
 
 pub returns : goal.returns
 returns c = table_filled c.args.file.now c.args.table.now c.in_ok-blocks.ensures c.if-table-blocks.false _ c.fill.ensures
