@@ -86,7 +86,7 @@ step_of ChannelBits s at = ase_step (aseCall (aseWalk s at))
 -- ---- what each answer of the code says
 
 abbrev pub told_numbers : Numbers → List ℕ
-told_numbers n = n.tag ∷ n.number0 ∷ n.number1 ∷ n.number2 ∷ n.number3 ∷ []
+told_numbers n = n.tag ∷ n.numbers
 
 abbrev pub told_palette_step : PaletteStep → List ℕ × ℕ × ℕ × ℕ
 told_palette_step r = (told_numbers r.numbers, r.place, r.units, r.next)

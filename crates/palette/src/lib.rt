@@ -36,10 +36,7 @@ pub enum View {
 #[derive(Clone, Copy, Debug, PartialEq, Eq)]
 pub struct Numbers {
     pub tag: u32,
-    pub number0: u32,
-    pub number1: u32,
-    pub number2: u32,
-    pub number3: u32,
+    pub numbers: [u32; 4],
 }
 
 // A colour, where its name lies, and the place of the next call.
@@ -95,10 +92,7 @@ fn zeros() -> Numbers
 {
     Numbers {
         tag: 0,
-        number0: 0,
-        number1: 0,
-        number2: 0,
-        number3: 0,
+        numbers: [0; 4],
     }
 }
 
@@ -118,12 +112,13 @@ fn own(colour: Colour) -> Numbers
     ensures { told_numbers result ≡ colour_numbers Samples colour }
 {
     let samples = colour.samples;
+    let a = u32::from(samples[0]);
+    let b = u32::from(samples[1]);
+    let c = u32::from(samples[2]);
+    let d = u32::from(samples[3]);
     Numbers {
         tag: u32::from(colour.space),
-        number0: u32::from(samples[0]),
-        number1: u32::from(samples[1]),
-        number2: u32::from(samples[2]),
-        number3: u32::from(samples[3]),
+        numbers: [a, b, c, d],
     }
 }
 
@@ -132,13 +127,10 @@ fn channels_of(colour: Channels) -> Numbers
     ensures { told_numbers result ≡ channel_numbers colour }
 {
     let traits = colour.model().traits();
-    let bits = colour.bits();
+    let numbers = colour.bits();
     Numbers {
         tag: traits.tag,
-        number0: bits[0],
-        number1: bits[1],
-        number2: bits[2],
-        number3: bits[3],
+        numbers,
     }
 }
 

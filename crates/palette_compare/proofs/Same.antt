@@ -5,6 +5,7 @@ use mathlib.Core.List.{List, [], ◌∷◌, ◌++◌}
 use mathlib.Core.Bool.{Bool, true, false, ◌&&◌, true≢false}
 use lib.Dec.{eqb}
 use lib.ListN.{length}
+use lib.Pointwise.{pointwise}
 use borrow.Author.Tests.{eqb-true, eqb-false, eq-eqb, ne_eqb}
 use native.Mathlib.Nat.{div-add-mod'}
 use Rattle.algebra.specs.Numbers.{be, joined, All}
@@ -20,13 +21,12 @@ both false b e = absurd (true≢false (sym e))
 pub and-true : {a b : Bool} → a ≡ true → b ≡ true → a && b ≡ true
 and-true {a} {b} e f = ap₂ (λ (x y : Bool). x && y) e f
 
-pub five-tests : (a b c d e : Bool) → a && (b && (c && (d && e))) ≡ a && (b && (c && (d && (e && true))))
-five-tests false b c d e = refl
-five-tests true false c d e = refl
-five-tests true true false d e = refl
-five-tests true true true false e = refl
-five-tests true true true true false = refl
-five-tests true true true true true = refl
+pub same-pairs : (xs ys : List ℕ) → pointwise eqb xs ys ≡ same_numbers xs ys
+unfolding same_numbers
+same-pairs [] [] = refl
+same-pairs [] (y ∷ ys) = refl
+same-pairs (x ∷ xs) [] = refl
+same-pairs (x ∷ xs) (y ∷ ys) = ap (λ (b : Bool). eqb x y && b) (same-pairs xs ys)
 
 pub symmetric : (x y : ℕ) → eqb x y ≡ eqb y x
 symmetric x y = go (eqb x y) refl

@@ -7,6 +7,8 @@ use Rattle.aco_judge.specs.declared.Rejection.TheVariants as rejection
 use Rattle.palette_compare.specs.declared.Comparison.{Comparison as Counted}
 use Rattle.palette_compare.specs.declared.CompareError.{CompareError}
 use Rattle.palette_compare.specs.declared.CompareError.TheVariants as error
+use Rattle.palette_compare.specs.declared.Difference.{Difference}
+use Rattle.palette_compare.specs.declared.Difference.TheVariants as difference
 
 -- the rejection of file w
 abbrev pub rejected_by : ℕ → Rejection → Comparison
@@ -21,3 +23,12 @@ told_error error.NoRoom = refused_by 0 11 0 0 0
 abbrev pub told : Result Counted CompareError → Comparison
 told (Ok c) = compared c.positions c.differences
 told (Err e) = told_error e
+
+-- a position's kind, as its row has it
+abbrev pub told_kind : Difference → ℕ
+told_kind difference.Same = 0
+told_kind difference.Name = 1
+told_kind difference.Colour = 2
+told_kind difference.Both = 3
+told_kind difference.OnlyFirst = 4
+told_kind difference.OnlySecond = 5

@@ -9,7 +9,7 @@ ghost use Rattle.palette.specs.Palette.{colours};
 ghost use Rattle.palette.specs.PaletteStep.{told_numbers};
 ghost use Rattle.palette.specs.scaffold.Turn.{colours_in};
 ghost use Rattle.palette_compare.specs.Compare.{same_numbers, kind_by, rows, filled, comparison};
-ghost use Rattle.palette_compare.specs.Answer.{told};
+ghost use Rattle.palette_compare.specs.Answer.{told, told_kind};
 ghost use Rattle.palette_compare.specs.scaffold.Parts.{kinds_in, kind_at, StoredTo, Positions};
 
 use aco_judge::Rejection;
@@ -31,11 +31,24 @@ pub enum CompareError {
     NoRoom,
 }
 
-// Only in the first, and only in the second.
-// Kept: kinds as the numbers of a row, which C reads; the rules give them as numbers.
-const FIRST: u32 = 4;
+/// How the colours of one position differ, by the number that its row has.
+#[derive(Clone, Copy, Debug, PartialEq, Eq)]
+pub enum Difference {
+    Same = 0,
+    Name = 1,
+    Colour = 2,
+    Both = 3,
+    OnlyFirst = 4,
+    OnlySecond = 5,
+}
 
-const SECOND: u32 = 5;
+impl Difference {
+    fn number(self) -> u32
+        ensures { result ≡ told_kind self }
+    {
+        self as u32
+    }
+}
 
 // Numbers of a row.
 const WIDTH: usize = 2;
@@ -67,24 +80,24 @@ fn same_bytes(x: &[u8], y: &[u8]) -> bool
     any == 0
 }
 
-fn kind_by(value: bool, name: bool) -> u32
-    ensures { result ≡ kind_by value name }
+fn kind_by(value: bool, name: bool) -> Difference
+    ensures { told_kind result ≡ kind_by value name }
 {
     if value {
         if name {
-            return 0;
+            return Difference::Same;
         }
-        return 1;
+        return Difference::Name;
     }
     if name {
-        return 2;
+        return Difference::Colour;
     }
-    3
+    Difference::Both
 }
 
 // The kind of two colours, one of each file.
-fn kind_at(first: &[u8], x: PaletteStep, second: &[u8], y: PaletteStep) -> u32
-    ensures { result ≡ kind_at first.now x second.now y }
+fn kind_at(first: &[u8], x: PaletteStep, second: &[u8], y: PaletteStep) -> Difference
+    ensures { told_kind result ≡ kind_at first.now x second.now y }
 {
     let value = x.numbers == y.numbers;
     let name = name_part(first, x.place, x.units);
@@ -93,24 +106,21 @@ fn kind_at(first: &[u8], x: PaletteStep, second: &[u8], y: PaletteStep) -> u32
 }
 
 // 1 where a kind is a difference.
-fn counted(kind: u32) -> usize
-    ensures { result ≡ pick (eqb kind 0) 0 1 }
+fn counted(kind: Difference) -> usize
+    ensures { result ≡ pick (eqb (told_kind kind) 0) 0 1 }
 {
-    if kind == 0 {
-        return 0;
-    }
-    1
+    usize::from(kind != Difference::Same)
 }
 
 // ---- the table
 
 // Stores the row of a position. No other function stores one.
-fn put_row(table: &mut [u32], i: usize, kind: u32)
+fn put_row(table: &mut [u32], i: usize, kind: Difference)
     requires { (2 * i + 2 ≤ length table.old) × (i < 2 ^ 32) }
-    ensures { table.new ≡ sets table.old (2 * i) (rows i (replicate 1 kind)) }
+    ensures { table.new ≡ sets table.old (2 * i) (rows i (replicate 1 (told_kind kind))) }
 {
     table[WIDTH * i] = i as u32;
-    table[WIDTH * i + 1] = kind;
+    table[WIDTH * i + 1] = kind.number();
 }
 
 // Stores the rows of the n positions that both palettes have, by a step over each of them a turn;
@@ -144,9 +154,9 @@ fn fill_both(
 }
 
 // Stores the rows of the positions from `from` to `to` that one palette has, all of one kind.
-fn fill_rest(table: &mut [u32], from: usize, to: usize, kind: u32)
+fn fill_rest(table: &mut [u32], from: usize, to: usize, kind: Difference)
     requires { (from ≤ to) × (2 * to ≤ length table.old) × (to < 2 ^ 32) }
-    ensures { table.new ≡ sets table.old (2 * from) (rows from (replicate (to - from) kind)) }
+    ensures { table.new ≡ sets table.old (2 * from) (rows from (replicate (to - from) (told_kind kind))) }
 {
     for i in from..to {
         put_row(table, i, kind);
@@ -161,10 +171,10 @@ fn fill_to(
     second: &[u8],
     shorter: usize,
     longer: usize,
-    rest: u32,
+    rest: Difference,
     table: &mut [u32],
 ) -> Result<Comparison, CompareError>
-    requires { Positions one first.now other second.now shorter longer rest }
+    requires { Positions one first.now other second.now shorter longer (told_kind rest) }
     ensures { (told result, table.new) ≡ filled (kinds_in one first.now other second.now) table.old }
 {
     if table.len() / WIDTH < longer {
@@ -192,9 +202,27 @@ fn fill(
     ensures { (told result, table.new) ≡ comparison (colours one first.now) (colours other second.now) table.old }
 {
     if m < n {
-        return fill_to(one, first, other, second, m, n, FIRST, table);
+        return fill_to(
+            one,
+            first,
+            other,
+            second,
+            m,
+            n,
+            Difference::OnlyFirst,
+            table,
+        );
     }
-    fill_to(one, first, other, second, n, m, SECOND, table)
+    fill_to(
+        one,
+        first,
+        other,
+        second,
+        n,
+        m,
+        Difference::OnlySecond,
+        table,
+    )
 }
 
 /// Compares two files, each said to be of a kind; a refusal leaves the table as it was.

@@ -34,8 +34,8 @@ pub struct Report {
     pub totals: [u32; 31],
 }
 
-/// What a file was found to be, and the report with it; where a total would pass the bound, a fault,
-/// and the report stays as it was.
+/// What a file was found to be, and the report with it; where a total would pass the bound, a fault:
+/// the caller's report then stands.
 #[derive(Clone, Copy)]
 pub struct Added {
     pub file: Result<(), Refusal>,
@@ -124,8 +124,8 @@ fn book_place(space: u16) -> usize
     ensures { result ≡ book_place space }
 {
     match space {
-        0 => 24,
-        2 => 25,
+        colour::RGB => 24,
+        colour::CMYK => 25,
         _ => 26,
     }
 }
@@ -308,7 +308,8 @@ fn sum_of(first: [u32; 31], second: [u32; 31]) -> Result<Report, Fault>
     Ok(Report { totals })
 }
 
-/// Adds a file's report. Where a total would pass the bound, the report stays as it was.
+/// Adds a file's report. Where a total would pass the bound, there is none, and the caller's report
+/// stands.
 pub fn add(report: Report, kind: Kind, file: &[u8]) -> Added
     ensures { told_added report.totals result ≡ added report.totals (file_report kind file.now) }
 {

@@ -3,4 +3,4 @@ use Rattle.palette.proofs.own.Goals as goal
 
 pub returns : goal.returns
 returns c =
-    five-same c.from.ensures c.from-2.ensures c.from-3.ensures c.from-4.ensures c.from-5.ensures
+    five-same c.from.ensures c.from-a.ensures c.from-b.ensures c.from-c.ensures c.from-d.ensures

@@ -1,11 +1,23 @@
-use mathlib.Core.Path.{sym, ap}
-use mathlib.Core.Bool.{Bool}
-use borrow.Author.Tests.{eq-eqb, ne_eqb}
+use Prim.Native.Nat.{ℕ}
+use mathlib.Core.Path.{◌≡◌, refl, ap, ◌∙◌}
+use mathlib.Core.Bool.{not}
+use denote.Enum.Bare.{sameb}
+use lib.Dec.{eqb}
+use mir.Val.{bool_byte}
 use Rattle.algebra.specs.Reader.{pick}
+use Rattle.palette_compare.specs.Answer.{told_kind}
+use Rattle.palette_compare.specs.contracts.Difference.{the_type}
+use Rattle.palette_compare.specs.declared.Difference.{Difference}
+use Rattle.palette_compare.specs.declared.Difference.TheVariants as difference
 use Rattle.palette_compare.proofs.counted.Goals as goal
 
-pub returns-then-kind-eq0 : goal.returns-then-kind-eq0
-returns-then-kind-eq0 c = sym (ap (λ (b : Bool). pick b 0 1) (eq-eqb _ _ c.if-kind-eq0.true))
+marked : (d : Difference) → ◌≡◌ {A = ℕ} (bool_byte (not (sameb the_type d difference.Same))) (pick (eqb (told_kind d) 0) 0 1)
+marked difference.Same = refl
+marked difference.Name = refl
+marked difference.Colour = refl
+marked difference.Both = refl
+marked difference.OnlyFirst = refl
+marked difference.OnlySecond = refl
 
 pub returns : goal.returns
-returns c = sym (ap (λ (b : Bool). pick b 0 1) (ne_eqb _ _ c.if-kind-eq0.false))
+returns c = c.from.ensures ∙ ap bool_byte c.ne.ensures ∙ marked c.args.kind

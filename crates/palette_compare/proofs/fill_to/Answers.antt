@@ -1,4 +1,5 @@
 use native.Mathlib.Omega.{arith}
+use Rattle.palette_compare.specs.Answer.{told_kind}
 use Rattle.palette_compare.specs.scaffold.Parts.{kinds_in}
 use Rattle.palette_compare.proofs.Laws.{differences-below, filled-short, filled_is}
 use Rattle.palette_compare.proofs.fill_to.Goals as goal
@@ -16,4 +17,4 @@ overflow_add-result c =
 pub returns : goal.returns
 returns c =
     let a = c.args in
-    filled_is a.one a.first.now a.other a.second.now a.shorter a.longer a.rest a.table.now _ _ c.fill_both-both.result c.requires (omega (arith, c.if-table-longer.false)) c.fill_both-both.ensures c.fill_rest.ensures
+    filled_is a.one a.first.now a.other a.second.now a.shorter a.longer (told_kind a.rest) a.table.now _ _ c.fill_both-both.result c.requires (omega (arith, c.if-table-longer.false)) c.fill_both-both.ensures c.fill_rest.ensures
