@@ -88,9 +88,10 @@ fn fill(book: &Records, run: &mut [u32])
     requires { Judged book.now × (length run.old ≡ length (shown_from 0 (names_in book.now.file.now))) }
     ensures { run.new ≡ index_of (names_in book.now.file.now) }
 {
+    // Before the calls, so that it is cleared once.
+    let mut table = [0; 8192];
     draw(book, run);
     acb_sort::sort(book.file, run);
-    let mut table = [0; 8192];
     tabulate(book, &mut table);
     number(book, &table, run);
 }

@@ -180,11 +180,11 @@ fn put_listing(out: &mut [u8], file: &[u8]) -> usize
     ensures { (out.new, result) ≡ put_all (out.old, 0) (taken 65536 file.now (listing file.now (acb file.now))) }
 {
     if TAKEN < file.len() {
-        return put_refusal(out, Refusal(Fault::TooLong, 0));
+        return put_refusal(out, Fault::TooLong.number(), 0);
     }
     let mut table = [0u32; WIDTH * RECORDS];
     match acb_read::read(file, &mut table) {
-        Err(refused) => put_refusal(out, refused),
+        Err(refused) => put_refusal(out, refused.0.number(), refused.1),
         Ok(book) => {
             let header = book.header;
             let mut at = put_heading(out, header, book.tag, book.count);

@@ -2,16 +2,14 @@
 // is taken: where no count stands a name has no units, and units past the file's end are left out.
 #![tactic(auto)]
 
-ghost use Rattle.std.specs.Prelude.{◌≡◌, ◌+◌, ◌*◌, ◌≤◌, ◌<◌, length};
-ghost use Rattle.algebra.specs.Numbers.{nums};
-ghost use Rattle.algebra.specs.Reader.{limit};
+ghost use Rattle.std.specs.Prelude.{◌≡◌, ◌+◌, ◌-◌, ◌*◌, ◌^◌, ◌≤◌, ◌<◌, min, length};
+ghost use Rattle.algebra.specs.Numbers.{num, nums};
 ghost use Rattle.acb_order.specs.Names.{compare_names};
 ghost use Rattle.acb_order.specs.Places.{units_at, name_at};
 ghost use Rattle.acb_order.specs.scaffold.Places.{next_record};
 ghost use Rattle.acb_names.specs.Answer.{told};
 ghost use Rattle.acb_names.specs.scaffold.Units.{Held, left};
 
-use fields::Number;
 use std::cmp::Ordering;
 
 // The units of a name in a file: the place of the first, and how many there are.
@@ -19,6 +17,35 @@ use std::cmp::Ordering;
 struct Span {
     first: usize,
     count: usize,
+}
+
+fn unit_at(file: &[u8], at: usize) -> u16
+    requires { at + 2 ≤ length file.now }
+    ensures { result ≡ num 2 file.now at }
+{
+    256 * u16::from(file[at]) + u16::from(file[at + 1])
+}
+
+// Two units in one number.
+fn pair_at(file: &[u8], at: usize) -> u32
+    requires { at + 4 ≤ length file.now }
+    ensures { result ≡ num 4 file.now at }
+{
+    let a = u32::from(file[at]);
+    let b = u32::from(file[at + 1]);
+    let c = u32::from(file[at + 2]);
+    let d = u32::from(file[at + 3]);
+    ((a * 256 + b) * 256 + c) * 256 + d
+}
+
+// Four units in one number.
+fn word_at(file: &[u8], at: usize) -> u64
+    requires { at + 8 ≤ length file.now }
+    ensures { result ≡ num 8 file.now at }
+{
+    let high = u64::from(pair_at(file, at));
+    let low = u64::from(pair_at(file, at + 4));
+    high * 4294967296 + low
 }
 
 /// How many units the name of the record at `at` has.
@@ -48,8 +75,8 @@ fn compare_rest(file: &[u8], a: Span, b: Span, from: usize) -> Ordering
     ensures { told result ≡ left file.now a.first a.count b.first b.count from }
 {
     for k in from..a.count.min(b.count) {
-        let u = u16::load(file, a.first + 2 * k);
-        let v = u16::load(file, b.first + 2 * k);
+        let u = unit_at(file, a.first + 2 * k);
+        let v = unit_at(file, b.first + 2 * k);
         if u != v {
             return u.cmp(&v);
         }
@@ -64,8 +91,8 @@ fn compare_units(file: &[u8], a: Span, b: Span) -> Ordering
 {
     let fours = a.count.min(b.count) / 4;
     for k in 0..fours {
-        let u = u64::load(file, a.first + 8 * k);
-        let v = u64::load(file, b.first + 8 * k);
+        let u = word_at(file, a.first + 8 * k);
+        let v = word_at(file, b.first + 8 * k);
         if u != v {
             return u.cmp(&v);
         }
@@ -87,7 +114,7 @@ pub fn against(file: &[u8], p: u32, name: &[u16]) -> Ordering
     let units = units_of(file, p);
     for k in 0..name.len().min(units.count) {
         let u = name[k];
-        let v = u16::load(file, units.first + 2 * k);
+        let v = unit_at(file, units.first + 2 * k);
         if u != v {
             return u.cmp(&v);
         }
@@ -106,12 +133,13 @@ pub struct Records<'a> {
 }
 
 impl Records<'_> {
-    /// How many units the name of the record at `at` has, and the place behind the record.
+    /// How many units the name of the record at `at` has, and the place behind the record, or the
+    /// largest number where it is past that.
     pub fn pass(&self, at: usize) -> (usize, usize)
-        requires { next_record self.now.components self.now.file.now at ≤ limit }
-        ensures { (result.0 ≡ units_at self.now.file.now at) × (result.1 ≡ next_record self.now.components self.now.file.now at) }
+        ensures { (result.0 ≡ units_at self.now.file.now at) × (result.1 ≡ min (next_record self.now.components self.now.file.now at) (2 ^ 64 - 1)) }
     {
         let units = units_at(self.file, at);
-        (units, at + 4 + 2 * units + 6 + self.components)
+        let behind = at.saturating_add(4 + 2 * units + 6);
+        (units, behind.saturating_add(self.components))
     }
 }

@@ -1,5 +1,5 @@
 -- The records of an accepted file, by their places, as those of an index. Assumes nothing.
-use Prim.Native.Nat.{ℕ, zero, suc, ◌+◌, ◌-◌, ◌*◌, ◌/◌, ◌≤◌, ◌<◌}
+use Prim.Native.Nat.{ℕ, zero, suc, ◌+◌, ◌-◌, ◌*◌, ◌/◌, ◌^◌, ◌≤◌, ◌<◌, min}
 use mathlib.Core.Path.{◌≡◌, refl, sym, ap, ap₂, ◌∙◌, subst}
 use mathlib.Core.List.{List, [], ◌∷◌, map}
 use mathlib.Core.Bool.{Bool, true, false}
@@ -193,6 +193,11 @@ module _ (s : List ℕ) (bytes : Bytes s) (count p n : ℕ) (a : Opened s count 
         name = r.name;
         empty = ap is_empty r.name ∙ empty-is (name_at s (record_place n s p i)) ∙ ap (λ (m : ℕ). eqb m 0) (length-nums 2 (units_at s (record_place n s p i)) s (record_place n s p i + 4));
       }
+
+  -- behind record i stands record i + 1
+  pub passed : {at r : ℕ} (i : ℕ) → i < count → at ≡ record_place n s p i → r ≡ min (next_record n s at) (2 ^ 64 - 1) → r ≡ record_place n s p (i + 1)
+  passed i h e f =
+      omega (arith, f, ap (next_record n s) e, (known i h).inside, short, place-next n s p i)
 
   -- a record takes 13 bytes and more
   pub places-apart : (i k : ℕ) → record_place n s p i + 13 * k ≤ record_place n s p (i + k)

@@ -121,13 +121,30 @@ pub fn step_at(file: &[u8], at: usize, space: u16) -> RecordStep
     }
 }
 
+/// The units of the name of the record at `at`, and the place behind it; no units and the place itself
+/// where no whole record stands there. A loop that needs no more of its records goes by this: it makes
+/// none of them.
+pub fn units_at(file: &[u8], at: usize, space: u16) -> (u32, usize)
+    ensures units { result.0 ≡ (given_in (step space file.now at).0).name.1 }
+    ensures next { result.1 ≡ (step space file.now at).1 }
+{
+    match name_of(file, at, space) {
+        Some(name) => {
+            let n = acb_judge::components_of(space);
+            let code = name.first + 2 * (name.units as usize);
+            (name.units, code + 6 + n)
+        }
+        None => (0, at),
+    }
+}
+
 /// The place behind i records from `at`.
 pub fn place_at(file: &[u8], at: usize, space: u16, i: usize) -> usize
     ensures { result ≡ passed space file.now at i }
 {
     let mut p = at;
     for _k in 0..i {
-        p = step_at(file, p, space).next;
+        p = units_at(file, p, space).1;
     }
     p
 }
@@ -147,21 +164,6 @@ pub fn given(swatch: Result<BookRecord, Refusal>) -> BookRecord
     ensures { told_given result ≡ given_in (told_record swatch) }
 {
     swatch.unwrap_or(NONE)
-}
-
-// The same of the record at `at`, and the place behind it. It makes no `Result` on the way: a record
-// in one is copied through memory, and reading a book of short names takes 1.7 times as long.
-fn given_at(file: &[u8], at: usize, space: u16) -> (BookRecord, usize)
-    ensures given { told_given result.0 ≡ given_in (step space file.now at).0 }
-    ensures next { result.1 ≡ (step space file.now at).1 }
-{
-    match name_of(file, at, space) {
-        Some(name) => {
-            let n = acb_judge::components_of(space);
-            whole_at(file, name.first, name.units, n)
-        }
-        None => (NONE, at),
-    }
 }
 
 // Stores the numbers of a row; no other function stores one.
@@ -199,6 +201,27 @@ fn put_row(table: &mut [u32], to: usize, given: BookRecord, ink: Ink)
     put_numbers(table, to, row);
 }
 
+// Stores the record at `at` as a row, with an ink, and answers the place behind it. Each case stores its
+// own row: a record that is made in one of two cases and stored behind both is packed and taken apart.
+fn put_at(table: &mut [u32], to: usize, file: &[u8], at: usize, space: u16, ink: Ink) -> usize
+    requires { (length file.now ≤ limit) × (to + width ≤ length table.old) }
+    ensures table { table.new ≡ sets table.old to (numbers (stated (ink_number ink) (given_in (step space file.now at).0))) }
+    ensures next { result ≡ (step space file.now at).1 }
+{
+    match name_of(file, at, space) {
+        Some(name) => {
+            let n = acb_judge::components_of(space);
+            let (record, next) = whole_at(file, name.first, name.units, n);
+            put_row(table, to, record, ink);
+            next
+        }
+        None => {
+            put_row(table, to, NONE, ink);
+            at
+        }
+    }
+}
+
 // Stores the records of a book.
 fn fill(file: &[u8], book: Book, table: &mut [u32])
     requires { (length file.now ≤ limit) × (width * book.count ≤ length table.old) }
@@ -207,9 +230,7 @@ fn fill(file: &[u8], book: Book, table: &mut [u32])
     let ink = acb_judge::ink_of(book.tag);
     let mut at = book.first;
     for i in 0..book.count {
-        let (record, next) = given_at(file, at, book.header.space);
-        put_row(table, WIDTH * i, record, ink);
-        at = next;
+        at = put_at(table, WIDTH * i, file, at, book.header.space, ink);
     }
 }
 

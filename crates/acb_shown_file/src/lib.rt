@@ -80,10 +80,9 @@ pub fn sample_at(
     let mut left = offset;
     let mut p = at;
     for k in i..end {
-        let step = acb_read::step_at(file, p, space);
-        p = step.next;
-        let string = acb_read::given(step.swatch).name;
-        if string.units != 0 {
+        let (units, next) = acb_read::units_at(file, p, space);
+        p = next;
+        if units != 0 {
             if left == 0 {
                 return Ok(k);
             }

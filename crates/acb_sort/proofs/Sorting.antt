@@ -13,7 +13,8 @@ use Rattle.std.specs.Ordering.{is_lt, nat_cmp, ordering_then}
 use Rattle.std.proofs.lemmas.List.{get_or_default}
 use Rattle.std.proofs.lemmas.List.Sorted.{IsPermutation-keeps, sorted_far}
 use Rattle.order.specs.Run.{Rearranged}
-use Rattle.order.proofs.Runs.{swapped, unmoved, moved_on, swap-moves, not-both, not_on}
+use Rattle.order.specs.scaffold.Heap.{swapped}
+use Rattle.order.proofs.Runs.{unmoved, moved_on, swap-moves, not-both, not_on}
 use Rattle.order.specs.Order.{is_less, or_else, compare}
 use Rattle.order.specs.scaffold.Total.{Total}
 use Rattle.order.proofs.Orders.{both-total, numbers-total}
@@ -36,7 +37,7 @@ then-told Greater p = refl
 pub both-told : (s : List ℕ) (x y : ℕ) (o p r : Ordering) → told o ≡ compare_names (name_at s (x / 256)) (name_at s (y / 256)) → p ≡ nat_cmp x y → r ≡ ordering_then o p → told r ≡ key_order s x y
 both-told s x y o p r e f g = ap told g ∙ then-told o p ∙ ap₂ or_else e (told_compare x y p f)
 
-less-told : (o : Ordering) → is_lt o ≡ is_less (told o)
+pub less-told : (o : Ordering) → is_lt o ≡ is_less (told o)
 less-told Less = refl
 less-told Equal = refl
 less-told Greater = refl

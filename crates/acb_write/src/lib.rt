@@ -63,7 +63,8 @@ fn put_bytes(out: &mut [u8], at: usize, numbers: &[u32])
     }
 }
 
-// A record of n components from `at`; it answers the next place.
+// A record of n components from `at`; it answers the next place. Three or four are a part of known length each, which
+// the compiler stores without a loop.
 fn put_colour(out: &mut [u8], at: usize, text: &[u8], given: Record, n: usize) -> usize
     requires { RecordFits text.now n (told_record given) at (length out.old) }
     ensures { (result ≡ at + size_within n (told_record given)) × (out.new ≡ sets out.old at (colour_bytes (colour_in text.now n (told_record given)))) }
@@ -72,8 +73,12 @@ fn put_colour(out: &mut [u8], at: usize, text: &[u8], given: Record, n: usize) -
     let components = given.components;
     let p = put_string(out, at, text, given.name);
     put_bytes(out, p, &code);
-    put_bytes(out, p + 6, &components[..n]);
-    p + 6 + n
+    if n == 3 {
+        put_bytes(out, p + 6, &components[..3]);
+        return p + 9;
+    }
+    put_bytes(out, p + 6, &components);
+    p + 10
 }
 
 // The count records of n components from `at`; it answers the next place.

@@ -5,7 +5,7 @@ use Prim.Native.Nat.{ℕ, zero, suc, ◌+◌, ◌*◌, ◌-◌, ◌≤◌, ◌<�
 use mathlib.Core.Path.{◌≡◌, refl, sym, ap, ap₂, ◌∙◌, subst}
 use mathlib.Core.List.{List, [], ◌∷◌}
 use lib.Dec.{leb, ltb}
-use lib.ListN.{length, get_or, drop}
+use lib.ListN.{length, get_or, drop, take}
 use borrow.Author.Tests.{eq-eqb, ne_eqb, le-leb, lt-leb, leb-true, lt-ltb}
 use native.Mathlib.Omega.{arith}
 use native.Mathlib.Nat.{add-zero, lt_of_not-le}
@@ -25,7 +25,8 @@ use Rattle.algebra.specs.Table.{rows}
 use Rattle.acb.specs.Row.{RecordRow, width, taken}
 use Rattle.acb_write_judge.specs.Parts.{record_in}
 use Rattle.acb_write_judge.specs.scaffold.Parts.{given_at, start, RecordFits, RecordsFit, told_fault}
-use Rattle.std.specs.Prelude.{Result}
+use mathlib.Core.Bool.{true}
+use Rattle.std.specs.Prelude.{Result, Ok, Err, is_ok}
 use Rattle.std.specs.Result.{IsErrAnd}
 use Rattle.std.proofs.lemmas.Result.{err_from_is_err_and}
 use Rattle.fault.specs.Fault.{number_of}
@@ -84,6 +85,15 @@ module _ (l : List ℕ) (i : ℕ) (e : faults byte_fault l ≡ faults byte_fault
   pub bytes-end : length l ≤ i → 0 ≡ faults byte_fault l
   unfolding faults
   bytes-end h = sym (e ∙ ap (faults byte_fault) (drop_all i l h))
+
+-- the first n of numbers that are all bytes
+pub bytes-first : (n : ℕ) (l : List ℕ) → 0 ≡ faults byte_fault l → 0 ≡ faults byte_fault (take n l)
+unfolding faults
+bytes-first zero l e = refl
+bytes-first (suc n) [] e = refl
+bytes-first (suc n) (x ∷ l) e =
+    let f = first-inv (byte_fault x) (faults byte_fault l) (sym e) in
+    pass 0 (byte_fault x) (faults byte_fault (take n l)) 0 (sym f.0) refl (bytes-first n l (sym f.1))
 
 -- ---- a string
 
@@ -236,3 +246,8 @@ some fault.NoCounterpart e = omega arith
 
 pub fault-here : {A : Type 0} (g : A → ℕ) (a : A) (l : List A) (r : Result Unit Fault) (f : Fault) → IsErrAnd r (λ y. y ≡ f) → number_of f ≡ g a → told_fault r ≡ faults g (a ∷ l)
 fault-here g a l r f h e = fault-exit r f h (found_here g a l (number_of f) e (some f))
+
+-- no fault, where the judgement says so
+pub told-fine : (r : Result Unit Fault) → true ≡ is_ok r → told_fault r ≡ 0
+told-fine (Ok u) e = refl
+told-fine (Err f) e = let z : ◌≡◌ {A = ℕ} 0 1 = cc in absurd (omega arith)

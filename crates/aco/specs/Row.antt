@@ -32,6 +32,10 @@ taken xs = record {
   ink = get_or xs 7 0;
 }
 
+-- the record where there is none: all zeros
+abbrev pub empty_record : RecordRow
+empty_record = record { space = 0; samples = 0 ∷ 0 ∷ 0 ∷ 0 ∷ []; first = 0; units = 0; ink = 0 }
+
 -- a colour and its name; a file does not state the ink
 abbrev pub named_with : Colour → ℕ → ℕ → RecordRow
 named_with c p u = record { space = c.space; samples = c.samples; first = p; units = u; ink = ink_number NotStated }

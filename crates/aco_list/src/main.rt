@@ -13,7 +13,7 @@ ghost use Rattle.walk.specs.scaffold.Walk.{given};
 
 use aco_judge::{Counts, Rejection};
 use colour::Colour;
-use fault::{Fault, Refusal};
+use fault::Fault;
 use listing::{finish, put, put_name, put_number, put_refusal, put_text, put_word, take_input};
 use walk::name_part;
 
@@ -78,7 +78,7 @@ fn put_listing(out: &mut [u8], file: &[u8]) -> usize
     ensures { (out.new, result) ≡ put_all (out.old, 0) (taken 65536 file.now (listing (aco file.now))) }
 {
     if TAKEN < file.len() {
-        return put_refusal(out, Refusal(Fault::TooLong, 0));
+        return put_refusal(out, Fault::TooLong.number(), 0);
     }
     match aco_judge::judge(file) {
         Ok(counts) => {
@@ -86,14 +86,14 @@ fn put_listing(out: &mut [u8], file: &[u8]) -> usize
             let end = put_colours(out, head, file, counts.colours);
             put_text(out, end, b"end\n")
         }
-        Err(Rejection::Refused(refused)) => put_refusal(out, refused),
+        Err(Rejection::Refused(refused)) => put_refusal(out, refused.0.number(), refused.1),
         Err(
             Rejection::Differ {
                 place,
                 record: _,
                 field: _,
             },
-        ) => put_refusal(out, Refusal(Fault::ListsDiffer, place)),
+        ) => put_refusal(out, Fault::ListsDiffer.number(), place),
     }
 }
 

@@ -2,11 +2,14 @@
 use Prim.Native.Nat.{ℕ, zero, suc, ◌+◌, ◌*◌, ◌-◌, ◌≤◌, ◌<◌}
 use mathlib.Core.Path.{◌≡◌, refl, sym, ap, ap₂, ◌∙◌, subst}
 use mathlib.Core.List.{List, [], ◌∷◌}
+use mathlib.Core.Bool.{Bool, false}
+use lib.Dec.{leb}
 use lib.ListN.{length, get_or}
+use borrow.Author.Tests.{le-leb}
 use native.Mathlib.Omega.{arith}
 use native.Mathlib.Numerals.{add-one}
 use Rattle.algebra.specs.Numbers.{num, nums}
-use Rattle.algebra.specs.Reader.{field, or_zero, limit}
+use Rattle.algebra.specs.Reader.{pick, field, or_zero, limit}
 use Rattle.algebra.specs.Filling.{Accepted}
 use Rattle.algebra.proofs.Laws.{field_in}
 use Rattle.algebra.proofs.Table.{records-are}
@@ -18,7 +21,7 @@ use Rattle.aco.specs.Row.{named_with, given_of}
 use Rattle.aco.proofs.Inverse.{aco-inv}
 use Rattle.aco.proofs.RoundTrip.{records-count, one_list, one-record, Placed, records-place}
 use Rattle.aco_judge.specs.Answer.{report}
-use Rattle.aco_read.specs.Table.{records, records_of}
+use Rattle.aco_read.specs.Table.{records, records_of, colour_or_zero}
 
 -- ---- a number and a colour as they are loaded
 
@@ -33,6 +36,13 @@ five s at x a b c d ex ea eb ec ed =
     let p6 : at + 6 ≡ at + 2 + 2 + 2 = omega arith in
     let p8 : at + 8 ≡ at + 2 + 2 + 2 + 2 = omega arith in
     rw (ex, ea, eb ∙ ap (num 2 s) p4, ec ∙ ap (num 2 s) p6, ed ∙ ap (num 2 s) p8)
+
+-- a colour that is there, and one that is not
+pub colour_there : (s : List ℕ) (at : ℕ) → at + 10 ≤ length s → raw_colour s at ≡ colour_or_zero s at
+colour_there s at h = ap (λ (b : Bool). pick b (raw_colour s at) zero_colour) (sym (le-leb _ _ h))
+
+pub zero_there : (s : List ℕ) (at : ℕ) → leb (at + 10) (length s) ≡ false → zero_colour ≡ colour_or_zero s at
+zero_there s at h = ap (λ (b : Bool). pick b (raw_colour s at) zero_colour) (sym h)
 
 -- ---- the records of an accepted file
 

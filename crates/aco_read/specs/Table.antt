@@ -1,6 +1,7 @@
 -- A file's records in a table, and a record by its number.
-use Rattle.std.specs.Prelude.{ℕ, ◌*◌, List, []}
-use Rattle.algebra.specs.Reader.{Res}
+use Rattle.std.specs.Prelude.{ℕ, ◌+◌, ◌*◌, List, [], leb, length}
+use Rattle.algebra.specs.Numbers.{num, nums}
+use Rattle.algebra.specs.Reader.{Res, pick}
 use Rattle.algebra.specs.Store.{part}
 use Rattle.algebra.specs.Table.{Verdict, accepted, refused, seen}
 use Rattle.algebra.specs.Table as table
@@ -34,3 +35,7 @@ name_bytes_in s (refused x p r f) = []
 -- the records of a file that is accepted, else none
 abbrev pub records_of : Res Contents → List Entry
 records_of m = records_in records m
+
+-- the colour in the ten bytes from a place, as it stands there; all zeros where they are not there
+abbrev pub colour_or_zero : List ℕ → ℕ → Colour
+colour_or_zero s at = pick (leb (at + 10) (length s)) (record { space = num 2 s at; samples = nums 2 4 s (at + 2) }) zero_colour

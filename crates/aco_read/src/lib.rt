@@ -1,7 +1,7 @@
 // ACO swatches: a file's records into a lent table, and a record by its number.
 #![tactic(auto)]
 
-ghost use Rattle.std.specs.Prelude.{◌≡◌, ◌+◌, ◌*◌, ◌≤◌, ◌<◌, length};
+ghost use Rattle.std.specs.Prelude.{◌≡◌, ◌+◌, ◌*◌, ◌≤◌, ◌<◌, leb, length};
 ghost use Rattle.std.proofs.lemmas.List.Edits.{sets};
 ghost use Rattle.algebra.specs.Numbers.{joined};
 ghost use Rattle.algebra.specs.Filling.{Accepted};
@@ -10,7 +10,7 @@ ghost use Rattle.aco.specs.scaffold.Raw.{raw_colour};
 ghost use Rattle.aco.specs.Places.{entry_place};
 ghost use Rattle.aco.specs.Row.{width, numbers, named_with, row};
 ghost use Rattle.aco_judge.specs.Answer.{told, report};
-ghost use Rattle.aco_read.specs.Table.{filled, record_at, by_value, name_bytes_in, records_of};
+ghost use Rattle.aco_read.specs.Table.{filled, record_at, by_value, name_bytes_in, records_of, colour_or_zero};
 ghost use Rattle.aco_read.specs.Answer.{told_record, told_swatch};
 
 use aco::WIDTH;
@@ -27,8 +27,8 @@ pub struct SwatchRecord {
     pub ink: Ink,
 }
 
-/// The colour in the ten bytes from `at`, as it stands there. A part of known length is loaded from without tests.
-pub fn colour_at(file: &[u8], at: usize) -> Colour
+// The colour in the ten bytes from `at`, which are there. A part of known length is loaded from without tests.
+fn colour_in(file: &[u8], at: usize) -> Colour
     requires { at + 10 ≤ length file.now }
     ensures { result ≡ raw_colour file.now at }
 {
@@ -43,6 +43,33 @@ pub fn colour_at(file: &[u8], at: usize) -> Colour
         space,
         samples: [a, b, c, d],
     }
+}
+
+// Whether ten bytes stand at `at`.
+fn is_there(file: &[u8], at: usize) -> bool
+    ensures { result ≡ leb (at + 10) (length file.now) }
+{
+    let n = file.len();
+    if n < 10 {
+        return false;
+    }
+    at <= n - 10
+}
+
+// The colour where there is none.
+const NO_COLOUR: Colour = Colour {
+    space: 0,
+    samples: [0; 4],
+};
+
+/// The colour in the ten bytes from `at`, as it stands there; all zeros where they are not there.
+pub fn colour_at(file: &[u8], at: usize) -> Colour
+    ensures { result ≡ colour_or_zero file.now at }
+{
+    if !is_there(file, at) {
+        return NO_COLOUR;
+    }
+    colour_in(file, at)
 }
 
 // Stores a record's numbers from `to`; a file does not state an ink. No other function stores one.
@@ -66,7 +93,7 @@ fn fill_plain(file: &[u8], n: usize, table: &mut [u32])
     ensures { table.new ≡ sets table.old 0 (joined row (records_of (aco file.now))) }
 {
     for i in 0..n {
-        put_row(table, WIDTH * i, colour_at(file, 4 + 10 * i), 0, 0);
+        put_row(table, WIDTH * i, colour_in(file, 4 + 10 * i), 0, 0);
     }
 }
 
@@ -79,7 +106,7 @@ fn fill_named(file: &[u8], n: usize, table: &mut [u32])
     let mut p = 8 + 10 * n;
     for i in 0..n {
         let count = fields::number_or_zero::<u32>(file, p + 10);
-        let colour = colour_at(file, 4 + 10 * i);
+        let colour = colour_in(file, 4 + 10 * i);
         put_row(table, WIDTH * i, colour, (p + 14) as u32, count - 1);
         p += 14 + 2 * (count as usize);
     }
@@ -119,7 +146,7 @@ fn found(file: &[u8], counts: Counts, i: usize) -> SwatchRecord
     requires { Accepted report (aco file.now) (counts.colours, counts.lists) × (i < counts.colours) }
     ensures { told_swatch result ≡ by_value (record_at i (aco file.now)) }
 {
-    let colour = colour_at(file, 4 + 10 * i);
+    let colour = colour_in(file, 4 + 10 * i);
     let ink = Ink::NotStated;
     if counts.lists == 1 {
         let name = Name { first: 0, units: 0 };

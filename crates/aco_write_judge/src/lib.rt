@@ -6,7 +6,7 @@ ghost use Rattle.algebra.specs.Reader.{pick, limit};
 ghost use Rattle.algebra.specs.Faults.{faults};
 ghost use Rattle.algebra.specs.Table.{row_at, rows, whole};
 ghost use Rattle.aco.specs.Faults.{space_fault, sample_fault};
-ghost use Rattle.aco.specs.Row.{width, taken};
+ghost use Rattle.aco.specs.Row.{width, taken, empty_record};
 ghost use Rattle.aco_writing.specs.Writing.{size, ink_fault, needed};
 ghost use Rattle.aco_write_judge.specs.scaffold.Parts.{told_record, told_fault, colour_fault, name_fault};
 ghost use Rattle.algebra.specs.Writing.{bytes, refused};
@@ -51,14 +51,33 @@ pub fn record_of(row: &[u32]) -> Record
     }
 }
 
-/// Record k of a run that has it.
-pub fn record_at(run: &[u32], k: usize) -> Record
+// Record k of a run that has it.
+fn whole_at(run: &[u32], k: usize) -> Record
     requires { width * k + width ≤ length run.now }
     ensures { told_record result ≡ taken (row_at width run.now k) }
 {
     let start = WIDTH * k;
     let end = start + WIDTH;
     record_of(&run[start..end])
+}
+
+// What a run gives for a record that it does not have whole.
+const NO_RECORD: Record = Record {
+    space: 0,
+    samples: [0; 4],
+    first: 0,
+    units: 0,
+    ink: 0,
+};
+
+/// Record k of a run, all zeros where the run does not have it whole.
+pub fn record_at(run: &[u32], k: usize) -> Record
+    ensures { told_record result ≡ get_or (whole width taken run.now) k empty_record }
+{
+    if run.len() / WIDTH <= k {
+        return NO_RECORD;
+    }
+    whole_at(run, k)
 }
 
 // ---- judging
@@ -144,7 +163,7 @@ fn judge_colours(run: &[u32], n: usize) -> Result<(), Fault>
     ensures { told_fault result ≡ faults colour_fault (rows width taken run.now n 0) }
 {
     for i in 0..n {
-        judge_colour(record_at(run, i))?;
+        judge_colour(whole_at(run, i))?;
     }
     Ok(())
 }
@@ -165,7 +184,7 @@ fn judge_names(run: &[u32], text: &[u8], n: usize) -> Result<(), Fault>
     ensures { told_fault result ≡ faults (name_fault text.now) (rows width taken run.now n 0) }
 {
     for i in 0..n {
-        judge_name(text, record_at(run, i))?;
+        judge_name(text, whole_at(run, i))?;
     }
     Ok(())
 }
@@ -186,7 +205,7 @@ fn judge_inks(run: &[u32], n: usize) -> Result<(), Fault>
     ensures { told_fault result ≡ faults ink_fault (rows width taken run.now n 0) }
 {
     for i in 0..n {
-        judge_ink(record_at(run, i))?;
+        judge_ink(whole_at(run, i))?;
     }
     Ok(())
 }
@@ -198,7 +217,7 @@ fn size_of(run: &[u32], n: usize) -> Result<usize, Fault>
 {
     let mut total: usize = 8;
     for i in 0..n {
-        let given = record_at(run, i);
+        let given = whole_at(run, i);
         total += 26 + 2 * (given.units as usize);
         if aco::LIMIT < total {
             return Err(Fault::TooLong);

@@ -110,7 +110,7 @@ fn put_listing(out: &mut [u8], file: &[u8]) -> usize
     ensures { (out.new, result) ≡ put_all (out.old, 0) (taken 65536 file.now (listing file.now (ase file.now))) }
 {
     if TAKEN < file.len() {
-        return put_refusal(out, Refusal(Fault::TooLong, 0));
+        return put_refusal(out, Fault::TooLong.number(), 0);
     }
     match ase_judge::judge(file) {
         Ok(counts) => {
@@ -120,7 +120,7 @@ fn put_listing(out: &mut [u8], file: &[u8]) -> usize
             at = put_blocks(out, at, file, counts.blocks);
             put_text(out, at, b"end\n")
         }
-        Err(refusal) => put_refusal(out, refusal),
+        Err(refused) => put_refusal(out, refused.0.number(), refused.1),
     }
 }
 

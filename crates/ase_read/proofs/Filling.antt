@@ -1,5 +1,5 @@
 -- Filling a table with the records of an accepted file, on plain values. Assumes nothing.
-use Prim.Native.Nat.{ℕ, zero, suc, ◌+◌, ◌*◌, ◌-◌, ◌≤◌, ◌<◌}
+use Prim.Native.Nat.{ℕ, zero, suc, ◌+◌, ◌*◌, ◌-◌, ◌^◌, ◌≤◌, ◌<◌, min}
 use mathlib.Core.Path.{◌≡◌, refl, sym, ap, ap₂, ◌∙◌, subst}
 use mathlib.Core.List.{List, [], ◌∷◌}
 use lib.ListN.{length, get_or, take}
@@ -27,6 +27,12 @@ pub numbers-loaded : (u : List ℕ) (p kind count place units tag a b c d last :
 numbers-loaded u p kind count place units tag a b c d last ek en ep eu et ea eb ec ed el =
     let four : (k v : ℕ) → v ≡ load 4 u (p + 8 + 2 * count + k) → v ≡ load 4 u (model_at u p + k) = λ k v e. e ∙ ap (λ (n : ℕ). load 4 u (p + 8 + 2 * n + k)) en in
     same ek (ep ∙ ap (λ (n : ℕ). pick (eqb n 0) 0 (p + 8)) en) (eu ∙ ap (λ (n : ℕ). n - 1) en) (et ∙ ap (λ (n : ℕ). load 4 u (p + 8 + 2 * n)) en) (four 4 a ea) (four 8 b eb) (four 12 c ec) (four 16 d ed) el
+
+-- the place of a name that the largest number does not cut
+pub placed : (p count place : ℕ) → p + 8 < 2 ^ 64 → place ≡ pick (eqb count 0) 0 (min (p + 8) (2 ^ 64 - 1)) → place ≡ pick (eqb count 0) 0 (p + 8)
+placed p count place h e =
+    let m : min (p + 8) (2 ^ 64 - 1) ≡ p + 8 = omega arith in
+    e ∙ ap (λ (n : ℕ). pick (eqb count 0) 0 n) m
 
 -- ---- places of blocks
 

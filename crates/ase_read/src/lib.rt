@@ -1,7 +1,7 @@
 // ASE palettes: a file's records into a lent table, and a record by its number.
 #![tactic(auto)]
 
-ghost use Rattle.std.specs.Prelude.{◌≡◌, ◌∷◌, [], ◌+◌, ◌-◌, ◌*◌, ◌^◌, ◌≤◌, ◌<◌, eqb, leb, length};
+ghost use Rattle.std.specs.Prelude.{◌≡◌, ◌∷◌, [], ◌+◌, ◌-◌, ◌*◌, ◌^◌, ◌≤◌, ◌<◌, min, eqb, leb, length};
 ghost use Rattle.std.proofs.lemmas.List.Edits.{sets};
 ghost use Rattle.algebra.specs.Numbers.{joined};
 ghost use Rattle.algebra.specs.Reader.{pick, limit};
@@ -56,15 +56,14 @@ fn block_end(file: &[u8], at: usize) -> usize
 }
 
 /// The place of the name of the block at `at`, by the count of its units; 0 where the block has no
-/// name.
+/// name, and the largest number where the name's place is past that.
 pub fn name_place(count: u16, at: usize) -> usize
-    requires { at + 8 < 2 ^ 64 }
-    ensures { (result ≡ pick (eqb count 0) 0 (at + 8)) × (result ≤ at + 8) }
+    ensures { (result ≡ pick (eqb count 0) 0 (min (at + 8) (2 ^ 64 - 1))) × (result ≤ at + 8) }
 {
     if count == 0 {
         return 0;
     }
-    at + 8
+    at.saturating_add(8)
 }
 
 // The block from `at` to the end of `part`: what a shorter payload does not have is 0.

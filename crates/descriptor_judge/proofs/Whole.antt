@@ -9,12 +9,10 @@ use borrow.Author.Tests.{le-leb, lt-leb}
 use Rattle.std.specs.Prelude.{Result, Err}
 use Rattle.std.specs.Result.{IsErrAnd}
 use Rattle.std.proofs.lemmas.Result.{err_from_is_err_and}
-use Rattle.fault.specs.Fault.{number_of}
-use Rattle.fault.specs.declared.Refusal.{Refusal}
 use Rattle.algebra.specs.Reader.{Res, ok, refuse, then, pick, ended, limit}
 use Rattle.descriptor.specs.Reading.{Row, root, whole, descriptor}
 use Rattle.descriptor_judge.specs.scaffold.Counting.{walked}
-use Rattle.descriptor_judge.specs.Answer.{Verdict, accepted, refused, verdict, told}
+use Rattle.descriptor_judge.specs.Answer.{accepted, refused, verdict}
 use Rattle.descriptor_judge.specs.scaffold.Answer.{closing}
 
 -- what is said of a refusal that a `?` hands on

@@ -4,14 +4,15 @@
 // fall, and count rows. Siblings are read in loops, so that the stack grows with the nesting alone,
 // and that stops at 32.
 //
-// In the cycle only `list` is called at several places; `object`, which only hands on to it, counts
-// for nothing. The compiler then makes one function of all, and a member without members costs no
-// call.
+// In the cycle only `list` is called at several places; `unkeyed` and `object`, which only hand on to
+// it, count for nothing. The compiler then makes one function of all, and a member without members
+// costs no call. An answer through memory needs a cleared place in the caller's frame: `item` itself
+// asks for none, and whatever hands on asks for its own, so that such a member clears none either.
 #![tactic(auto)]
 
 ghost use Rattle.std.specs.Prelude.{◌≡◌, ◌≤◌, ◌<◌, length};
 ghost use Rattle.fault.specs.Answer.{told_end};
-ghost use Rattle.descriptor.specs.Reading.{id, class, children, ref_item, reference_of, array_pair, array_of, item, object_of, root, descriptor};
+ghost use Rattle.descriptor.specs.Reading.{id, class, children, ref_item, reference_of, array_pair, array_of, item, list_of, object_of, root, descriptor};
 ghost use Rattle.descriptor_judge.specs.Answer.{verdict, told};
 ghost use Rattle.descriptor_judge.specs.scaffold.Cycle.{optional, member_of, holder_of, held_of};
 ghost use Rattle.descriptor_judge.specs.scaffold.Counting.{told_rows, told_row, walked, own_too, Small, Within};
@@ -112,6 +113,21 @@ fn held(file: &[u8], columns: bool, left: usize, at: usize) -> Result<(usize, us
     reference(file, left, at)
 }
 
+// A reference; and an object array. Each is called at one place.
+fn referred(file: &[u8], left: usize, at: usize) -> Result<(usize, usize), Refusal>
+    requires { Within file.now left at at }
+    ensures { told_rows result ≡ walked (reference_of left 0 file.now at) }
+{
+    held(file, false, left, at)
+}
+
+fn columns(file: &[u8], left: usize, at: usize) -> Result<(usize, usize), Refusal>
+    requires { Within file.now left at at }
+    ensures { told_rows result ≡ walked (array_of left 0 file.now at) }
+{
+    held(file, true, left, at)
+}
+
 // ---- the cycle
 
 // A class, where there is one.
@@ -150,10 +166,10 @@ fn item(file: &[u8], left: usize, first: usize, at: usize) -> Result<(usize, usi
     };
     match what {
         Value::Ends(end) => Ok((1, end)),
-        Value::List => with_own(list(file, false, left - 1, value)),
+        Value::List => with_own(unkeyed(file, left - 1, value)),
         Value::Object => with_own(object(file, left - 1, value)),
-        Value::Reference => with_own(held(file, false, left - 1, value)),
-        Value::Array => with_own(held(file, true, left - 1, value)),
+        Value::Reference => with_own(referred(file, left - 1, value)),
+        Value::Array => with_own(columns(file, left - 1, value)),
     }
 }
 
@@ -173,6 +189,15 @@ fn list(file: &[u8], keyed: bool, left: usize, at: usize) -> Result<(usize, usiz
         next = end;
     }
     Ok((rows, next))
+}
+
+// A list, from its count on.
+#[cycle(item_list_object_pair)]
+fn unkeyed(file: &[u8], left: usize, at: usize) -> Result<(usize, usize), Refusal>
+    requires { Within file.now left at at }
+    ensures { told_rows result ≡ walked (list_of (item left) 0 file.now at) }
+{
+    list(file, false, left, at)
 }
 
 // An object, from its class on.

@@ -10,7 +10,7 @@ ghost use Rattle.descriptor_list.specs.scaffold.Held.{Given, Held};
 ghost use Rattle.descriptor_list.specs.Listing.{heading, line, listing};
 ghost use Rattle.descriptor_list.specs.Listing.{kind as Listing·kind};
 
-use fault::{Fault, Refusal};
+use fault::Fault;
 use listing::{finish, put, put_number, put_refusal, put_text, put_word, take_input};
 
 // The longest input that is listed.
@@ -110,7 +110,7 @@ fn put_listing(out: &mut [u8], file: &[u8]) -> usize
     ensures { (out.new, result) ≡ put_all (out.old, 0) (taken 16384 file.now (listing (descriptor file.now))) }
 {
     if TAKEN < file.len() {
-        return put_refusal(out, Refusal(Fault::TooLong, 0));
+        return put_refusal(out, Fault::TooLong.number(), 0);
     }
     let mut first = [0u32; 3276];
     let mut size = [0u32; 3276];
@@ -120,7 +120,7 @@ fn put_listing(out: &mut [u8], file: &[u8]) -> usize
     match descriptor_columns::read(
         file, &mut first, &mut size, &mut next, &mut depth, &mut kind,
     ) {
-        Err(refusal) => put_refusal(out, refusal),
+        Err(refused) => put_refusal(out, refused.0.number(), refused.1),
         Ok(rows) => put_accepted(out, &first, &size, &depth, &kind, rows),
     }
 }

@@ -1,1 +1,1 @@
--- Numbers and stores are said in algebra and fault.
+pub mod Answer

@@ -7,5 +7,5 @@
 mod number;
 mod store;
 
-pub use number::{Number, number_at, number_is, number_or_zero, run_at};
+pub use number::{Number, number_at, number_is, number_or_zero, run_at, u16_is};
 pub use store::{Stored, put_name, put_number, put_run};

@@ -1,10 +1,11 @@
 // Big-endian numbers and runs of bytes at a place of a file.
-ghost use Rattle.std.specs.Prelude.{◌≡◌, ◌+◌, ◌*◌, ◌/◌, ◌%◌, ◌≤◌, ◌<◌, ℕ, eqb, length};
+ghost use Rattle.std.specs.Prelude.{◌≡◌, ◌+◌, ◌*◌, ◌/◌, ◌%◌, ◌≤◌, ◌<◌, ℕ, eqb, leb, length};
 ghost use Rattle.std.proofs.Common.{rules};
 ghost use Rattle.algebra.specs.Numbers.{num};
 ghost use Rattle.algebra.specs.Reader.{field, body, done, judged, or_zero, unless};
 ghost use Rattle.fault.specs.Fault.{number_of};
 ghost use Rattle.fault.specs.Answer.{told_at, told_end};
+ghost use Rattle.fields.specs.Answer.{told_numbered};
 
 use fault::{Fault, Refusal};
 
@@ -21,16 +22,25 @@ pub trait Number: Copy {
 
     const ZERO: Self;
 
-    // The number whose first byte stands at `at`.
+    // The number whose first byte stands at `at`, or zero where fewer bytes remain.
     fn load(s: &[u8], at: usize) -> Self
-        requires { at + WIDTH ≤ length s.now }
-        ensures { value result ≡ num WIDTH s.now at };
+        ensures { value result ≡ or_zero (field WIDTH s.now at) };
 
     ghost zero_is: { value ZERO ≡ 0 };
 
     ghost at_least: { 0 < WIDTH };
 
     ghost at_most: { WIDTH ≤ 8 };
+}
+
+// Whether k bytes stand at `at`, of n.
+pub(crate) fn has_bytes(n: usize, at: usize, k: usize) -> bool
+    ensures { result ≡ leb (at + k) n }
+{
+    if n < k {
+        return false;
+    }
+    at <= n - k
 }
 
 // Two bytes with the low one first: the load that compilers join with its neighbours, where a
@@ -42,6 +52,37 @@ fn swapped(s: &[u8], at: usize) -> u16
     let a = u16::from(s[at]);
     let b = u16::from(s[at + 1]);
     a + 256 * b
+}
+
+// A number of 16 bits that is there.
+fn u16_in(s: &[u8], at: usize) -> u16
+    requires { at + 2 ≤ length s.now }
+    ensures { result ≡ num 2 s.now at }
+{
+    let x = swapped(s, at);
+    256 * (x % 256) + x / 256
+}
+
+// A number of 32 bits that is there.
+fn u32_in(s: &[u8], at: usize) -> u32
+    requires { at + 4 ≤ length s.now }
+    ensures { result ≡ num 4 s.now at }
+{
+    let a = u32::from(s[at]);
+    let b = u32::from(s[at + 1]);
+    let c = u32::from(s[at + 2]);
+    let d = u32::from(s[at + 3]);
+    ((a * 256 + b) * 256 + c) * 256 + d
+}
+
+// A number of 64 bits that is there: its two halves.
+fn u64_in(s: &[u8], at: usize) -> u64
+    requires { at + 8 ≤ length s.now }
+    ensures { result ≡ num 8 s.now at }
+{
+    let high = u64::from(u32_in(s, at));
+    let low = u64::from(u32_in(s, at + 4));
+    high * 4294967296 + low
 }
 
 impl Number for u8 {
@@ -62,6 +103,9 @@ impl Number for u8 {
     const ZERO: u8 = 0;
 
     fn load(s: &[u8], at: usize) -> u8 {
+        if !has_bytes(s.len(), at, 1) {
+            return 0;
+        }
         s[at]
     }
 }
@@ -84,8 +128,10 @@ impl Number for u16 {
     const ZERO: u16 = 0;
 
     fn load(s: &[u8], at: usize) -> u16 {
-        let x = swapped(s, at);
-        256 * (x % 256) + x / 256
+        if !has_bytes(s.len(), at, 2) {
+            return 0;
+        }
+        u16_in(s, at)
     }
 }
 
@@ -107,11 +153,10 @@ impl Number for u32 {
     const ZERO: u32 = 0;
 
     fn load(s: &[u8], at: usize) -> u32 {
-        let a = u32::from(s[at]);
-        let b = u32::from(s[at + 1]);
-        let c = u32::from(s[at + 2]);
-        let d = u32::from(s[at + 3]);
-        ((a * 256 + b) * 256 + c) * 256 + d
+        if !has_bytes(s.len(), at, 4) {
+            return 0;
+        }
+        u32_in(s, at)
     }
 }
 
@@ -132,11 +177,11 @@ impl Number for u64 {
 
     const ZERO: u64 = 0;
 
-    // Its two halves.
     fn load(s: &[u8], at: usize) -> u64 {
-        let high = u64::from(<u32 as Number>::load(s, at));
-        let low = u64::from(<u32 as Number>::load(s, at + 4));
-        high * 4294967296 + low
+        if !has_bytes(s.len(), at, 8) {
+            return 0;
+        }
+        u64_in(s, at)
     }
 }
 
@@ -191,4 +236,19 @@ pub fn number_is(s: &[u8], at: usize, want: u16, fault: Fault) -> Result<usize, 
         return Err(Refusal(fault, at));
     }
     Ok(next)
+}
+
+/// The same, where another number there is refused by a number of the caller's own, any at all.
+pub fn u16_is(s: &[u8], at: usize, want: u16, number: u32) -> Result<usize, (u32, usize)>
+    ensures { told_numbered result ≡ done (judged 2 (λ v. unless (eqb v want) number) s.now at) }
+{
+    match number_at::<u16>(s, at) {
+        Ok((v, next)) => {
+            if v != want {
+                return Err((number, at));
+            }
+            Ok(next)
+        }
+        Err(Refusal(fault, place)) => Err((fault.number(), place)),
+    }
 }

@@ -4,17 +4,20 @@ ghost use Rattle.algebra.specs.Numbers.{be};
 ghost use Rattle.algebra.specs.Text.{counted_units};
 ghost use Rattle.algebra.specs.Store.{stored};
 
-use crate::number::Number;
+use crate::number::{Number, has_bytes};
 
 /// A number that is stored, its highest byte first.
 pub trait Stored: Number {
+    // Its bytes from `at`, or nothing where they have no room.
     fn store(self, out: &mut [u8], at: usize)
-        requires { at + Self.WIDTH ≤ length out.old }
         ensures { out.new ≡ stored out.old at (be Self.WIDTH (Self.value self)) };
 }
 
 impl Stored for u16 {
     fn store(self, out: &mut [u8], at: usize) {
+        if !has_bytes(out.len(), at, 2) {
+            return;
+        }
         out[at] = (self / 256 % 256) as u8;
         out[at + 1] = (self % 256) as u8;
     }
@@ -22,6 +25,9 @@ impl Stored for u16 {
 
 impl Stored for u32 {
     fn store(self, out: &mut [u8], at: usize) {
+        if !has_bytes(out.len(), at, 4) {
+            return;
+        }
         out[at] = (self / 256 / 256 / 256 % 256) as u8;
         out[at + 1] = (self / 256 / 256 % 256) as u8;
         out[at + 2] = (self / 256 % 256) as u8;
@@ -32,14 +38,6 @@ impl Stored for u32 {
 pub fn put_number<N: Stored>(out: &mut [u8], at: usize, v: N)
     ensures { out.new ≡ stored out.old at (be N.WIDTH (N.value v)) }
 {
-    let n = out.len();
-    let width = N::WIDTH;
-    if n < width {
-        return;
-    }
-    if n - width < at {
-        return;
-    }
     v.store(out, at);
 }
 

@@ -1,11 +1,11 @@
 // A season's report, for C.
 ghost use Rattle.std.specs.Prelude.{◌≡◌};
-ghost use Rattle.report.specs.Answer.{told_added, told_merged};
+ghost use Rattle.report.specs.Answer.{told_answer, told_added, told_merged};
 ghost use Rattle.report.specs.Report.{merged};
 ghost use Rattle.khuyurek.specs.Reports.{report_kind, reported_of, reported_by, merged_of};
 
 use fault::{Fault, Refusal};
-use report::{Added, Kind, Report};
+use report::{Added, Kind, Merged, Report};
 
 // The totals of a report, in the order of `report::Report`.
 #[repr(C)]
@@ -46,29 +46,22 @@ fn report_kind(number: u32) -> Option<Kind>
     }
 }
 
-// The number of a call that gave a report, and the report; else the one given before.
-fn merged_of(before: [u32; 31], after: Result<Report, Fault>) -> MergedReport
-    ensures { result ≡ merged_of (told_merged before after) }
+// The number of a call that hands back a report.
+fn answer_number(answer: Result<(), Fault>) -> u32
+    ensures { result ≡ told_answer answer }
 {
-    match after {
-        Ok(report) => {
-            let totals = report.totals;
-            MergedReport {
-                number: 0,
-                report: SeasonReport { totals },
-            }
-        }
-        Err(fault) => MergedReport {
-            number: fault.number(),
-            report: SeasonReport { totals: before },
-        },
+    match answer {
+        Ok(()) => 0,
+        Err(fault) => fault.number(),
     }
 }
 
-fn exported_report(before: [u32; 31], a: Added) -> Reported
-    ensures { result ≡ reported_of (told_added before a) }
+fn exported_report(a: Added) -> Reported
+    ensures { result ≡ reported_of (told_added a) }
 {
-    let MergedReport { number, report } = merged_of(before, a.report);
+    let number = answer_number(a.answer);
+    let totals = a.report.totals;
+    let report = SeasonReport { totals };
     match a.file {
         Ok(()) => Reported {
             number,
@@ -99,8 +92,19 @@ pub extern "C" fn khuyurek_report_add(report: SeasonReport, kind: u32, file: &[u
         },
         Some(known) => {
             let totals = report.totals;
-            exported_report(totals, report::add(Report { totals }, known, file))
+            exported_report(report::add(Report { totals }, known, file))
         }
+    }
+}
+
+fn exported_merge(m: Merged) -> MergedReport
+    ensures { result ≡ merged_of (told_merged m) }
+{
+    let number = answer_number(m.answer);
+    let totals = m.report.totals;
+    MergedReport {
+        number,
+        report: SeasonReport { totals },
     }
 }
 
@@ -111,8 +115,5 @@ pub extern "C" fn khuyurek_report_merge(first: SeasonReport, second: SeasonRepor
 {
     let one = first.totals;
     let other = second.totals;
-    merged_of(
-        one,
-        report::merge(Report { totals: one }, Report { totals: other }),
-    )
+    exported_merge(report::merge(Report { totals: one }, Report { totals: other }))
 }

@@ -7,11 +7,8 @@ ghost use Rattle.std.specs.Prelude.{◌≡◌, ◌%◌, leb, length};
 ghost use Rattle.io.specs.Counts.{IsPrefixLen};
 ghost use Rattle.algebra.specs.Numbers.{joined};
 ghost use Rattle.algebra.specs.Reader.{pick};
-ghost use Rattle.fault.specs.Fault.{number_of};
 ghost use Rattle.listing.specs.Buffer.{put_byte, put_all};
 ghost use Rattle.listing.specs.Text.{decimal, word, digit, hex, name, bits, refusal};
-
-use fault::Refusal;
 
 // The numbers that every process has its standard input and output by.
 const STDIN_FILENO: i32 = 0;
@@ -103,13 +100,13 @@ pub fn put_bits(out: &mut [u8], n: usize, v: u32) -> usize
 }
 
 /// The line of a refused file, in a buffer of which nothing is full.
-pub fn put_refusal(out: &mut [u8], refused: Refusal) -> usize
-    ensures { (out.new, result) ≡ put_all (out.old, 0) (refusal (number_of refused.0) refused.1) }
+pub fn put_refusal(out: &mut [u8], number: u32, place: usize) -> usize
+    ensures { (out.new, result) ≡ put_all (out.old, 0) (refusal number place) }
 {
     let mut at = put_text(out, 0, b"refused");
-    at = put_word(out, at, u64::from(refused.0.number()));
+    at = put_word(out, at, u64::from(number));
     at = put_text(out, at, b" at");
-    at = put_word(out, at, refused.1 as u64);
+    at = put_word(out, at, place as u64);
     put(out, at, b'\n')
 }
 

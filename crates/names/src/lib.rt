@@ -1,8 +1,8 @@
 // Names: counted text units with a closing zero.
 #![tactic(auto)]
 
-ghost use Rattle.std.specs.Prelude.{◌≡◌, ◌+◌, ◌*◌, ◌<◌, ◌≤◌, true, false, length};
-ghost use Rattle.algebra.specs.Numbers.{nums};
+ghost use Rattle.std.specs.Prelude.{◌≡◌, ◌+◌, ◌*◌, ◌/◌, ◌%◌, ◌<◌, ◌≤◌, true, false, length};
+ghost use Rattle.algebra.specs.Numbers.{num, nums};
 ghost use Rattle.algebra.specs.Reader.{done};
 ghost use Rattle.algebra.specs.Text.{any_zero, closed, text, closed_units, name, place};
 ghost use Rattle.algebra.specs.Lanes.{lanes, any_high_bit};
@@ -35,6 +35,16 @@ impl Count for u32 {
     fn count(self) -> u32 {
         self
     }
+}
+
+// The unit at `at` with its bytes swapped.
+fn swapped(s: &[u8], at: usize) -> u16
+    requires { at + 2 ≤ length s.now }
+    ensures { 256 * (result % 256) + result / 256 ≡ num 2 s.now at }
+{
+    let a = u16::from(s[at]);
+    let b = u16::from(s[at + 1]);
+    a + 256 * b
 }
 
 // Four units from `at` in one word, each with its bytes swapped. Joined by `|` and shifts the eight
@@ -74,14 +84,14 @@ fn any_in_fours(s: &[u8], at: usize, k: usize) -> bool
     found & 0x8000_8000_8000_8000 != 0
 }
 
-// Whether one of n units from `at` is zero, one by one.
+// Whether one of n units from `at` is zero, one by one; a unit is where it is with its bytes swapped.
 fn any_one_by_one(s: &[u8], at: usize, n: usize) -> bool
     requires { at + n * 2 ≤ length s.now }
     ensures { result ≡ any_zero (nums 2 n s.now at) }
 {
     let mut found = false;
     for i in 0..n {
-        if u16::load(s, at + 2 * i) == 0 {
+        if swapped(s, at + 2 * i) == 0 {
             found = true;
         }
     }
@@ -198,7 +208,7 @@ fn is_closed(s: &[u8], at: usize, n: usize) -> bool
         return false;
     }
     // The last unit first: in a long file what stands behind the name is then on its way.
-    if u16::load(s, at + 2 * (n - 1)) != 0 {
+    if swapped(s, at + 2 * (n - 1)) != 0 {
         return false;
     }
     !any_zero(s, at, n - 1)

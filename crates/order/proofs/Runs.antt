@@ -13,11 +13,9 @@ use Rattle.algebra.specs.Reader.{pick}
 use Rattle.order.specs.Order.{Order, less, same, greater, is_less}
 use Rattle.order.specs.scaffold.Total.{turn, Total}
 use Rattle.order.specs.Run.{Rearranged}
+use Rattle.order.specs.scaffold.Heap.{swapped}
 
 -- ---- exchanging two places
-
-abbrev pub swapped : List ℕ → ℕ → ℕ → List ℕ
-swapped xs i j = set (set xs i (get_or xs j 0)) j (get_or xs i 0)
 
 -- one number is another or not
 pub same_or : (a b : ℕ) → (a ≡ b) ⊎ (a ≡ b → ⊥)

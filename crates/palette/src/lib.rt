@@ -2,7 +2,7 @@
 // call in one form for both.
 #![tactic(auto)]
 
-ghost use Rattle.std.specs.Prelude.{◌≡◌, length};
+ghost use Rattle.std.specs.Prelude.{◌≡◌, Err, length};
 ghost use Rattle.algebra.specs.Table.{verdict};
 ghost use Rattle.aco_walk.specs.Walking.{walk};
 ghost use Rattle.aco_walk.specs.Answer.{call_and_place};
@@ -10,12 +10,13 @@ ghost use Rattle.ase_walk.specs.Walking.{walk as aseWalk};
 ghost use Rattle.ase_walk.specs.Answer.{call_and_place as aseCall};
 ghost use Rattle.palette.specs.Palette.{colours};
 ghost use Rattle.palette.specs.PaletteStep.{first_at, view_of, channel_numbers, no_numbers, colour_numbers, no_colour, aco_step, ase_step, step_of, told_numbers, told_palette_step};
-ghost use Rattle.palette.specs.Answer.{told};
+ghost use Rattle.palette.specs.Answer.{told, IsExact, Exact};
 ghost use Rattle.palette.specs.declared.Kind.TheVariants.{Aco, Ase};
 ghost use Rattle.palette.specs.declared.View.TheVariants.{Samples, Counterparts};
 
 use aco_judge::Rejection;
 use colour::{Channels, Colour};
+use fault::{Fault, Refusal};
 
 #[derive(Clone, Copy)]
 pub enum Kind {
@@ -50,21 +51,42 @@ pub struct PaletteStep {
 
 // ---- judging
 
-fn judge_aco(file: &[u8]) -> Result<usize, Rejection>
-    ensures { told result ≡ verdict length (colours Aco file.now) }
+// The same rejection, in which `Differ` alone says that lists differ.
+fn exact(rejection: Rejection) -> Rejection
+    ensures { (told (Err result) ≡ told (Err rejection)) × IsExact result }
 {
-    Ok(aco_judge::judge(file)?.colours)
+    match rejection {
+        Rejection::Refused(Refusal(Fault::ListsDiffer, place)) => Rejection::Differ {
+            place,
+            record: 0,
+            field: 0,
+        },
+        _ => rejection,
+    }
+}
+
+fn judge_aco(file: &[u8]) -> Result<usize, Rejection>
+    ensures { (told result ≡ verdict length (colours Aco file.now)) × Exact result }
+{
+    match aco_judge::judge(file) {
+        Ok(counts) => Ok(counts.colours),
+        Err(rejection) => Err(exact(rejection)),
+    }
 }
 
 fn judge_ase(file: &[u8]) -> Result<usize, Rejection>
-    ensures { told result ≡ verdict length (colours Ase file.now) }
+    ensures { (told result ≡ verdict length (colours Ase file.now)) × Exact result }
 {
-    Ok(ase_judge::judge(file)?.colours)
+    match ase_judge::judge(file) {
+        Ok(counts) => Ok(counts.colours),
+        Err(refusal) => Err(exact(Rejection::Refused(refusal))),
+    }
 }
 
-/// How many colours a whole file has, which the caller says to be of a kind.
+/// How many colours a whole file has, which the caller says to be of a kind. Where an ACO file's
+/// lists differ, `Differ` says so, in the first field too.
 pub fn judge(kind: Kind, file: &[u8]) -> Result<usize, Rejection>
-    ensures { told result ≡ verdict length (colours kind file.now) }
+    ensures { (told result ≡ verdict length (colours kind file.now)) × Exact result }
 {
     match kind {
         Kind::Aco => judge_aco(file),

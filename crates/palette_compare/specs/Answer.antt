@@ -1,5 +1,6 @@
 -- What each answer of the code says.
-use Rattle.std.specs.Prelude.{ℕ, Result, Ok, Err}
+use Rattle.std.specs.Prelude.{ℕ, ⊤, Result, Ok, Err}
+use Rattle.palette.specs.Answer.{IsExact}
 use Rattle.palette_compare.specs.Compare.{Comparison, compared, refused_by}
 use Rattle.fault.specs.Fault.{number_of}
 use Rattle.aco_judge.specs.declared.Rejection.{Rejection}
@@ -23,6 +24,16 @@ told_error error.NoRoom = refused_by 0 11 0 0 0
 abbrev pub told : Result Counted CompareError → Comparison
 told (Ok c) = compared c.positions c.differences
 told (Err e) = told_error e
+
+-- that a file's lists differ is said in one way, with record and field; so two files have one answer
+abbrev pub IsExactError : CompareError → Type 0
+IsExactError (error.First r) = IsExact r
+IsExactError (error.Second r) = IsExact r
+IsExactError error.NoRoom = ⊤
+
+abbrev pub Exact : Result Counted CompareError → Type 0
+Exact (Ok c) = ⊤
+Exact (Err e) = IsExactError e
 
 -- a position's kind, as its row has it
 abbrev pub told_kind : Difference → ℕ

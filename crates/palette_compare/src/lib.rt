@@ -9,7 +9,7 @@ ghost use Rattle.palette.specs.Palette.{colours};
 ghost use Rattle.palette.specs.PaletteStep.{told_numbers};
 ghost use Rattle.palette.specs.scaffold.Turn.{colours_in};
 ghost use Rattle.palette_compare.specs.Compare.{same_numbers, kind_by, rows, filled, comparison};
-ghost use Rattle.palette_compare.specs.Answer.{told, told_kind};
+ghost use Rattle.palette_compare.specs.Answer.{Exact, told, told_kind};
 ghost use Rattle.palette_compare.specs.scaffold.Parts.{kinds_in, kind_at, StoredTo, Positions};
 
 use aco_judge::Rejection;
@@ -175,7 +175,7 @@ fn fill_to(
     table: &mut [u32],
 ) -> Result<Comparison, CompareError>
     requires { Positions one first.now other second.now shorter longer (told_kind rest) }
-    ensures { (told result, table.new) ≡ filled (kinds_in one first.now other second.now) table.old }
+    ensures { ((told result, table.new) ≡ filled (kinds_in one first.now other second.now) table.old) × Exact result }
 {
     if table.len() / WIDTH < longer {
         return Err(CompareError::NoRoom);
@@ -199,7 +199,7 @@ fn fill(
     table: &mut [u32],
 ) -> Result<Comparison, CompareError>
     requires { Accepted length (colours one first.now) n × Accepted length (colours other second.now) m }
-    ensures { (told result, table.new) ≡ comparison (colours one first.now) (colours other second.now) table.old }
+    ensures { ((told result, table.new) ≡ comparison (colours one first.now) (colours other second.now) table.old) × Exact result }
 {
     if m < n {
         return fill_to(
@@ -233,7 +233,7 @@ pub fn compare(
     second: &[u8],
     table: &mut [u32],
 ) -> Result<Comparison, CompareError>
-    ensures { (told result, table.new) ≡ comparison (colours one first.now) (colours other second.now) table.old }
+    ensures { ((told result, table.new) ≡ comparison (colours one first.now) (colours other second.now) table.old) × Exact result }
 {
     let n = judge(one, first).map_err(CompareError::First)?;
     let m = judge(other, second).map_err(CompareError::Second)?;

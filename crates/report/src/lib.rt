@@ -34,12 +34,20 @@ pub struct Report {
     pub totals: [u32; 31],
 }
 
-/// What a file was found to be, and the report with it; where a total would pass the bound, a fault:
-/// the caller's report then stands.
+/// What a file was found to be, and the report with it; where a total would pass the bound, a fault,
+/// and the report as it was.
 #[derive(Clone, Copy)]
 pub struct Added {
     pub file: Result<(), Refusal>,
-    pub report: Result<Report, Fault>,
+    pub answer: Result<(), Fault>,
+    pub report: Report,
+}
+
+/// The sum; where a total would pass the bound, a fault and the first report.
+#[derive(Clone, Copy)]
+pub struct Merged {
+    pub answer: Result<(), Fault>,
+    pub report: Report,
 }
 
 // What one file was found to be, and its totals.
@@ -177,10 +185,9 @@ fn count_records(space: u16, file: &[u8], first: usize, n: usize, totals: &mut [
 {
     let mut p = first;
     for _i in 0..n {
-        let step = acb_read::step_at(file, p, space);
-        let given = acb_read::given(step.swatch);
-        tally_record(totals, space, given.name.units);
-        p = step.next;
+        let (units, next) = acb_read::units_at(file, p, space);
+        tally_record(totals, space, units);
+        p = next;
     }
 }
 
@@ -297,32 +304,39 @@ fn add_all(totals: &mut [u32], more: &[u32])
     }
 }
 
-fn sum_of(first: [u32; 31], second: [u32; 31]) -> Result<Report, Fault>
-    ensures { told_merged first result ≡ merged first second }
+fn sum_of(first: [u32; 31], second: [u32; 31]) -> Merged
+    ensures { told_merged result ≡ merged first second }
 {
     if !all_fit(&first, &second) {
-        return Err(Fault::OutOfRange);
+        return Merged {
+            answer: Err(Fault::OutOfRange),
+            report: Report { totals: first },
+        };
     }
     let mut totals = first;
     add_all(&mut totals, &second);
-    Ok(Report { totals })
-}
-
-/// Adds a file's report. Where a total would pass the bound, there is none, and the caller's report
-/// stands.
-pub fn add(report: Report, kind: Kind, file: &[u8]) -> Added
-    ensures { told_added report.totals result ≡ added report.totals (file_report kind file.now) }
-{
-    let found = file_totals(kind, file);
-    Added {
-        file: found.file,
-        report: sum_of(report.totals, found.totals),
+    Merged {
+        answer: Ok(()),
+        report: Report { totals },
     }
 }
 
-/// The sum of two reports; where a total would pass the bound, there is none.
-pub fn merge(first: Report, second: Report) -> Result<Report, Fault>
-    ensures { told_merged first.totals result ≡ merged first.totals second.totals }
+/// Adds a file's report. Where a total would pass the bound, the report is handed back as it was.
+pub fn add(report: Report, kind: Kind, file: &[u8]) -> Added
+    ensures { told_added result ≡ added report.totals (file_report kind file.now) }
+{
+    let found = file_totals(kind, file);
+    let Merged { answer, report } = sum_of(report.totals, found.totals);
+    Added {
+        file: found.file,
+        answer,
+        report,
+    }
+}
+
+/// The sum of two reports; where a total would pass the bound, the first is handed back.
+pub fn merge(first: Report, second: Report) -> Merged
+    ensures { told_merged result ≡ merged first.totals second.totals }
 {
     sum_of(first.totals, second.totals)
 }

@@ -71,7 +71,7 @@ fn put_section(out: &mut [u8], section: &[u8], first: usize) -> usize
     ensures { (out.new, result) ≡ put_all (out.old, 0) (Listing·section first (resources section.now)) }
 {
     match resource_judge::judge(section) {
-        Err(Refusal(fault, place)) => put_refusal(out, Refusal(fault, first + place)),
+        Err(refused) => put_refusal(out, refused.0.number(), first + refused.1),
         Ok(blocks) => {
             let mut at = put_text(out, 0, b"8BIM");
             at = put_word(out, at, blocks as u64);
@@ -125,7 +125,7 @@ fn put_listing(out: &mut [u8], file: &[u8]) -> usize
     ensures { (out.new, result) ≡ put_all (out.old, 0) (listing file.now) }
 {
     match section_of(file) {
-        Err(refusal) => put_refusal(out, refusal),
+        Err(refused) => put_refusal(out, refused.0.number(), refused.1),
         Ok(Section { first, size }) => {
             let end = first + size;
             put_section(out, &file[first..end], first)

@@ -2,8 +2,8 @@ use Rattle.std.proofs.Common.{ℕ, ◌≡◌, ◌∙◌, ◌*◌, ◌+◌, ◌-�
 use lib.ListN.{drop}
 use Rattle.acb_order.specs.Index.{shown_from}
 use Rattle.acb_order.specs.Places.{units_at}
-use Rattle.acb_order.specs.scaffold.Places.{record_place, next_record, names_in}
-use Rattle.acb_order.proofs.Files.{place-first, place-next, known, short, shown-turn, shown-end}
+use Rattle.acb_order.specs.scaffold.Places.{record_place, names_in}
+use Rattle.acb_order.proofs.Files.{passed, place-first, known, shown-turn, shown-end}
 use Rattle.acb_find.proofs.Checking.{Marking, picked, unpicked, marking-put, marking-skip, marked_all}
 use Rattle.acb_find.proofs.survey.Goals.{then-due-eq0, else-due-eq0, then-units-ne0, else-units-ne0}
 use Rattle.acb_find.proofs.survey.Goals as goal
@@ -20,14 +20,6 @@ overflow_cast-marks c =
     let k = known b.file.now r.bytes b.count b.first b.components r.opened c.loop-i._i c.loop-i-test.true in
     omega (arith, c.loop-i.invariant.0, k.place)
 
-pub pass-units-requires : goal.pass-units-requires
-pass-units-requires c =
-    let b = c.args.book.now in
-    let r = c.requires.0 in
-    let l = c.loop-i in
-    let k = known b.file.now r.bytes b.count b.first b.components r.opened l._i c.loop-i-test.true in
-    rw l.invariant.0 (omega (arith, k.inside, short b.file.now r.bytes b.count b.first b.components r.opened))
-
 pub loop-i-preserved : goal.loop-i-preserved
 loop-i-preserved c =
     let b = c.args.book.now in
@@ -39,7 +31,7 @@ loop-i-preserved c =
     let e = c.pass-units.ensures in
     let w = shown-turn s r.bytes b.count b.first b.components r.opened l._i h in
     let u : c.pass-units.result.0 ≡ units_at s (record_place b.components s b.first l._i) = e.0 ∙ ap (units_at s) i.0 in
-    let next = e.1 ∙ ap (next_record b.components s) i.0 ∙ sym (place-next b.components s b.first l._i) in
+    let next = passed s r.bytes b.count b.first b.components r.opened l._i h i.0 e.1 in
     let marks : Marking s b.components b.first c.args.d (l._i + 1) c.if-due-eq0.j (c.if-due-eq0.due - 1) c.if-due-eq0.marks = elim c.if-due-eq0.branch [
       | then-due-eq0 t ↦ rw (t.marks-is, t.j-is, t.due-is) (marking-put s b.components b.first b.count c.args.d l._i l.j l.due l.at l.marks c.requires.1 h i.3 t.if-due-eq0.true i.0)
       | else-due-eq0 t ↦ rw (t.marks-is, t.j-is, t.due-is) (marking-skip s b.components b.first b.count c.args.d l._i l.j l.due l.at l.marks c.requires.1 h i.3 t.if-due-eq0.false)

@@ -2,8 +2,8 @@ use Rattle.std.proofs.Common.{ℕ, ◌≡◌, ◌∙◌, ◌+◌, ◌*◌, ◌%�
 use lib.ListN.{drop}
 use Rattle.acb_order.specs.Index.{shown_from}
 use Rattle.acb_order.specs.Places.{units_at}
-use Rattle.acb_order.specs.scaffold.Places.{record_place, next_record, names_in}
-use Rattle.acb_order.proofs.Files.{place-first, place-next, known, short, shown-turn, shown-end}
+use Rattle.acb_order.specs.scaffold.Places.{record_place, names_in}
+use Rattle.acb_order.proofs.Files.{passed, place-first, known, shown-turn, shown-end}
 use Rattle.acb_index.specs.scaffold.Drawn.{key_at, Drawing}
 use Rattle.acb_index.proofs.Building.{picked, unpicked, drawing-skip, drawing-put}
 use Rattle.acb_index.proofs.draw.Goals.{then-units-ne0, else-units-ne0}
@@ -11,14 +11,6 @@ use Rattle.acb_index.proofs.draw.Goals as goal
 
 pub loop-i-init : goal.loop-i-init
 loop-i-init c = (sym (place-first _ _ _), refl, omega arith, record { keys = λ j h. absurd (omega arith); shown = λ j h. absurd (omega arith); rising = λ j h a e. absurd (omega arith) })
-
-pub pass-units-requires : goal.pass-units-requires
-pass-units-requires c =
-    let b = c.args.book.now in
-    let r = c.requires.0 in
-    let l = c.loop-i in
-    let k = known b.file.now r.bytes b.count b.first b.components r.opened l.i c.loop-i-test.true in
-    rw l.invariant.0 (omega (arith, k.inside, short b.file.now r.bytes b.count b.first b.components r.opened))
 
 pub overflow_mul-run : goal.overflow_mul-run
 overflow_mul-run c =
@@ -62,7 +54,7 @@ loop-i-preserved c =
     let e = c.pass-units.ensures in
     let w = shown-turn s r.bytes b.count b.first b.components r.opened l.i c.loop-i-test.true in
     let u : c.pass-units.result.0 ≡ units_at s (record_place b.components s b.first l.i) = e.0 ∙ ap (units_at s) i.0 in
-    let next = e.1 ∙ ap (next_record b.components s) i.0 ∙ sym (place-next b.components s b.first l.i) in
+    let next = passed s r.bytes b.count b.first b.components r.opened l.i c.loop-i-test.true i.0 e.1 in
     let key : 256 * l.at + l.i % 256 ≡ key_at b.components s b.first l.i = omega (arith, i.0) in
     let long = c.if-units-ne0.auto.run ∙ i.1 in
     elim c.if-units-ne0.branch [

@@ -1,7 +1,6 @@
 use Rattle.std.proofs.Common.{ℕ, ◌≡◌, ◌∙◌, ◌/◌, sym, ap, subst, arith}
 use lib.ListN.{length-set}
-use Rattle.acb_order.specs.scaffold.Places.{next_record}
-use Rattle.acb_order.proofs.Files.{place-first, place-next, known, short, count_most}
+use Rattle.acb_order.proofs.Files.{passed, place-first, known, count_most}
 use Rattle.acb_index.specs.scaffold.Drawn.{Tabled}
 use Rattle.acb_index.proofs.Building.{tabled-turn}
 use Rattle.acb_index.proofs.tabulate.Goals as goal
@@ -23,14 +22,6 @@ bounds-table-at c =
     let k = known b.file.now r.bytes b.count b.first b.components r.opened l.i c.loop-i-test.true in
     omega (arith, l.invariant.0, k.place)
 
-pub pass-next-requires : goal.pass-next-requires
-pass-next-requires c =
-    let b = c.args.book.now in
-    let r = c.requires.0 in
-    let l = c.loop-i in
-    let k = known b.file.now r.bytes b.count b.first b.components r.opened l.i c.loop-i-test.true in
-    rw l.invariant.0 (omega (arith, k.inside, short b.file.now r.bytes b.count b.first b.components r.opened))
-
 pub loop-i-preserved : goal.loop-i-preserved
 loop-i-preserved c =
     let b = c.args.book.now in
@@ -38,7 +29,7 @@ loop-i-preserved c =
     let r = c.requires.0 in
     let l = c.loop-i in
     let i = l.invariant in (
-      c.pass-next.ensures.1 ∙ ap (next_record b.components s) i.0 ∙ sym (place-next b.components s b.first l.i),
+      passed s r.bytes b.count b.first b.components r.opened l.i c.loop-i-test.true i.0 c.pass-next.ensures.1,
       tabled-turn s r.bytes b.count b.first b.components r.opened l.i l.at l.table c.loop-i-test.true i.2 i.0 i.1,
       length-set l.table (l.at / 2048) l.i ∙ i.2,
     )

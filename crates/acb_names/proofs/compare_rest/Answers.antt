@@ -6,13 +6,13 @@ pub returns-then-u-v : goal.returns-then-u-v
 returns-then-u-v c =
     let a = c.args in
     let l = c.loop-k in
-    unit-decides a.file.now a.a.first a.a.count a.b.first a.b.count l.k (omega arith) (omega arith) _ _ c.load-u.ensures c.load-v.ensures c.if-u-v.true _ c.cmp.ensures ∙ sym l.invariant.1
+    unit-decides a.file.now a.a.first a.a.count a.b.first a.b.count l.k (omega arith) (omega arith) _ _ c.unit_at-u.ensures c.unit_at-v.ensures c.if-u-v.true _ c.cmp.ensures ∙ sym l.invariant.1
 
 pub loop-k-preserved : goal.loop-k-preserved
 loop-k-preserved c =
     let a = c.args in
     let l = c.loop-k in
-    (omega arith, l.invariant.1 ∙ left-same a.file.now a.a.first a.a.count a.b.first a.b.count l.k (omega arith) (omega arith) (omega (arith, c.load-u.ensures, c.load-v.ensures)))
+    (omega arith, l.invariant.1 ∙ left-same a.file.now a.a.first a.a.count a.b.first a.b.count l.k (omega arith) (omega arith) (omega (arith, c.unit_at-u.ensures, c.unit_at-v.ensures)))
 
 pub returns : goal.returns
 returns c =

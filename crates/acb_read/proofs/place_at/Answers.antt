@@ -1,7 +1,6 @@
 use Prim.Native.Nat.{ℕ, ◌+◌, ◌-◌}
 use mathlib.Core.Path.{sym, ap, ◌∙◌}
 use native.Mathlib.Omega.{arith}
-use Rattle.acb_read.specs.Answer.{RecordPlaces}
 use Rattle.acb_read.specs.Walked.{passed}
 use Rattle.acb_read.proofs.Walking.{passed_start, passed-turn, passed-end}
 use Rattle.acb_read.proofs.place_at.Goals as goal
@@ -14,7 +13,7 @@ loop-k-preserved c =
     let l = c.loop-k in
     let a = c.args in
     let t = c.loop-k-test.true in
-    let n = ap (λ (w : RecordPlaces × ℕ). w.1) c.step_at-p.ensures in
+    let n = c.units_at-p.ensures.next in
     (omega arith, l.invariant.1 ∙ passed-turn a.space a.file.now l.p a.i l._k t ∙ ap (λ (q : ℕ). passed a.space a.file.now q (a.i - (l._k + 1))) (sym n))
 
 pub returns : goal.returns

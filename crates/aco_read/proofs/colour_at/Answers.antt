@@ -1,20 +1,13 @@
-use Prim.Native.Nat.{◌+◌, ◌-◌}
-use mathlib.Core.Path.{ap, ◌∙◌}
-use native.Mathlib.Omega.{arith}
-use native.Mathlib.Nat.{add-zero}
-use Rattle.algebra.specs.Numbers.{num}
-use Rattle.algebra.proofs.Places.{load_part}
-use Rattle.aco_read.proofs.Filling.{five}
+use mathlib.Core.Path.{sym, ◌∙◌}
+use borrow.Author.Tests.{leb-true}
+use Rattle.aco_read.proofs.Filling.{colour_there, zero_there}
 use Rattle.aco_read.proofs.colour_at.Goals as goal
 
+pub returns-then-not-is_there : goal.returns-then-not-is_there
+returns-then-not-is_there c = zero_there c.args.file.now c.args.at (sym c.is_there.ensures ∙ c.if-not-is_there.true)
+
+pub colour_in-requires : goal.colour_in-requires
+colour_in-requires c = leb-true _ _ (sym c.is_there.ensures ∙ c.if-not-is_there.false)
+
 pub returns : goal.returns
-returns c =
-    let a = c.args in
-    let s = a.file.now in
-    let k = a.at + 10 - a.at in
-    five s a.at _ _ _ _ _
-    (load_part 2 s a.at k 0 _ (omega arith) (omega arith) c.number_or_zero-space.ensures ∙ ap (num 2 s) (add-zero a.at))
-    (load_part 2 s a.at k 2 _ (omega arith) (omega arith) c.number_or_zero-a.ensures)
-    (load_part 2 s a.at k 4 _ (omega arith) (omega arith) c.number_or_zero-b.ensures)
-    (load_part 2 s a.at k 6 _ (omega arith) (omega arith) c.number_or_zero-c.ensures)
-    (load_part 2 s a.at k 8 _ (omega arith) (omega arith) c.number_or_zero-d.ensures)
+returns c = c.colour_in.ensures ∙ colour_there c.args.file.now c.args.at (leb-true _ _ (sym c.is_there.ensures ∙ c.if-not-is_there.false))

@@ -23,8 +23,8 @@ loop-i-init c = (omega arith, refl, refl, sym (entry_first _ _))
 pub overflow_add-p-in-loop-i : goal.overflow_add-p-in-loop-i
 overflow_add-p-in-loop-i c = omega (arith, counted-in c.args.file.now c.args.n 2 c.requires.0 refl c.loop-i.i c.loop-i-test.true c.loop-i.p c.loop-i.invariant.3)
 
-pub colour_at-colour-requires : goal.colour_at-colour-requires
-colour_at-colour-requires c =
+pub colour_in-colour-requires : goal.colour_in-colour-requires
+colour_in-colour-requires c =
     named-colour c.args.file.now c.args.n 2 c.requires.0 refl c.loop-i.i c.loop-i-test.true
 
 pub overflow_add-p-in-loop-i-2 : goal.overflow_add-p-in-loop-i-2
@@ -53,7 +53,7 @@ loop-i-preserved c =
     let l = c.loop-i in
     let s = c.args.file.now in
     let k = counted c.args.file.now c.args.n 2 c.requires.0 refl c.loop-i.i c.loop-i-test.true c.loop-i.p c.loop-i.invariant.3 _ c.number_or_zero-count.ensures in
-    let e = c.put_row.ensures ∙ ap (λ (x : Colour). sets l.table (width * l.i) (numbers (named_with x (l.p + 14) (c.number_or_zero-count.result - 1)))) c.colour_at-colour.ensures in (
+    let e = c.put_row.ensures ∙ ap (λ (x : Colour). sets l.table (width * l.i) (numbers (named_with x (l.p + 14) (c.number_or_zero-count.result - 1)))) c.colour_in-colour.ensures in (
       omega arith,
       fill-turn width row (records_of (aco s)) _ l.table l.i l.invariant.1 (unnamed zero_colour) (omega (arith, length-records s c.args.n 2 c.requires.0)) _ _ (ap numbers k.is) (row-wide s (4 + 10 * l.i) _ _) e,
       c.put_row.auto.table ∙ l.invariant.2,

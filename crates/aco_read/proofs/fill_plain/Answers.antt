@@ -14,8 +14,8 @@ use Rattle.aco_read.proofs.fill_plain.Goals as goal
 pub loop-i-init : goal.loop-i-init
 loop-i-init c = (omega arith, refl, refl)
 
-pub colour_at-requires : goal.colour_at-requires
-colour_at-requires c =
+pub colour_in-requires : goal.colour_in-requires
+colour_in-requires c =
     plain_in c.args.file.now c.args.n 1 c.requires.0 refl c.loop-i.i c.loop-i-test.true
 
 pub loop-i-preserved : goal.loop-i-preserved
@@ -23,7 +23,7 @@ loop-i-preserved c =
     let l = c.loop-i in
     let a = c.args in
     let s = a.file.now in
-    let e = c.put_row.ensures ∙ ap (λ (k : Colour). sets l.table (width * l.i) (numbers (named_with k 0 0))) c.colour_at.ensures in (
+    let e = c.put_row.ensures ∙ ap (λ (k : Colour). sets l.table (width * l.i) (numbers (named_with k 0 0))) c.colour_in.ensures in (
       omega arith,
       fill-turn width row (records_of (aco s)) _ l.table l.i l.invariant.1 (unnamed zero_colour) (omega (arith, length-records s a.n 1 c.requires.0)) _ _
           (ap numbers (plain-is s a.n 1 c.requires.0 refl l.i c.loop-i-test.true)) (row-wide s (4 + 10 * l.i) 0 0) e,

@@ -16,14 +16,14 @@ overflow_mul-i c = let few = count_small c.args.file.now _ _ c.requires.0 in ome
 pub overflow_add-i : goal.overflow_add-i
 overflow_add-i c = let few = count_small c.args.file.now _ _ c.requires.0 in omega (arith, c.requires.1)
 
-pub colour_at-colour-requires : goal.colour_at-colour-requires
-colour_at-colour-requires c = colour-in c.args.file.now _ _ c.requires.0 c.args.i c.requires.1
+pub colour_in-colour-requires : goal.colour_in-colour-requires
+colour_in-colour-requires c = colour-in c.args.file.now _ _ c.requires.0 c.args.i c.requires.1
 
 pub returns-then-counts-eq1 : goal.returns-then-counts-eq1
 returns-then-counts-eq1 c =
     let s = c.args.file.now in
     let i = c.args.i in
-    ap (λ (b : Colour). (b, accepted (0, 0), 4)) c.colour_at-colour.ensures ∙ found-is s _ _ c.requires.0 i c.requires.1 _ (plain-is s _ _ c.requires.0 c.if-counts-eq1.true i c.requires.1)
+    ap (λ (b : Colour). (b, accepted (0, 0), 4)) c.colour_in-colour.ensures ∙ found-is s _ _ c.requires.0 i c.requires.1 _ (plain-is s _ _ c.requires.0 c.if-counts-eq1.true i c.requires.1)
 
 pub entry_place-p-requires : goal.entry_place-p-requires
 entry_place-p-requires c =
@@ -44,5 +44,5 @@ overflow_sub-name c = omega (arith, counted c.args.file.now _ _ c.requires.0 (no
 
 pub returns : goal.returns
 returns c =
-    ap (λ (b : Colour). (b, accepted (c.entry_place-p.result + 14, c.number_or_zero-count.result - 1), 4)) c.colour_at-colour.ensures
+    ap (λ (b : Colour). (b, accepted (c.entry_place-p.result + 14, c.number_or_zero-count.result - 1), 4)) c.colour_in-colour.ensures
     ∙ found-is c.args.file.now _ _ c.requires.0 c.args.i c.requires.1 _ (counted c.args.file.now _ _ c.requires.0 (not-one c.args.file.now _ _ c.requires.0 c.if-counts-eq1.false) c.args.i c.requires.1 _ c.entry_place-p.ensures _ c.number_or_zero-count.ensures).is

@@ -1,5 +1,6 @@
 use mathlib.Core.Path.{sym, ◌∙◌}
 use native.Mathlib.Omega.{arith}
+use Rattle.aco_read.proofs.Filling.{colour_there}
 use Rattle.aco_walk.proofs.Stepping.{tested-short, tested-unsound, tested-sound}
 use Rattle.aco_walk.proofs.colour_at.Goals as goal
 
@@ -12,9 +13,9 @@ returns-then-n-at c = tested-short c.args.file.now c.args.at (λ h. omega (arith
 pub returns-then-not-is_sound : goal.returns-then-not-is_sound
 returns-then-not-is_sound c =
     let a = c.args in
-    tested-unsound a.file.now a.at _ (omega arith) c.colour_at-found.ensures (sym c.is_sound.ensures ∙ c.if-not-is_sound.true)
+    tested-unsound a.file.now a.at _ (omega arith) (c.colour_at-found.ensures ∙ sym (colour_there a.file.now a.at (omega arith))) (sym c.is_sound.ensures ∙ c.if-not-is_sound.true)
 
 pub returns : goal.returns
 returns c =
     let a = c.args in
-    tested-sound a.file.now a.at _ (omega arith) c.colour_at-found.ensures (sym c.is_sound.ensures ∙ c.if-not-is_sound.false)
+    tested-sound a.file.now a.at _ (omega arith) (c.colour_at-found.ensures ∙ sym (colour_there a.file.now a.at (omega arith))) (sym c.is_sound.ensures ∙ c.if-not-is_sound.false)

@@ -6,8 +6,9 @@ use native.Mathlib.Omega.{arith}
 use native.Mathlib.Nat.{add-zero}
 use Rattle.algebra.specs.Numbers.{joined}
 use Rattle.algebra.specs.Table.{rows}
+use Rattle.algebra.proofs.Table.{whole_in}
 use Rattle.aco.specs.Grammar.{colour_bytes}
-use Rattle.aco.specs.Row.{width, taken}
+use Rattle.aco.specs.Row.{width, taken, empty_record}
 use Rattle.aco.proofs.Whole.{length-colour}
 use Rattle.aco_writing.specs.Writing.{swatch_in}
 use Rattle.aco_write_judge.specs.scaffold.Parts.{colour_in, plain}
@@ -27,7 +28,7 @@ loop-i-preserved c =
     let a = c.args in
     let g = given_at a.run.now l.i in
     let p = a.at + 10 * l.i in
-    let k = c.colour_of.ensures ∙ ap colour_in c.record_at.ensures in
+    let k = c.colour_of.ensures ∙ ap colour_in (c.record_at.ensures ∙ whole_in width taken a.run.now empty_record l.i (omega (arith, c.requires.1, c.loop-i-test.true))) in
     let e = c.put_colour.ensures ∙ ap (λ k. sets l.out p (colour_bytes (plain k))) k ∙ ap (sets l.out p) (colour-bytes [] g) in
     let q : p + 10 ≡ a.at + 10 * (l.i + 1) = omega arith in (
       omega arith,

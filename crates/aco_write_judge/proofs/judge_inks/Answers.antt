@@ -12,13 +12,13 @@ pub returns-in_err-judge_ink : goal.returns-in_err-judge_ink
 returns-in_err-judge_ink c =
     let l = c.loop-i in
     let a = c.args in
-    turn-exit _ _ c.from_residual.ensures.1 ink_fault (given_at a.run.now) _ a.n l.i l.invariant.1 c.loop-i-test.true (c.in_err-judge_ink.ensures ∙ ap ink_fault c.record_at.ensures)
+    turn-exit _ _ c.from_residual.ensures.1 ink_fault (given_at a.run.now) _ a.n l.i l.invariant.1 c.loop-i-test.true (c.in_err-judge_ink.ensures ∙ ap ink_fault c.whole_at.ensures)
 
 pub loop-i-preserved : goal.loop-i-preserved
 loop-i-preserved c =
     let l = c.loop-i in
     let a = c.args in
-    let e = c.in_ok-judge_ink.ensures ∙ ap ink_fault c.record_at.ensures in
+    let e = c.in_ok-judge_ink.ensures ∙ ap ink_fault c.whole_at.ensures in
     (omega arith, faults-more ink_fault (given_at a.run.now) _ a.n l.i l.invariant.1 c.loop-i-test.true 0 e refl)
 
 pub returns : goal.returns

@@ -12,13 +12,13 @@ pub returns-in_err-judge_name : goal.returns-in_err-judge_name
 returns-in_err-judge_name c =
     let l = c.loop-i in
     let a = c.args in
-    turn-exit _ _ c.from_residual.ensures.1 (name_fault a.text.now) (given_at a.run.now) _ a.n l.i l.invariant.1 c.loop-i-test.true (c.in_err-judge_name.ensures ∙ ap (name_fault a.text.now) c.record_at.ensures)
+    turn-exit _ _ c.from_residual.ensures.1 (name_fault a.text.now) (given_at a.run.now) _ a.n l.i l.invariant.1 c.loop-i-test.true (c.in_err-judge_name.ensures ∙ ap (name_fault a.text.now) c.whole_at.ensures)
 
 pub loop-i-preserved : goal.loop-i-preserved
 loop-i-preserved c =
     let l = c.loop-i in
     let a = c.args in
-    let e = c.in_ok-judge_name.ensures ∙ ap (name_fault a.text.now) c.record_at.ensures in
+    let e = c.in_ok-judge_name.ensures ∙ ap (name_fault a.text.now) c.whole_at.ensures in
     (omega arith, faults-more (name_fault a.text.now) (given_at a.run.now) _ a.n l.i l.invariant.1 c.loop-i-test.true 0 e refl)
 
 pub returns : goal.returns

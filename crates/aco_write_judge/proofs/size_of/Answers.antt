@@ -16,7 +16,7 @@ pub returns-then-total-gt-LIMIT : goal.returns-then-total-gt-LIMIT
 returns-then-total-gt-LIMIT c =
     let l = c.loop-i in
     let a = c.args in
-    let u = ap (λ (g : RecordRow). g.units) c.record_at-given.ensures in
+    let u = ap (λ (g : RecordRow). g.units) c.whole_at-given.ensures in
     let s = sizes-turn a.run.now a.n l.i c.loop-i-test.true in
     size-over (8 + sizes (rows width taken a.run.now a.n 0)) (omega (arith, u, s, l.invariant.2, c.if-total-gt-LIMIT.true))
 
@@ -24,7 +24,7 @@ pub loop-i-preserved : goal.loop-i-preserved
 loop-i-preserved c =
     let l = c.loop-i in
     let a = c.args in
-    let u = ap (λ (g : RecordRow). g.units) c.record_at-given.ensures in
+    let u = ap (λ (g : RecordRow). g.units) c.whole_at-given.ensures in
     let s = sizes-turn a.run.now a.n l.i c.loop-i-test.true in
     (omega arith, omega arith, omega (arith, u, s, l.invariant.2))
 

@@ -9,7 +9,7 @@ use Rattle.algebra.specs.Reader.{pick}
 use Rattle.ase.specs.Row.{RecordRow, colour_row, given_of, given_in}
 use Rattle.ase.specs.declared.RowNumbers.{RowNumbers}
 use Rattle.ase_read.specs.scaffold.Raw.{load, count_at}
-use Rattle.ase_read.proofs.Filling.{numbers-loaded}
+use Rattle.ase_read.proofs.Filling.{numbers-loaded, placed}
 use Rattle.ase_read.proofs.Answers.{is-group, is-close, is-colour, is_made, colour-is, ink-is}
 use Rattle.walk.specs.Walk.{gives}
 use Rattle.ase_walk.specs.scaffold.Walking.{Stands}
@@ -41,7 +41,7 @@ pub unwrap-requires : goal.unwrap-requires
 unwrap-requires c =
     let a = c.args in
     let s = a.file.now in
-    let l = given s a.at a.end c.requires.2 _ _ _ _ _ _ _ _ _ _ c.number_or_zero-kind.ensures c.number_or_zero-count.ensures c.name_place-place.ensures.0 c.saturating_sub-units.ensures
+    let l = given s a.at a.end c.requires.2 _ _ _ _ _ _ _ _ _ _ c.number_or_zero-kind.ensures c.number_or_zero-count.ensures (placed a.at _ _ (omega (arith, c.requires.0, c.requires.1)) c.name_place-place.ensures.0) c.saturating_sub-units.ensures
     c.number_or_zero-tag.ensures c.number_or_zero-a.ensures c.number_or_zero-b.ensures c.number_or_zero-c.ensures c.number_or_zero-d.ensures c.number_or_zero-last.ensures in
     let h = is-colour _ (stands-sound s a.at a.end c.requires.2) _ l (λ e. omega arith) (λ e. omega arith) in
     is_made _ _ _ _ _ h.is _ c.from_tag.ensures
@@ -50,7 +50,7 @@ pub returns-in-49153 : goal.returns-in-49153
 returns-in-49153 c =
     let a = c.args in
     let s = a.file.now in
-    let l = given s a.at a.end c.requires.2 _ _ _ _ _ _ _ _ _ _ c.number_or_zero-kind.ensures c.number_or_zero-count.ensures c.name_place-place.ensures.0 c.saturating_sub-units.ensures
+    let l = given s a.at a.end c.requires.2 _ _ _ _ _ _ _ _ _ _ c.number_or_zero-kind.ensures c.number_or_zero-count.ensures (placed a.at _ _ (omega (arith, c.requires.0, c.requires.1)) c.name_place-place.ensures.0) c.saturating_sub-units.ensures
     c.number_or_zero-tag.ensures c.number_or_zero-a.ensures c.number_or_zero-b.ensures c.number_or_zero-c.ensures c.number_or_zero-d.ensures c.number_or_zero-last.ensures in
     stands-shown s a.at a.end c.requires.2 _ (ap (λ (v : RecordRow). gives v) (is-group _ _ l c.in-49153.is))
 
@@ -58,7 +58,7 @@ pub returns-in-49154 : goal.returns-in-49154
 returns-in-49154 c =
     let a = c.args in
     let s = a.file.now in
-    let l = given s a.at a.end c.requires.2 _ _ _ _ _ _ _ _ _ _ c.number_or_zero-kind.ensures c.number_or_zero-count.ensures c.name_place-place.ensures.0 c.saturating_sub-units.ensures
+    let l = given s a.at a.end c.requires.2 _ _ _ _ _ _ _ _ _ _ c.number_or_zero-kind.ensures c.number_or_zero-count.ensures (placed a.at _ _ (omega (arith, c.requires.0, c.requires.1)) c.name_place-place.ensures.0) c.saturating_sub-units.ensures
     c.number_or_zero-tag.ensures c.number_or_zero-a.ensures c.number_or_zero-b.ensures c.number_or_zero-c.ensures c.number_or_zero-d.ensures c.number_or_zero-last.ensures in
     stands-shown s a.at a.end c.requires.2 _ (ap (λ (v : RecordRow). gives v) (is-close _ _ l c.in-49154.is))
 
@@ -66,7 +66,7 @@ pub returns-in_default : goal.returns-in_default
 returns-in_default c =
     let a = c.args in
     let s = a.file.now in
-    let l = given s a.at a.end c.requires.2 _ _ _ _ _ _ _ _ _ _ c.number_or_zero-kind.ensures c.number_or_zero-count.ensures c.name_place-place.ensures.0 c.saturating_sub-units.ensures
+    let l = given s a.at a.end c.requires.2 _ _ _ _ _ _ _ _ _ _ c.number_or_zero-kind.ensures c.number_or_zero-count.ensures (placed a.at _ _ (omega (arith, c.requires.0, c.requires.1)) c.name_place-place.ensures.0) c.saturating_sub-units.ensures
     c.number_or_zero-tag.ensures c.number_or_zero-a.ensures c.number_or_zero-b.ensures c.number_or_zero-c.ensures c.number_or_zero-d.ensures c.number_or_zero-last.ensures in
     let h = is-colour _ (stands-sound s a.at a.end c.requires.2) _ l (λ e. omega arith) (λ e. omega arith) in
     stands-shown s a.at a.end c.requires.2 _

@@ -32,8 +32,8 @@ item-returns-in_default t c =
     let a = c.args in
     item-unknown a.first a.file.now a.at a.left c.if-left-eq0.false c.in_ok-kind.ensures (begun-none c.in_ok-sort.ensures c.in_default.is)
 
-pub item-list-requires : goal.item-list-requires
-item-list-requires t c =
+pub item-unkeyed-requires : goal.item-unkeyed-requires
+item-unkeyed-requires t c =
     let a = c.args in
     let h = field_next 4 a.file.now a.at _ _ c.in_ok-kind.ensures in
     let p = c.requires in
@@ -46,20 +46,20 @@ item-object-requires t c =
     let p = c.requires in
     omega (arith, c.decreases, c.if-left-eq0.false, p.size, p.levels, p.inside)
 
-pub item-held-requires : goal.item-held-requires
-item-held-requires t c =
+pub item-referred-requires : goal.item-referred-requires
+item-referred-requires t c =
     let a = c.args in
     under c.requires c.if-left-eq0.false c.in_ok-kind.ensures
 
-pub item-held-requires-in-Array : goal.item-held-requires-in-Array
-item-held-requires-in-Array t c =
+pub item-columns-requires : goal.item-columns-requires
+item-columns-requires t c =
     let a = c.args in
     under c.requires c.if-left-eq0.false c.in_ok-kind.ensures
 
 pub item-with_own-requires : goal.item-with_own-requires
 item-with_own-requires t c =
     let a = c.args in
-    holder-small (under c.requires c.if-left-eq0.false c.in_ok-kind.ensures) false c.list.ensures
+    holder-small (under c.requires c.if-left-eq0.false c.in_ok-kind.ensures) false c.unkeyed.ensures
 
 pub item-with_own-requires-in-Object : goal.item-with_own-requires-in-Object
 item-with_own-requires-in-Object t c =
@@ -69,12 +69,12 @@ item-with_own-requires-in-Object t c =
 pub item-with_own-requires-in-Reference : goal.item-with_own-requires-in-Reference
 item-with_own-requires-in-Reference t c =
     let a = c.args in
-    held_small (under c.requires c.if-left-eq0.false c.in_ok-kind.ensures) false c.held.ensures
+    held_small (under c.requires c.if-left-eq0.false c.in_ok-kind.ensures) false c.referred.ensures
 
 pub item-with_own-requires-in-Array : goal.item-with_own-requires-in-Array
 item-with_own-requires-in-Array t c =
     let a = c.args in
-    held_small (under c.requires c.if-left-eq0.false c.in_ok-kind.ensures) true c.held-in-Array.ensures
+    held_small (under c.requires c.if-left-eq0.false c.in_ok-kind.ensures) true c.columns.ensures
 
 pub item-returns-in-Ends : goal.item-returns-in-Ends
 item-returns-in-Ends t c =
@@ -84,7 +84,7 @@ item-returns-in-Ends t c =
 pub item-returns-in-List : goal.item-returns-in-List
 item-returns-in-List t c =
     let a = c.args in
-    c.with_own.ensures ∙ item-holds a.first a.file.now a.at a.left c.if-left-eq0.false c.in_ok-kind.ensures list_sort (S.begun-list a.file.now _ _ (begun-some c.in_ok-sort.ensures c.in-Some.is c.in-List.is)) c.list.ensures
+    c.with_own.ensures ∙ item-holds a.first a.file.now a.at a.left c.if-left-eq0.false c.in_ok-kind.ensures list_sort (S.begun-list a.file.now _ _ (begun-some c.in_ok-sort.ensures c.in-Some.is c.in-List.is)) c.unkeyed.ensures
 
 pub item-returns-in-Object : goal.item-returns-in-Object
 item-returns-in-Object t c =
@@ -94,12 +94,12 @@ item-returns-in-Object t c =
 pub item-returns-in-Reference : goal.item-returns-in-Reference
 item-returns-in-Reference t c =
     let a = c.args in
-    c.with_own-in-Reference.ensures ∙ item-holds a.first a.file.now a.at a.left c.if-left-eq0.false c.in_ok-kind.ensures reference_sort (S.begun-reference a.file.now _ _ (begun-some c.in_ok-sort.ensures c.in-Some.is c.in-Reference.is)) c.held.ensures
+    c.with_own-in-Reference.ensures ∙ item-holds a.first a.file.now a.at a.left c.if-left-eq0.false c.in_ok-kind.ensures reference_sort (S.begun-reference a.file.now _ _ (begun-some c.in_ok-sort.ensures c.in-Some.is c.in-Reference.is)) c.referred.ensures
 
 pub item-returns-in-Array : goal.item-returns-in-Array
 item-returns-in-Array t c =
     let a = c.args in
-    c.with_own-in-Array.ensures ∙ item-holds a.first a.file.now a.at a.left c.if-left-eq0.false c.in_ok-kind.ensures array_sort (S.begun-array a.file.now _ _ (begun-some c.in_ok-sort.ensures c.in-Some.is c.in-Array.is)) c.held-in-Array.ensures
+    c.with_own-in-Array.ensures ∙ item-holds a.first a.file.now a.at a.left c.if-left-eq0.false c.in_ok-kind.ensures array_sort (S.begun-array a.file.now _ _ (begun-some c.in_ok-sort.ensures c.in-Some.is c.in-Array.is)) c.columns.ensures
 
 pub list-returns-in_err-count : goal.list-returns-in_err-count
 list-returns-in_err-count t c =

@@ -9,6 +9,9 @@ decreases-item l = length l.file.now - l.at
 abbrev pub decreases-list : goal.decreases-list
 decreases-list l = length l.file.now - l.at
 
+abbrev pub decreases-unkeyed : goal.decreases-unkeyed
+decreases-unkeyed l = length l.file.now - l.at + 1
+
 abbrev pub decreases-object : goal.decreases-object
 decreases-object l = length l.file.now - l.at + 1
 

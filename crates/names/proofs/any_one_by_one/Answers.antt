@@ -1,6 +1,6 @@
-use Rattle.std.proofs.Common.{sym, ap, ◌∙◌, ℕ, ◌==◌, arith, eq-eqb, ne_eqb}
-use Rattle.algebra.proofs.Texts.{any-start, any_found, any-on, any-end}
-use Rattle.names.proofs.any_one_by_one.Goals.{then-load-eq0, else-load-eq0}
+use Rattle.std.proofs.Common.{sym, ◌∙◌, arith, eq-eqb, ne_eqb}
+use Rattle.algebra.proofs.Texts.{swapped-zero, any-start, any_found, any-on, any-end}
+use Rattle.names.proofs.any_one_by_one.Goals.{then-swapped-eq0, else-swapped-eq0}
 use Rattle.names.proofs.any_one_by_one.Goals as goal
 
 pub loop-i-init : goal.loop-i-init
@@ -10,11 +10,11 @@ pub loop-i-preserved : goal.loop-i-preserved
 loop-i-preserved c =
     let l = c.loop-i in
     let a = c.args in
-    let e = ap (λ (u : ℕ). u == 0) (sym c.load.ensures) in (
+    let e = sym (swapped-zero _ _ c.swapped.ensures) in (
       omega arith,
-      elim c.if-load-eq0.branch [
-        | then-load-eq0 w ↦ rw w.found-is (any_found a.s.now a.at a.n _ l.found l.i l.invariant.1 c.loop-i-test.true (e ∙ eq-eqb _ _ w.if-load-eq0.true))
-        | else-load-eq0 w ↦ rw w.found-is (any-on a.s.now a.at a.n _ l.found l.i l.invariant.1 c.loop-i-test.true (e ∙ ne_eqb _ _ w.if-load-eq0.false))
+      elim c.if-swapped-eq0.branch [
+        | then-swapped-eq0 w ↦ rw w.found-is (any_found a.s.now a.at a.n _ l.found l.i l.invariant.1 c.loop-i-test.true (e ∙ eq-eqb _ _ w.if-swapped-eq0.true))
+        | else-swapped-eq0 w ↦ rw w.found-is (any-on a.s.now a.at a.n _ l.found l.i l.invariant.1 c.loop-i-test.true (e ∙ ne_eqb _ _ w.if-swapped-eq0.false))
       ],
     )
 

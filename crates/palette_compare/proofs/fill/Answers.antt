@@ -12,7 +12,7 @@ fill_to-requires c =
 pub returns-then-m-n : goal.returns-then-m-n
 returns-then-m-n c =
     let a = c.args in
-    c.fill_to.ensures ∙ both-accepted a.one a.first.now a.other a.second.now a.table.now c.requires.0 c.requires.1
+    (c.fill_to.ensures.0 ∙ both-accepted a.one a.first.now a.other a.second.now a.table.now c.requires.0 c.requires.1, c.fill_to.ensures.1)
 
 pub fill_to-requires-2 : goal.fill_to-requires-2
 fill_to-requires-2 c =
@@ -22,4 +22,4 @@ fill_to-requires-2 c =
 pub returns : goal.returns
 returns c =
     let a = c.args in
-    c.fill_to-2.ensures ∙ both-accepted a.one a.first.now a.other a.second.now a.table.now c.requires.0 c.requires.1
+    (c.fill_to-2.ensures.0 ∙ both-accepted a.one a.first.now a.other a.second.now a.table.now c.requires.0 c.requires.1, c.fill_to-2.ensures.1)

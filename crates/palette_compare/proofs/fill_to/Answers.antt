@@ -7,7 +7,7 @@ use Rattle.palette_compare.proofs.fill_to.Goals as goal
 pub returns-then-table-longer : goal.returns-then-table-longer
 returns-then-table-longer c =
     let a = c.args in
-    filled-short (kinds_in a.one a.first.now a.other a.second.now) a.table.now a.longer c.requires.long (omega (arith, c.if-table-longer.true))
+    (filled-short (kinds_in a.one a.first.now a.other a.second.now) a.table.now a.longer c.requires.long (omega (arith, c.if-table-longer.true)), tt)
 
 pub overflow_add-result : goal.overflow_add-result
 overflow_add-result c =
@@ -17,4 +17,4 @@ overflow_add-result c =
 pub returns : goal.returns
 returns c =
     let a = c.args in
-    filled_is a.one a.first.now a.other a.second.now a.shorter a.longer (told_kind a.rest) a.table.now _ _ c.fill_both-both.result c.requires (omega (arith, c.if-table-longer.false)) c.fill_both-both.ensures c.fill_rest.ensures
+    (filled_is a.one a.first.now a.other a.second.now a.shorter a.longer (told_kind a.rest) a.table.now _ _ c.fill_both-both.result c.requires (omega (arith, c.if-table-longer.false)) c.fill_both-both.ensures c.fill_rest.ensures, tt)

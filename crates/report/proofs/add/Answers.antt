@@ -9,4 +9,4 @@ pub returns : goal.returns
 returns c =
     let a = c.args in
     let f = c.file_totals-found.result in
-    ap (λ (m : ℕ × List ℕ). (m.0, (told_file f.file).0, (told_file f.file).1, m.1)) c.sum_of.ensures ∙ ap (λ (r : FileReport). added a.report.totals r) c.file_totals-found.ensures
+    ap (λ (m : ℕ × List ℕ). (m.0, (told_file f.file).0, (told_file f.file).1, m.1)) c.sum_of-answer.ensures ∙ ap (λ (r : FileReport). added a.report.totals r) c.file_totals-found.ensures

@@ -1,8 +1,4 @@
-use Prim.Native.Nat.{ℕ}
-use mathlib.Core.Path.{sym, ap, ◌∙◌}
-use Rattle.acb_read.specs.Answer.{RecordPlaces}
-use Rattle.acb.specs.Row.{RecordRow}
-use Rattle.acb_read.specs.Walked.{given_in}
+use mathlib.Core.Path.{sym, ◌∙◌}
 use Rattle.report.proofs.Counting.{shelf-start, shelf-end, shelf-low, shelf-turn}
 use Rattle.report.proofs.count_records.Goals as goal
 
@@ -20,7 +16,7 @@ pub loop-i-preserved : goal.loop-i-preserved
 loop-i-preserved c =
     let a = c.args in
     shelf-turn a.space a.file.now a.n a.first a.totals.now c.loop-i.totals c.loop-i.p c.loop-i._i c.loop-i.invariant c.loop-i-test.true _ _ _
-    (ap (λ (g : RecordRow). g.name.1) c.given-given.ensures ∙ ap (λ (r : RecordPlaces × ℕ). (given_in r.0).name.1) c.step_at-step.ensures) (ap (λ (r : RecordPlaces × ℕ). r.1) c.step_at-step.ensures) c.tally_record.ensures
+    c.units_at-units.ensures.units c.units_at-units.ensures.next c.tally_record.ensures
 
 pub shape_of-totals : goal.shape_of-totals
 shape_of-totals c = c.loop-i.invariant.low.long ∙ sym c.requires.1.long

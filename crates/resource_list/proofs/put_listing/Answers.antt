@@ -1,6 +1,8 @@
+use Prim.Native.Nat.{ℕ}
 use borrow.Author.Rules.{rules}
 use mathlib.Core.Path.{ap, ◌∙◌}
 use Rattle.listing.specs.Buffer.{put_all}
+use Rattle.listing.specs.Text.{refusal}
 use Rattle.resource_list.proofs.Listed.{section-ends, input-refused, input-section}
 use Rattle.resource_list.proofs.put_listing.Goals as goal
 
@@ -22,7 +24,7 @@ put_section-requires c =
 pub returns-in-Err : goal.returns-in-Err
 returns-in-Err c =
     let a = c.args in
-    c.put_refusal.ensures ∙ ap (put_all (a.out.now, 0)) (input-refused a.file.now c.in-Err.ensures)
+    c.put_refusal.ensures ∙ ap (λ (k : ℕ). put_all (a.out.now, 0) (refusal k c.in-Err.refused.1)) c.number.ensures ∙ ap (put_all (a.out.now, 0)) (input-refused a.file.now c.in-Err.ensures)
 
 pub returns-in-Ok : goal.returns-in-Ok
 returns-in-Ok c =

@@ -1,7 +1,9 @@
+use Prim.Native.Nat.{ℕ, ◌+◌}
 use borrow.Author.Rules.{rules}
 use mathlib.Core.Path.{ap, ◌∙◌}
 use Rattle.resource_read.proofs.Answers.{accepted-of}
 use Rattle.listing.specs.Buffer.{put_all}
+use Rattle.listing.specs.Text.{refusal}
 use Rattle.listing.proofs.Putting.{put_both, put_last}
 use Rattle.resource_list.proofs.Listed.{refused-inside, section-refused, section-accepted}
 use Rattle.resource_list.proofs.put_section.Goals as goal
@@ -20,7 +22,7 @@ put_blocks-at-requires c =
 pub returns-in-Err : goal.returns-in-Err
 returns-in-Err c =
     let a = c.args in
-    c.put_refusal.ensures ∙ ap (put_all (a.out.now, 0)) (section-refused a.section.now a.first c.in-Err.ensures)
+    c.put_refusal.ensures ∙ ap (λ (k : ℕ). put_all (a.out.now, 0) (refusal k (a.first + c.in-Err.refused.1))) c.number.ensures ∙ ap (put_all (a.out.now, 0)) (section-refused a.section.now a.first c.in-Err.ensures)
 
 pub returns-in-Ok : goal.returns-in-Ok
 returns-in-Ok c =

@@ -1,5 +1,6 @@
-use mathlib.Core.Path.{sym}
+use mathlib.Core.Path.{sym, ap}
 use native.Mathlib.Omega.{arith}
+use Rattle.algebra.specs.Reader.{or_zero}
 use Rattle.algebra.proofs.Laws.{field_in, field-short}
 use Rattle.fields.proofs.number.number_at.Goals as goal
 
@@ -12,4 +13,5 @@ returns-then-n-width-2 g c = sym (field-short g.N.Number.WIDTH c.args.s.now c.ar
 pub returns : goal.returns
 returns g c =
     let a = c.args in
-    cc (field_in g.N.Number.WIDTH a.s.now a.at (omega (arith, c.WIDTH-width.ensures)), c.load.ensures, c.WIDTH-width.ensures)
+    let e = field_in g.N.Number.WIDTH a.s.now a.at (omega (arith, c.WIDTH-width.ensures)) in
+    cc (e, ap or_zero e, c.load.ensures, c.WIDTH-width.ensures)

@@ -16,4 +16,4 @@ returns-in-None-palette_kind c =
 pub returns-in-Some-palette_kind : goal.returns-in-Some-palette_kind
 returns-in-Some-palette_kind c =
     let a = c.args in
-    both-known (palette_kind a.first_kind) (palette_kind a.second_kind) a.first.now a.second.now a.table.now c.exported_comparison.ensures (sym c.palette_kind.ensures ∙ c.in-Some.is) (sym c.palette_kind-in-Some.ensures ∙ c.in-Some-palette_kind.is) c.compare.ensures
+    both-known (palette_kind a.first_kind) (palette_kind a.second_kind) a.first.now a.second.now a.table.now c.exported_comparison.ensures (sym c.palette_kind.ensures ∙ c.in-Some.is) (sym c.palette_kind-in-Some.ensures ∙ c.in-Some-palette_kind.is) c.compare.ensures.0

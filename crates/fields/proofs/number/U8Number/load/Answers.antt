@@ -1,6 +1,15 @@
-use mathlib.Core.Path.{sym}
+use mathlib.Core.Path.{sym, ◌∙◌}
+use native.Mathlib.Omega.{arith}
 use Rattle.algebra.proofs.Laws.{num-1}
+use Rattle.fields.proofs.Loads.{missing, there}
 use Rattle.fields.proofs.number.U8Number.load.Goals as goal
 
+pub returns-then-not-has_bytes : goal.returns-then-not-has_bytes
+returns-then-not-has_bytes c =
+    let a = c.args in
+    missing 1 a.s.now a.at (omega arith) (sym c.has_bytes.ensures ∙ c.if-not-has_bytes.true)
+
 pub returns : goal.returns
-returns c = sym (num-1 c.args.s.now c.args.at)
+returns c =
+    let a = c.args in
+    there 1 a.s.now a.at (sym c.has_bytes.ensures ∙ c.if-not-has_bytes.false) (sym (num-1 a.s.now a.at))

@@ -1,0 +1,14 @@
+use mathlib.Core.Path.{sym, ◌∙◌}
+use native.Mathlib.Omega.{arith}
+use Rattle.fields.proofs.Loads.{missing, there}
+use Rattle.fields.proofs.number.U16Number.load.Goals as goal
+
+pub returns-then-not-has_bytes : goal.returns-then-not-has_bytes
+returns-then-not-has_bytes c =
+    let a = c.args in
+    missing 2 a.s.now a.at (omega arith) (sym c.has_bytes.ensures ∙ c.if-not-has_bytes.true)
+
+pub returns : goal.returns
+returns c =
+    let a = c.args in
+    there 2 a.s.now a.at (sym c.has_bytes.ensures ∙ c.if-not-has_bytes.false) c.u16_in.ensures
